@@ -18,9 +18,10 @@ pub(crate) struct Log {
 
 /// What was timed, and two times with their names, in nanoseconds.
 #[derive(Drop)]
-pub(crate) struct Timed {
+pub(crate) struct LogTimes {
     pub(crate) name: String,
-    pub(crate) times: [(&'static str, u64); 2],
+    pub(crate) first: (&'static str, u64),
+    pub(crate) second: (&'static str, u64),
 }
 
 /// Reads the log that the words of `raftlog recover` name. Returns nothing where they are others.
@@ -38,14 +39,21 @@ pub(crate) fn read_log<R: Files + AllocGlobal>(rt: &R, words: &[String]) -> Resu
 
 /// Prints the times in milliseconds, or what the words have to be, which are those of `raftlog recover` behind
 /// `before`.
-pub(crate) fn print_times(rt: &HostRuntime, before: &str, timed: Option<Timed>) -> io::Result<()> {
-    let Some(Timed { name, times }) = timed else {
+pub(crate) fn print_times(
+    rt: &HostRuntime,
+    before: &str,
+    times: Option<LogTimes>,
+) -> io::Result<()> {
+    let Some(times) = times else {
         return eprintln!(rt;
             "usage: raft_bench {before}recover <queue> <version> <workers> <seq>=<path>.."
         );
     };
-    let [(first, time), (second, other)] = times;
+    let ((first, time), (second, other)) = (times.first, times.second);
     let (time, time_tenths) = in_tenths(time, 1_000_000);
     let (other, other_tenths) = in_tenths(other, 1_000_000);
-    println!(rt; "{name}: {first} ms {time}.{time_tenths}, {second} ms {other}.{other_tenths}")
+    println!(rt;
+        "{}: {first} ms {time}.{time_tenths}, {second} ms {other}.{other_tenths}",
+        times.name.as_str()
+    )
 }

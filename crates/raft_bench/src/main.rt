@@ -14,7 +14,7 @@ mod shared;
 mod tables;
 mod timing;
 
-use logs::{Timed, print_times};
+use logs::{LogTimes, print_times};
 use raft_records::Result;
 use raft_recover::command_words;
 use std::io;
@@ -43,9 +43,9 @@ fn main(rt: HostRuntime) -> io::Result<()> {
 }
 
 /// Prints what was timed of a log, or why nothing was.
-fn print_timed(rt: &HostRuntime, before: &str, timed: Result<Option<Timed>>) -> io::Result<()> {
-    match timed {
-        Ok(timed) => print_times(rt, before, timed),
+fn print_timed(rt: &HostRuntime, before: &str, times: Result<Option<LogTimes>>) -> io::Result<()> {
+    match times {
+        Ok(times) => print_times(rt, before, times),
         Err(e) => print_error(rt, Err(e)),
     }
 }

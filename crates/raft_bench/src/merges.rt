@@ -1,6 +1,6 @@
 //! Times the merging of contexts beside the reading of their batches, all on one thread.
 
-use crate::logs::{Timed, read_log};
+use crate::logs::{LogTimes, read_log};
 use crate::timing::{best_of, timed};
 use raft_memtable::{LogQueue, MemTableRecoverContext};
 use raft_records::Result;
@@ -19,7 +19,7 @@ const CONTEXTS: usize = 4;
 pub(crate) fn time<R: Files + AllocGlobal + Clock>(
     rt: &R,
     words: &[String],
-) -> Result<Option<Timed>> {
+) -> Result<Option<LogTimes>> {
     let Some(log) = read_log(rt, words)? else {
         return Ok(None);
     };
@@ -28,9 +28,10 @@ pub(crate) fn time<R: Files + AllocGlobal + Clock>(
         return Ok(None);
     };
     let ([reading, merging], ()) = best_of(|| time_run(rt, quarters, log.queue))?;
-    Ok(Some(Timed {
+    Ok(Some(LogTimes {
         name: format!(in rt.alloc(); "four contexts on one thread")?,
-        times: [("reading best", reading), ("merging best", merging)],
+        first: ("reading best", reading),
+        second: ("merging best", merging),
     }))
 }
 

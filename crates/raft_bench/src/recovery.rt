@@ -1,6 +1,6 @@
 //! Times the recovery of log files.
 
-use crate::logs::{Log, Timed, read_log};
+use crate::logs::{Log, LogTimes, read_log};
 use crate::timing::timed;
 use raft_records::Result;
 use raft_recover::recover;
@@ -16,7 +16,7 @@ const RUNS: usize = 15;
 pub(crate) fn time<R: Threads + Files + AllocGlobal + Clock + Sync>(
     rt: &R,
     words: &[String],
-) -> Result<Option<Timed>> {
+) -> Result<Option<LogTimes>> {
     let Some(log) = read_log(rt, words)? else {
         return Ok(None);
     };
@@ -27,9 +27,10 @@ pub(crate) fn time<R: Threads + Files + AllocGlobal + Clock + Sync>(
     }
     runs.sort_unstable();
     let workers = log.workers;
-    Ok(Some(Timed {
+    Ok(Some(LogTimes {
         name: format!(in rt.alloc(); "recover, {workers} workers, {regions} regions")?,
-        times: [("best", runs[0]), ("median", runs[RUNS / 2])],
+        first: ("best", runs[0]),
+        second: ("median", runs[RUNS / 2]),
     }))
 }
 

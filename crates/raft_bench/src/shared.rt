@@ -131,12 +131,12 @@ fn look<R: Wait + Clock + Print>(
     shared: &SharedAccessor,
     picks: &[u64],
 ) -> Result<()> {
-    let ([get, with], (got, seen)) = best_of(|| -> Result<_> {
+    let ([get, with_table], (got, seen)) = best_of(|| -> Result<_> {
         let (get, got) = timed(rt, || last_of_all(core, picks))?;
-        let (with, seen) = timed(rt, || shared_last_of_all(rt, shared, picks))?;
-        Ok(([get, with], (got, seen)))
+        let (with_table, seen) = timed(rt, || shared_last_of_all(rt, shared, picks))?;
+        Ok(([get, with_table], (got, seen)))
     })?;
     let looked = LOOKUPS.min(got).min(seen);
     print_each(rt, "get of an accessor, at random", get, "call", looked)?;
-    Ok(print_each(rt, "with_table, at random", with, "call", looked)?)
+    Ok(print_each(rt, "with_table, at random", with_table, "call", looked)?)
 }

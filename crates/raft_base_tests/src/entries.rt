@@ -1,6 +1,7 @@
 //! Which lists of entries are consecutive, and how entries are compressed.
 
 use raft_base::{CompressionType, EntryIndex, Error, Result, is_consecutive};
+use raft_trials::again;
 use std::alloc::Global;
 use std::process::Abort;
 
@@ -50,11 +51,7 @@ fn lists_are_told_apart(rt: &impl Abort, alloc: Global) -> Result<()> {
 
 #[test]
 fn consecutive_lists(rt: HostRuntime) {
-    let answer = match lists_are_told_apart(&rt, rt.alloc()) {
-        Err(Error::Memory) => lists_are_told_apart(&rt, rt.alloc()),
-        answer => answer,
-    };
-    assert!(rt; answer.is_ok());
+    assert!(rt; again!(lists_are_told_apart(&rt, rt.alloc())).is_ok());
 }
 
 /// Tests whether a byte is a compression type, which stands for that byte, or is refused by name.
@@ -78,9 +75,5 @@ fn zero_alone_is_a_compression_type(rt: &impl Abort, alloc: Global) -> Result<()
 
 #[test]
 fn compression_types(rt: HostRuntime) {
-    let answer = match zero_alone_is_a_compression_type(&rt, rt.alloc()) {
-        Err(Error::Memory) => zero_alone_is_a_compression_type(&rt, rt.alloc()),
-        answer => answer,
-    };
-    assert!(rt; answer.is_ok());
+    assert!(rt; again!(zero_alone_is_a_compression_type(&rt, rt.alloc())).is_ok());
 }

@@ -2,6 +2,7 @@
 
 use raft_base::{Error, FileBlockHandle, FileId, FileSeq, LogQueue, Result};
 use raft_files::{Asked, EngineFiles, MemoryFiles};
+use raft_trials::again;
 use std::alloc::Global;
 
 /// Files that can't be read, and whose calls succeed or fail as they are told.
@@ -105,19 +106,12 @@ fn memory_keeps_what_is_asked(rt: HostRuntime) -> Result<()> {
     Ok(())
 }
 
-/// Returns copies of the files of a queue, once more where there is no memory.
-fn copies(files: &MemoryFiles, queue: LogQueue) -> Result<Vec<(FileSeq, Vec<u8>)>> {
-    match files.copies(queue) {
-        Err(Error::Memory) => files.copies(queue),
-        copies => copies,
-    }
-}
-
 /// Tests whether files that are found are those that were copied, and serve on.
 fn are_found(alloc: Global) -> Result<bool> {
     let left = made(alloc)?;
-    let append = copies(&left, LogQueue::Append)?;
-    let mut files = MemoryFiles::found(append, copies(&left, LogQueue::Rewrite)?);
+    let append = again!(left.copies(LogQueue::Append))?;
+    let rewrite = again!(left.copies(LogQueue::Rewrite))?;
+    let mut files = MemoryFiles::found(append, rewrite);
     let found = are(files.files(LogQueue::Append), &[(2, "abcde"), (4, "fgh")]);
     files.append(LogQueue::Rewrite, b"!")?;
     files.delete_oldest(LogQueue::Append)?;

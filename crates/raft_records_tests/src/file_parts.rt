@@ -6,6 +6,7 @@ use raft_records::{
     LogItemContent, LogQueue, Result, Version, entries_block_in, entry_bytes, next_batch,
     readable_front,
 };
+use raft_trials::again;
 use std::alloc::Global;
 use std::process::Abort;
 
@@ -18,7 +19,7 @@ const BATCHES: &[u8; 58] =
 const FIRST: usize = 34;
 
 /// A file of the append queue.
-const FILE: FileId = FileId {
+pub(crate) const FILE: FileId = FileId {
     queue: LogQueue::Append,
     seq: 12,
 };
@@ -31,7 +32,7 @@ const BLOCK: FileBlockHandle = FileBlockHandle {
 };
 
 /// Returns these bytes of that file, from 100 on.
-fn part(alloc: Global, bytes: &[u8]) -> Result<FilePart> {
+pub(crate) fn part(alloc: Global, bytes: &[u8]) -> Result<FilePart> {
     FilePart::new(FILE, Version::V1, 100, Vec::from_slice(alloc, bytes)?)
 }
 
@@ -48,11 +49,7 @@ fn counted(part: &FilePart, at: usize) -> Result<Option<(usize, usize)>> {
 
 #[test]
 fn batches(rt: HostRuntime) {
-    let answer = match batches_stand_one_behind_the_other(&rt, rt.alloc()) {
-        Err(Error::Memory) => batches_stand_one_behind_the_other(&rt, rt.alloc()),
-        answer => answer,
-    };
-    assert!(rt; answer.is_ok());
+    assert!(rt; again!(batches_stand_one_behind_the_other(&rt, rt.alloc())).is_ok());
 }
 
 fn batches_stand_one_behind_the_other(rt: &impl Abort, alloc: Global) -> Result<()> {
@@ -107,11 +104,7 @@ fn knows_its_file(part: &FilePart) -> Result<bool> {
 
 #[test]
 fn damaged_batches(rt: HostRuntime) {
-    let answer = match damaged_batches_are_refused(&rt, rt.alloc()) {
-        Err(Error::Memory) => damaged_batches_are_refused(&rt, rt.alloc()),
-        answer => answer,
-    };
-    assert!(rt; answer.is_ok());
+    assert!(rt; again!(damaged_batches_are_refused(&rt, rt.alloc())).is_ok());
 }
 
 /// Tests that a batch that is cut short is refused, but where nothing of it is left, and one with a flipped bit, but in
@@ -158,11 +151,7 @@ fn is_read_in(alloc: Global, seq: u64, version: Version) -> Result<bool> {
 
 #[test]
 fn signed_batches(rt: HostRuntime) {
-    let answer = match signed_batches_are_read_in_their_files(&rt, rt.alloc()) {
-        Err(Error::Memory) => signed_batches_are_read_in_their_files(&rt, rt.alloc()),
-        answer => answer,
-    };
-    assert!(rt; answer.is_ok());
+    assert!(rt; again!(signed_batches_are_read_in_their_files(&rt, rt.alloc())).is_ok());
 }
 
 /// Tests that a batch is read in the file that it was signed for, and in another whose number has the same low 32 bits.
@@ -295,11 +284,7 @@ fn is_entry_row(alloc: Global, offset: u32, len: u32, reason: &str) -> Result<bo
 
 #[test]
 fn entry_places(rt: HostRuntime) {
-    let answer = match places_are_refused(&rt, rt.alloc()) {
-        Err(Error::Memory) => places_are_refused(&rt, rt.alloc()),
-        answer => answer,
-    };
-    assert!(rt; answer.is_ok());
+    assert!(rt; again!(places_are_refused(&rt, rt.alloc())).is_ok());
 }
 
 fn places_are_refused(rt: &impl Abort, alloc: Global) -> Result<()> {
@@ -331,11 +316,7 @@ fn places_are_refused(rt: &impl Abort, alloc: Global) -> Result<()> {
 
 #[test]
 fn ends(rt: HostRuntime) {
-    let answer = match parts_end_at_the_last_offset(&rt, rt.alloc()) {
-        Err(Error::Memory) => parts_end_at_the_last_offset(&rt, rt.alloc()),
-        answer => answer,
-    };
-    assert!(rt; answer.is_ok());
+    assert!(rt; again!(parts_end_at_the_last_offset(&rt, rt.alloc())).is_ok());
 }
 
 fn parts_end_at_the_last_offset(rt: &impl Abort, alloc: Global) -> Result<()> {
@@ -353,8 +334,13 @@ fn parts_end_at_the_last_offset(rt: &impl Abort, alloc: Global) -> Result<()> {
 
 /// Tests whether so many bytes are readable of so many, and there is this reason, none where it is empty.
 fn is_front(alloc: Global, len: usize, front: usize, reason: &str) -> Result<bool> {
-    let part = part(alloc, BATCHES.get(..len).unwrap_or(&[]))?;
-    let (readable, error) = readable_front(&part);
+    let bytes = BATCHES.get(..len).unwrap_or(&[]);
+    is_readable_front(&part(alloc, bytes)?, front, reason)
+}
+
+/// Tests whether so many bytes of a part are readable, and there is this reason, none where it is empty.
+pub(crate) fn is_readable_front(part: &FilePart, front: usize, reason: &str) -> Result<bool> {
+    let (readable, error) = readable_front(part);
     match error {
         None => Ok(readable == front && reason.is_empty()),
         Some(Error::Corruption(text)) => Ok(readable == front && text.as_str() == reason),

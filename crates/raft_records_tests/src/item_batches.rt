@@ -2,9 +2,8 @@
 
 ghost use Rattle.std.specs.Prelude.{◌≡◌};
 
-use raft_records::{
-    EntryIndex, Error, FileId, LogFileContext, LogItemBatch, LogQueue, Result, Version,
-};
+use raft_records::{EntryIndex, FileId, LogFileContext, LogItemBatch, LogQueue, Result, Version};
+use raft_trials::again;
 use std::alloc::Global;
 use std::process::Abort;
 
@@ -156,11 +155,7 @@ fn is_row(alloc: Global, row: &Row) -> Result<bool> {
 
 #[test]
 fn item_batches(rt: HostRuntime) {
-    let answer = match item_batches_are_as_in_the_rows(&rt, rt.alloc()) {
-        Err(Error::Memory) => item_batches_are_as_in_the_rows(&rt, rt.alloc()),
-        answer => answer,
-    };
-    assert!(rt; answer.is_ok());
+    assert!(rt; again!(item_batches_are_as_in_the_rows(&rt, rt.alloc())).is_ok());
 }
 
 fn item_batches_are_as_in_the_rows(rt: &impl Abort, alloc: Global) -> Result<()> {

@@ -7,6 +7,7 @@ use raft_records::{
     ATOMIC_GROUP_KEY, AtomicGroupStatus, Command, EntryIndex, EntryIndexes, Error, KeyValue,
     LogItem, LogItemContent, OpType, Result, codec,
 };
+use raft_trials::again;
 use rows::{Content, ContentRow, Form, FrontsRow, MarkerRow, Read, ReadRow};
 use std::alloc::Global;
 use std::io::ErrorKind;
@@ -184,11 +185,7 @@ fn is_longer_read(alloc: Global) -> Result<bool> {
 
 #[test]
 fn items(rt: HostRuntime) {
-    let answer = match items_are_as_in_the_rows(&rt, rt.alloc()) {
-        Err(Error::Memory) => items_are_as_in_the_rows(&rt, rt.alloc()),
-        answer => answer,
-    };
-    assert!(rt; answer.is_ok());
+    assert!(rt; again!(items_are_as_in_the_rows(&rt, rt.alloc())).is_ok());
 }
 
 fn items_are_as_in_the_rows(rt: &impl Abort, alloc: Global) -> Result<()> {
@@ -282,11 +279,7 @@ fn are_marker_fronts_refused(alloc: Global, row: &MarkerRow) -> Result<bool> {
 
 #[test]
 fn shorter_fronts(rt: HostRuntime) {
-    let answer = match fronts_are_refused(&rt, rt.alloc()) {
-        Err(Error::Memory) => fronts_are_refused(&rt, rt.alloc()),
-        answer => answer,
-    };
-    assert!(rt; answer.is_ok());
+    assert!(rt; again!(fronts_are_refused(&rt, rt.alloc())).is_ok());
 }
 
 fn fronts_are_refused(rt: &impl Abort, alloc: Global) -> Result<()> {
@@ -322,11 +315,7 @@ fn is_op_type_row(alloc: Global, byte: u8) -> Result<bool> {
 
 #[test]
 fn op_types(rt: HostRuntime) {
-    let answer = match one_and_two_are_op_types(&rt, rt.alloc()) {
-        Err(Error::Memory) => one_and_two_are_op_types(&rt, rt.alloc()),
-        answer => answer,
-    };
-    assert!(rt; answer.is_ok());
+    assert!(rt; again!(one_and_two_are_op_types(&rt, rt.alloc())).is_ok());
 }
 
 fn one_and_two_are_op_types(rt: &impl Abort, alloc: Global) -> Result<()> {

@@ -3,11 +3,12 @@
 ghost use Rattle.std.specs.Prelude.{◌≡◌, OnOk};
 ghost use Rattle.raft_records.specs.LogBatch.{is_open};
 
+use crate::file_parts::is_readable_front;
 use raft_records::{
     Command, CompressionType, EntryIndex, Error, FileBlockHandle, FileId, FilePart, LogBatch,
     LogFileContext, LogItem, LogItemContent, LogQueue, Result, Version, is_consecutive, next_batch,
-    readable_front,
 };
+use raft_trials::again;
 use std::alloc::Global;
 use std::process::Abort;
 
@@ -45,6 +46,18 @@ fn add_entries(alloc: Global, batch: &mut LogBatch) -> Result<()>
     batch.add_raw_entries(7, indexes, texts)
 }
 
+/// Returns a part of version 2 with an open batch alone.
+fn part_of(alloc: Global, mut batch: LogBatch) -> Result<FilePart> {
+    if !batch.is_open() {
+        return Err(Error::Failed);
+    }
+    batch.finish_populate()?;
+    let file = FileId::new(LogQueue::Append, 12);
+    batch.prepare_write(&LogFileContext::new(file, Version::V2));
+    let bytes = Vec::from_slice(alloc, batch.encoded_bytes())?;
+    FilePart::new(file, Version::V2, 0, bytes)
+}
+
 /// Returns a part with the batch alone.
 fn large_part(alloc: Global) -> Result<FilePart> {
     let mut batch = LogBatch::default(alloc);
@@ -52,11 +65,7 @@ fn large_part(alloc: Global) -> Result<FilePart> {
     let mut value = Vec::new(alloc);
     value.resize(VALUE, 0xab)?;
     batch.put(7, Vec::new(alloc), value)?;
-    batch.finish_populate()?;
-    let file = FileId::new(LogQueue::Append, 12);
-    batch.prepare_write(&LogFileContext::new(file, Version::V2));
-    let bytes = Vec::from_slice(alloc, batch.encoded_bytes())?;
-    FilePart::new(file, Version::V2, 0, bytes)
+    part_of(alloc, batch)
 }
 
 /// Tests whether these are so many bytes, all of them this one.
@@ -124,11 +133,7 @@ fn is_read(alloc: Global) -> Result<bool> {
 
 #[test]
 fn large_batches_are_read_again(rt: HostRuntime) {
-    let answer = match is_read(rt.alloc()) {
-        Err(Error::Memory) => is_read(rt.alloc()),
-        answer => answer,
-    };
-    assert!(rt; matches!(answer, Ok(true)));
+    assert!(rt; matches!(again!(is_read(rt.alloc())), Ok(true)));
 }
 
 /// How many items the batch of many has.
@@ -144,18 +149,6 @@ fn with_many_items(alloc: Global) -> Result<LogBatch> {
         batch.add_command(id, Command::Compact { index: id })?;
     }
     Ok(batch)
-}
-
-/// Returns a part of version 2 with an open batch alone.
-fn part_of(alloc: Global, mut batch: LogBatch) -> Result<FilePart> {
-    if !batch.is_open() {
-        return Err(Error::Failed);
-    }
-    batch.finish_populate()?;
-    let file = FileId::new(LogQueue::Append, 12);
-    batch.prepare_write(&LogFileContext::new(file, Version::V2));
-    let bytes = Vec::from_slice(alloc, batch.encoded_bytes())?;
-    FilePart::new(file, Version::V2, 0, bytes)
 }
 
 /// Tests whether items compact the regions from 0 on, each to its id, and returns how many there are.
@@ -183,11 +176,7 @@ fn are_all_read(alloc: Global) -> Result<bool> {
 
 #[test]
 fn many_items_are_read_again(rt: HostRuntime) {
-    let answer = match are_all_read(rt.alloc()) {
-        Err(Error::Memory) => are_all_read(rt.alloc()),
-        answer => answer,
-    };
-    assert!(rt; matches!(answer, Ok(true)));
+    assert!(rt; matches!(again!(are_all_read(rt.alloc())), Ok(true)));
 }
 
 /// How long the value of each of three batches is.
@@ -202,10 +191,7 @@ fn append_long(alloc: Global, bytes: &mut Vec<u8>) -> Result<()> {
     value.resize(LONG, 0xab)?;
     let mut batch = LogBatch::default(alloc);
     batch.put(7, Vec::from_slice(alloc, b"k")?, value)?;
-    batch.finish_populate()?;
-    let file = FileId::new(LogQueue::Append, 12);
-    batch.prepare_write(&LogFileContext::new(file, Version::V2));
-    bytes.extend_from_slice(batch.encoded_bytes())?;
+    bytes.extend_from_slice(part_of(alloc, batch)?.bytes())?;
     Ok(())
 }
 
@@ -221,13 +207,7 @@ fn long_part(alloc: Global, missing: usize) -> Result<FilePart> {
 
 /// Tests whether a part of three such batches, without its last bytes, is readable up to here, and why not behind.
 fn is_readable_to(alloc: Global, missing: usize, end: usize, reason: &str) -> Result<bool> {
-    let part = long_part(alloc, missing)?;
-    let (readable, error) = readable_front(&part);
-    match error {
-        None => Ok(readable == end && reason.is_empty()),
-        Some(Error::Corruption(text)) => Ok(readable == end && text.as_str() == reason),
-        Some(e) => Err(e),
-    }
+    is_readable_front(&long_part(alloc, missing)?, end, reason)
 }
 
 fn long_parts_are_readable(rt: &impl Abort, alloc: Global) -> Result<()> {
@@ -244,9 +224,5 @@ fn long_parts_are_readable(rt: &impl Abort, alloc: Global) -> Result<()> {
 
 #[test]
 fn long_parts(rt: HostRuntime) {
-    let answer = match long_parts_are_readable(&rt, rt.alloc()) {
-        Err(Error::Memory) => long_parts_are_readable(&rt, rt.alloc()),
-        answer => answer,
-    };
-    assert!(rt; answer.is_ok());
+    assert!(rt; again!(long_parts_are_readable(&rt, rt.alloc())).is_ok());
 }

@@ -12,6 +12,7 @@ use raft_records::{
     LogFileContext, LogItemBatch, LogQueue, Message, MessageError, MessageExt, ReactiveBytes,
     Result, Version, is_consecutive,
 };
+use raft_trials::again;
 use rows::Row;
 use std::alloc::Global;
 use std::process::Abort;
@@ -160,6 +161,29 @@ fn is_written<T: ReactiveBytes>(
     bytes.len() == front.len() + seal.len() && bytes.starts_with(front) && bytes.ends_with(seal)
 }
 
+/// Reads a batch back from its bytes in a file, if its header fits them: where its items begin, its entry bytes and its
+/// items.
+fn read_back(
+    alloc: Global,
+    bytes: &[u8],
+    context: &LogFileContext,
+) -> Result<Option<(usize, Vec<u8>, LogItemBatch)>> {
+    let mut behind = bytes;
+    let (offset, compression_type, len) = LogBatch::decode_header(alloc, &mut behind)?;
+    if offset > len || len != bytes.len() {
+        return Ok(None);
+    }
+    let place = FileBlockHandle {
+        id: context.id,
+        offset: 16,
+        len: offset.saturating_sub(16),
+    };
+    let entries = LogBatch::decode_entries_block(alloc, behind, place, compression_type)?;
+    let mut item_batch = &bytes[offset..];
+    let items = LogItemBatch::decode(alloc, &mut item_batch, place, compression_type, context)?;
+    Ok(Some((offset, entries, items)))
+}
+
 /// Tests whether a sealed batch's header, entry bytes and item batch are read as in the row, in the same file.
 fn is_read_so(
     alloc: Global,
@@ -174,20 +198,14 @@ fn is_read_so(
     if bytes.is_empty() {
         return Ok(row.front.is_empty());
     }
-    let mut behind = bytes;
-    let (offset, compression_type, len) = LogBatch::decode_header(alloc, &mut behind)?;
-    if offset != row.offset || offset > len || len != bytes.len() {
+    let Some((offset, entries, items)) = read_back(alloc, bytes, context)? else {
         return Ok(false);
-    }
-    let place = FileBlockHandle {
-        id: context.id,
-        offset: 16,
-        len: offset.saturating_sub(16),
     };
-    let entries = LogBatch::decode_entries_block(alloc, behind, place, compression_type)?;
-    let mut item_batch = &bytes[offset..];
-    let items = LogItemBatch::decode(alloc, &mut item_batch, place, compression_type, context)?;
-    Ok(entries.as_slice() == row.entry_bytes && items.approximate_size() == row.item_batch_size)
+    Ok(
+        offset == row.offset
+            && entries.as_slice() == row.entry_bytes
+            && items.approximate_size() == row.item_batch_size,
+    )
 }
 
 /// Tests whether an open batch has the row's approximate size, and then its bytes in five files, which are
@@ -214,11 +232,7 @@ fn is_made(alloc: Global, batch: &mut LogBatch, row: &Row) -> Result<bool> {
 
 #[test]
 fn rows_of_batches(rt: HostRuntime) {
-    let answer = match batches_are_made_and_read_as_in_the_rows(&rt, rt.alloc()) {
-        Err(Error::Memory) => batches_are_made_and_read_as_in_the_rows(&rt, rt.alloc()),
-        answer => answer,
-    };
-    assert!(rt; answer.is_ok());
+    assert!(rt; again!(batches_are_made_and_read_as_in_the_rows(&rt, rt.alloc())).is_ok());
 }
 
 fn batches_are_made_and_read_as_in_the_rows(rt: &impl Abort, alloc: Global) -> Result<()> {
@@ -288,11 +302,7 @@ fn attempt(alloc: Global, batch: &mut LogBatch, number: usize) -> Result<()> {
 
 #[test]
 fn refused_additions(rt: HostRuntime) {
-    let answer = match refused_additions_leave_the_batch(&rt, rt.alloc()) {
-        Err(Error::Memory) => refused_additions_leave_the_batch(&rt, rt.alloc()),
-        answer => answer,
-    };
-    assert!(rt; answer.is_ok());
+    assert!(rt; again!(refused_additions_leave_the_batch(&rt, rt.alloc())).is_ok());
 }
 
 /// Tests whether a call on a batch with a command is refused for this reason, nothing where it isn't, and leaves the
@@ -353,11 +363,7 @@ fn is_only_signed(alloc: Global) -> Result<bool> {
 
 #[test]
 fn asked_bytes_leave_the_batch(rt: HostRuntime) {
-    let answer = match is_only_signed(rt.alloc()) {
-        Err(Error::Memory) => is_only_signed(rt.alloc()),
-        answer => answer,
-    };
-    assert!(rt; matches!(answer, Ok(true)));
+    assert!(rt; matches!(again!(is_only_signed(rt.alloc())), Ok(true)));
 }
 
 /// The bytes of a batch in the file 12 in which region 8 is cleaned.
@@ -407,11 +413,7 @@ fn goes_on_after_refusal(alloc: Global) -> Result<bool> {
 
 #[test]
 fn refused_messages_leave_the_batch(rt: HostRuntime) {
-    let answer = match goes_on_after_refusal(rt.alloc()) {
-        Err(Error::Memory) => goes_on_after_refusal(rt.alloc()),
-        answer => answer,
-    };
-    assert!(rt; matches!(answer, Ok(true)));
+    assert!(rt; matches!(again!(goes_on_after_refusal(rt.alloc())), Ok(true)));
 }
 
 /// Tests whether a builder has the state of the last group marker that it gave.
@@ -430,11 +432,7 @@ fn has_states(alloc: Global) -> Result<bool> {
 
 #[test]
 fn states_of_a_group(rt: HostRuntime) {
-    let answer = match has_states(rt.alloc()) {
-        Err(Error::Memory) => has_states(rt.alloc()),
-        answer => answer,
-    };
-    assert!(rt; matches!(answer, Ok(true)));
+    assert!(rt; matches!(again!(has_states(rt.alloc())), Ok(true)));
 }
 
 /// Tests whether clones are equal to what they are made of, until an item is added to them.
@@ -463,9 +461,5 @@ fn all_clones_are_equal(alloc: Global) -> Result<bool> {
 
 #[test]
 fn clones(rt: HostRuntime) {
-    let answer = match all_clones_are_equal(rt.alloc()) {
-        Err(Error::Memory) => all_clones_are_equal(rt.alloc()),
-        answer => answer,
-    };
-    assert!(rt; matches!(answer, Ok(true)));
+    assert!(rt; matches!(again!(all_clones_are_equal(rt.alloc())), Ok(true)));
 }

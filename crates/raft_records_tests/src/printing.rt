@@ -3,6 +3,7 @@
 use raft_records::{
     Error, FileId, LogFileContext, LogQueue, Result, Version, batch_text, print_batch,
 };
+use raft_trials::again;
 use std::alloc::Global;
 use std::io;
 use std::io::{ErrorKind, Read, Write};
@@ -149,9 +150,5 @@ fn failures_are_handed_on(alloc: Global) -> Result<bool> {
 
 #[test]
 fn each_failing_read_and_write_is_handed_on(rt: HostRuntime) {
-    let mut answer = failures_are_handed_on(rt.alloc());
-    if matches!(&answer, Err(Error::Memory)) {
-        answer = failures_are_handed_on(rt.alloc());
-    }
-    assert!(rt; matches!(answer, Ok(true)));
+    assert!(rt; matches!(again!(failures_are_handed_on(rt.alloc())), Ok(true)));
 }

@@ -1,9 +1,10 @@
 //! Batches as they are read, one in place of another, whole and damaged.
 
+use crate::file_parts::{FILE, part};
 use raft_records::{
-    Error, FileBlockHandle, FileId, FilePart, LogFileContext, LogQueue, ReadBatch, ReadContent,
-    Result, Version, next_batch,
+    Error, FileBlockHandle, FilePart, LogFileContext, ReadBatch, ReadContent, Result, next_batch,
 };
+use raft_trials::again;
 use std::alloc::Global;
 use std::process::Abort;
 
@@ -14,17 +15,6 @@ const BATCHES: &[u8; 138] =
 
 /// How long the first of them is.
 const FIRST: usize = 96;
-
-/// A file of the append queue.
-const FILE: FileId = FileId {
-    queue: LogQueue::Append,
-    seq: 12,
-};
-
-/// Returns these bytes of that file, from 100 on.
-fn part(alloc: Global, bytes: &[u8]) -> Result<FilePart> {
-    FilePart::new(FILE, Version::V1, 100, Vec::from_slice(alloc, bytes)?)
-}
 
 /// Reads the batch at `at` in place of the one that is held, and returns where the next one begins; nothing at the
 /// end, and past it.
@@ -92,11 +82,7 @@ fn is_second(batch: &ReadBatch<'_>) -> bool {
 
 #[test]
 fn read_batches(rt: HostRuntime) {
-    let answer = match batches_are_read_in_place_of_one_another(&rt, rt.alloc()) {
-        Err(Error::Memory) => batches_are_read_in_place_of_one_another(&rt, rt.alloc()),
-        answer => answer,
-    };
-    assert!(rt; answer.is_ok());
+    assert!(rt; again!(batches_are_read_in_place_of_one_another(&rt, rt.alloc())).is_ok());
 }
 
 fn batches_are_read_in_place_of_one_another(rt: &impl Abort, alloc: Global) -> Result<()> {
@@ -117,11 +103,7 @@ fn batches_are_read_in_place_of_one_another(rt: &impl Abort, alloc: Global) -> R
 
 #[test]
 fn damaged_read_batches(rt: HostRuntime) {
-    let answer = match damaged_batches_hold_no_items(&rt, rt.alloc()) {
-        Err(Error::Memory) => damaged_batches_hold_no_items(&rt, rt.alloc()),
-        answer => answer,
-    };
-    assert!(rt; answer.is_ok());
+    assert!(rt; again!(damaged_batches_hold_no_items(&rt, rt.alloc())).is_ok());
 }
 
 /// Tests that after a batch that was read, no items are held of one with a flipped bit, wherever it is but in its entry

@@ -5,6 +5,7 @@ use raft_records::{
     CompressionType, Error, FileBlockHandle, FileId, LogBatch, LogFileContext, LogItemBatch,
     LogQueue, Result, Version,
 };
+use raft_trials::again;
 use std::alloc::Global;
 use std::process::Abort;
 
@@ -315,11 +316,7 @@ fn is_row(alloc: Global, row: &Row) -> Result<bool> {
 
 #[test]
 fn refusals(rt: HostRuntime) {
-    let answer = match bytes_are_read_or_refused_and_left(&rt, rt.alloc()) {
-        Err(Error::Memory) => bytes_are_read_or_refused_and_left(&rt, rt.alloc()),
-        answer => answer,
-    };
-    assert!(rt; answer.is_ok());
+    assert!(rt; again!(bytes_are_read_or_refused_and_left(&rt, rt.alloc())).is_ok());
 }
 
 fn bytes_are_read_or_refused_and_left(rt: &impl Abort, alloc: Global) -> Result<()> {

@@ -1,29 +1,20 @@
 //! Batches that are signed for files and written, and the places of their items.
 
-use super::{context, with_one_of_each};
+use super::{context, read_back, with_one_of_each};
 use raft_records::{
-    Command, CompressionType, Error, FileBlockHandle, FileId, LogBatch, LogItem, LogItemBatch,
-    LogItemContent, LogQueue, ReactiveBytes, Result, Version,
+    Command, CompressionType, Error, FileBlockHandle, FileId, LogItem, LogItemContent, LogQueue,
+    ReactiveBytes, Result, Version,
 };
+use raft_trials::again;
 use std::alloc::Global;
 
 /// Tests whether the items of a log batch are read from its bytes in a file, after these entry bytes.
 fn is_read(alloc: Global, bytes: &[u8], seq: u64, entry_bytes: &[u8]) -> Result<bool> {
-    let mut behind = bytes;
-    let (offset, compression_type, len) = LogBatch::decode_header(alloc, &mut behind)?;
-    if offset > len || len != bytes.len() {
-        return Ok(false);
-    }
-    let context = context(seq, Version::V2);
-    let place = FileBlockHandle {
-        id: context.id,
-        offset: 16,
-        len: offset.saturating_sub(16),
-    };
-    let entries = LogBatch::decode_entries_block(alloc, behind, place, compression_type)?;
-    let mut item_batch = &bytes[offset..];
-    match LogItemBatch::decode(alloc, &mut item_batch, place, compression_type, &context) {
-        Ok(items) => Ok(entries.as_slice() == entry_bytes && !items.into_items().is_empty()),
+    match read_back(alloc, bytes, &context(seq, Version::V2)) {
+        Ok(Some((_offset, entries, items))) => {
+            Ok(entries.as_slice() == entry_bytes && !items.into_items().is_empty())
+        }
+        Ok(None) => Ok(false),
         Err(Error::Corruption(_text)) => Ok(false),
         Err(e) => Err(e),
     }
@@ -48,11 +39,7 @@ fn is_read_where_signed(alloc: Global) -> Result<bool> {
 
 #[test]
 fn one_batch_signed_for_three_files(rt: HostRuntime) {
-    let answer = match is_read_where_signed(rt.alloc()) {
-        Err(Error::Memory) => is_read_where_signed(rt.alloc()),
-        answer => answer,
-    };
-    assert!(rt; matches!(answer, Ok(true)));
+    assert!(rt; matches!(again!(is_read_where_signed(rt.alloc())), Ok(true)));
 }
 
 /// Tests whether this item's entries have the place, and its key value is in the place's file.
@@ -121,10 +108,7 @@ fn written_and_drained(alloc: Global) -> Result<Drained> {
 
 #[test]
 fn places_after_a_write(rt: HostRuntime) {
-    let answer = match written_and_drained(rt.alloc()) {
-        Err(Error::Memory) => written_and_drained(rt.alloc()),
-        answer => answer,
-    };
+    let answer = again!(written_and_drained(rt.alloc()));
     let drained = answer.unwrap_or(Drained {
         placed: 0,
         is_empty: false,

@@ -5,6 +5,7 @@ use crate::store::Answer::{Corruption, Done, Full, InvalidArgument};
 use crate::store::Call::{Append, Compact, Count, Group, Put, Replay};
 use crate::store::{Answer, Call, LogStore, Run, Shape, answered};
 use raft_memtable::{Error, FileSeq, LogQueue, MemTable, Result};
+use raft_trials::again;
 use std::alloc::Global;
 use std::process::Abort;
 
@@ -126,10 +127,7 @@ fn try_run(alloc: Global, call: Call, queue: LogQueue, run: Run) -> Result<(bool
 #[test]
 fn runs_are_put_where_they_may(rt: HostRuntime) -> Result<()> {
     for (call, queue, run, put, shape) in tried() {
-        let found = match try_run(rt.alloc(), *call, *queue, *run) {
-            Err(Error::Memory) => try_run(rt.alloc(), *call, *queue, *run)?,
-            found => found?,
-        };
+        let found = again!(try_run(rt.alloc(), *call, *queue, *run))?;
         assert!(rt; found == (*put, *shape), "{call:?} {queue:?} {run:?}");
     }
     Ok(())
@@ -315,10 +313,7 @@ fn merged(
 #[test]
 fn tables_merge(rt: HostRuntime) -> Result<()> {
     for (older, newer, is_append, answer, shape) in merges() {
-        let given = match merged(rt.alloc(), *older, *newer, *is_append) {
-            Err(Error::Memory) => merged(rt.alloc(), *older, *newer, *is_append)?,
-            given => given?,
-        };
+        let given = again!(merged(rt.alloc(), *older, *newer, *is_append))?;
         assert!(rt; given == (*answer, *shape, true), "{older:?} {newer:?}");
     }
     Ok(())

@@ -1,7 +1,8 @@
 //! Walks over keys, pairs that are handed out, and the pairs of two tables that are joined.
 
 use crate::store::LogStore;
-use raft_memtable::{Error, FileId, FileSeq, LogQueue, MemTable, Result, TableChange};
+use raft_memtable::{FileId, FileSeq, LogQueue, MemTable, Result, TableChange};
+use raft_trials::again;
 use std::alloc::Global;
 use std::process::Abort;
 
@@ -82,10 +83,7 @@ fn ask(rt: &impl Abort, alloc: Global) -> Result<()> {
 
 #[test]
 fn keys_are_walked_and_pairs_handed_out(rt: HostRuntime) -> Result<()> {
-    match ask(&rt, rt.alloc()) {
-        Err(Error::Memory) => ask(&rt, rt.alloc()),
-        asked => asked,
-    }
+    again!(ask(&rt, rt.alloc()))
 }
 
 /// Returns a store of these keys in one file.
@@ -161,8 +159,5 @@ fn join(rt: &impl Abort, alloc: Global) -> Result<()> {
 
 #[test]
 fn newer_pairs_replace_older_ones(rt: HostRuntime) -> Result<()> {
-    match join(&rt, rt.alloc()) {
-        Err(Error::Memory) => join(&rt, rt.alloc()),
-        joined => joined,
-    }
+    again!(join(&rt, rt.alloc()))
 }

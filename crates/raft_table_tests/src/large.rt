@@ -2,7 +2,8 @@
 
 use crate::store::Call::{Append, Replay, Rewrite};
 use crate::store::{Call, LogStore};
-use raft_memtable::{Error, FileId, LogQueue, MemTable, Result, TableChange};
+use raft_memtable::{FileId, LogQueue, MemTable, Result, TableChange};
+use raft_trials::again;
 use std::alloc::Global;
 
 /// The first index and the last, how many entries are rewritten, how many blocks there are, and how many entries are
@@ -92,9 +93,5 @@ fn all_are_large(alloc: Global) -> Result<bool> {
 
 #[test]
 fn large_tables_are_changed_and_merged(rt: HostRuntime) {
-    let mut all = all_are_large(rt.alloc());
-    if matches!(all, Err(Error::Memory)) {
-        all = all_are_large(rt.alloc());
-    }
-    assert!(rt; matches!(all, Ok(true)));
+    assert!(rt; matches!(again!(all_are_large(rt.alloc())), Ok(true)));
 }

@@ -4,9 +4,9 @@ use crate::store::Answer::{Compacted, Done, InvalidArgument, NotFound};
 use crate::store::Call::{Append, Group, Rewrite};
 use crate::store::{Answer, LogStore, answered};
 use raft_memtable::{
-    EntryIndex, Error, FileBlockHandle, FileId, FileSeq, LogQueue, MemTable, Result, TableChange,
-    is_run,
+    EntryIndex, FileBlockHandle, FileId, FileSeq, LogQueue, MemTable, Result, TableChange, is_run,
 };
+use raft_trials::again;
 use std::alloc::Global;
 use std::process::Abort;
 
@@ -66,10 +66,7 @@ fn make_lists(rt: &impl Abort, alloc: Global) -> Result<()> {
 
 #[test]
 fn lists_are_runs_or_refused(rt: HostRuntime) -> Result<()> {
-    match make_lists(&rt, rt.alloc()) {
-        Err(Error::Memory) => make_lists(&rt, rt.alloc()),
-        made => made,
-    }
+    again!(make_lists(&rt, rt.alloc()))
 }
 
 /// The lengths of entries from the index 10 on, a fetch's range and limit, what it returns, and how many entries
@@ -151,10 +148,7 @@ fn holds(alloc: Global, row: &Fetch) -> Result<bool> {
 #[test]
 fn fetches_end_at_limits(rt: HostRuntime) -> Result<()> {
     for row in fetch_rows() {
-        let held = match holds(rt.alloc(), row) {
-            Err(Error::Memory) => holds(rt.alloc(), row)?,
-            held => held?,
-        };
+        let held = again!(holds(rt.alloc(), row))?;
         assert!(rt; held, "{} {} {:?}", row.1, row.2, row.3);
     }
     Ok(())
@@ -227,8 +221,5 @@ fn ask_queues(rt: &impl Abort, alloc: Global) -> Result<()> {
 
 #[test]
 fn queries_tell_the_queues_apart(rt: HostRuntime) -> Result<()> {
-    match ask_queues(&rt, rt.alloc()) {
-        Err(Error::Memory) => ask_queues(&rt, rt.alloc()),
-        asked => asked,
-    }
+    again!(ask_queues(&rt, rt.alloc()))
 }

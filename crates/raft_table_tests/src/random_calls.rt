@@ -4,6 +4,7 @@ ghost use Rattle.std.specs.Prelude.{◌<◌};
 
 use crate::store::{Call, LogStore, Run, entry_of};
 use raft_memtable::{EntryIndex, Error, FileSeq, LogQueue, Mark, MemTable, Result, Step};
+use raft_trials::again;
 use std::alloc::Global;
 
 /// Numbers of a linear congruential generator.
@@ -328,9 +329,6 @@ fn first_fault(alloc: Global, changes: u32) -> Result<Option<Change>> {
 
 #[test]
 fn random_calls_are_those_of_a_list(rt: HostRuntime) {
-    let mut fault = first_fault(rt.alloc(), 10_000);
-    if matches!(fault, Err(Error::Memory)) {
-        fault = first_fault(rt.alloc(), 10_000);
-    }
+    let fault = again!(first_fault(rt.alloc(), 10_000));
     assert!(rt; matches!(fault, Ok(None)), "{fault:?}");
 }

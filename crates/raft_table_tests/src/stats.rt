@@ -3,6 +3,7 @@
 use crate::store::Call::{Append, Put};
 use crate::store::LogStore;
 use raft_memtable::{Error, GlobalStats, LogQueue, MemTable, Result};
+use raft_trials::again;
 use std::alloc::Global;
 use std::process::Abort;
 
@@ -38,10 +39,7 @@ fn count(rt: &impl Abort, alloc: Global) -> Result<()> {
 
 #[test]
 fn tables_are_counted_on_and_off(rt: HostRuntime) -> Result<()> {
-    match count(&rt, rt.alloc()) {
-        Err(Error::Memory) => count(&rt, rt.alloc()),
-        counted => counted,
-    }
+    again!(count(&rt, rt.alloc()))
 }
 
 #[test]

@@ -9,6 +9,7 @@ use raft_memtable::{
     EntryIndex, Error, FileBlockHandle, FileId, FileSeq, GlobalStats, LogQueue, Mark, MemTable,
     Result, TableChange, is_run,
 };
+use raft_trials::again;
 use std::alloc::Global;
 
 /// The log of one region, and the counts of its records alone.
@@ -223,10 +224,7 @@ impl LogStore {
 
     /// Makes the call, once more where it found no memory: it has changed nothing then.
     pub fn apply(&mut self, call: Call, by_value: bool) -> Result<Answer> {
-        match self.call(call, by_value) {
-            Err(Error::Memory) => answered(self.call(call, by_value)),
-            result => answered(result),
-        }
+        answered(again!(self.call(call, by_value)))
     }
 
     /// Makes a change of the table.

@@ -4,7 +4,8 @@ use crate::calls::{Call, call_core, tables_of};
 use crate::items::{Item, NEW, answered};
 use crate::rows::{Outline, Row, lists};
 use crate::seen::{counts, taken_of};
-use raft_memtable::{Error, LogQueue, MemTable, MemTableAccessor, Result, slot_of};
+use raft_memtable::{LogQueue, MemTable, MemTableAccessor, Result, slot_of};
+use raft_trials::again;
 use std::alloc::Global;
 
 fn outline(table: &MemTable) -> Outline {
@@ -38,11 +39,7 @@ fn are_kept(alloc: Global) -> Result<bool> {
 
 #[test]
 fn each_call_changes_tables_and_is_counted(rt: HostRuntime) {
-    let mut kept = are_kept(rt.alloc());
-    if matches!(kept, Err(Error::Memory)) {
-        kept = are_kept(rt.alloc());
-    }
-    assert!(rt; matches!(kept, Ok(true)));
+    assert!(rt; matches!(again!(are_kept(rt.alloc())), Ok(true)));
 }
 
 /// A call, a region, and the table that `get_or_insert` hands out for it then: its outline, and the value of `k` in it;
@@ -127,11 +124,7 @@ fn are_handed(alloc: Global) -> Result<bool> {
 
 #[test]
 fn a_region_is_handed_its_own_table(rt: HostRuntime) {
-    let mut handed = are_handed(rt.alloc());
-    if matches!(handed, Err(Error::Memory)) {
-        handed = are_handed(rt.alloc());
-    }
-    assert!(rt; matches!(handed, Ok(true)));
+    assert!(rt; matches!(again!(are_handed(rt.alloc())), Ok(true)));
 }
 
 /// Cleans of three regions, one of them twice.
@@ -151,11 +144,7 @@ fn are_handed_out(alloc: Global) -> Result<bool> {
 
 #[test]
 fn cleaned_regions_are_handed_out(rt: HostRuntime) {
-    let mut all = are_handed_out(rt.alloc());
-    if matches!(all, Err(Error::Memory)) {
-        all = are_handed_out(rt.alloc());
-    }
-    assert!(rt; matches!(all, Ok(true)));
+    assert!(rt; matches!(again!(are_handed_out(rt.alloc())), Ok(true)));
 }
 
 /// Tests that the numbers are those that raft-engine gives.

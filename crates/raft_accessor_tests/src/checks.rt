@@ -5,6 +5,7 @@ use crate::items::{Item, NEW, items, unplaced};
 use raft_memtable::{Error, MemTableAccessor, Result, slot_of};
 use raft_records::LogItem;
 use raft_recover::Slot;
+use raft_trials::again;
 use std::alloc::Global;
 
 /// What the tables have in front of all items.
@@ -117,11 +118,7 @@ fn are_checked(alloc: Global) -> Result<bool> {
 
 #[test]
 fn new_items_are_tested_before_they_are_written(rt: HostRuntime) {
-    let mut checked = are_checked(rt.alloc());
-    if matches!(checked, Err(Error::Memory)) {
-        checked = are_checked(rt.alloc());
-    }
-    assert!(rt; matches!(checked, Ok(true)));
+    assert!(rt; matches!(again!(are_checked(rt.alloc())), Ok(true)));
 }
 
 /// Returns 300 items of one entry each, in regions from 1 on with the index 10, or all in region 1 from the index 1 on;
@@ -169,9 +166,5 @@ fn are_all_many_told(alloc: Global) -> Result<bool> {
 
 #[test]
 fn many_new_items_are_tested(rt: HostRuntime) {
-    let mut told = are_all_many_told(rt.alloc());
-    if matches!(told, Err(Error::Memory)) {
-        told = are_all_many_told(rt.alloc());
-    }
-    assert!(rt; matches!(told, Ok(true)));
+    assert!(rt; matches!(again!(are_all_many_told(rt.alloc())), Ok(true)));
 }

@@ -5,14 +5,15 @@ mod every_slot;
 mod slots;
 
 use crate::items::{NEW, run};
-use raft_memtable::{Error, LogQueue, MemTable, Result, TableChange, slot_of};
+use raft_memtable::{LogQueue, MemTable, Result, TableChange, slot_of};
 use raft_recover::SharedAccessor;
+use raft_trials::{again, is_reached};
 use std::alloc::Global;
 use std::sync::Wait;
 use std::sync::atomic::{AtomicU64, Ordering};
 use std::thread;
 use std::thread::Threads;
-use std::time::{Clock, Duration};
+use std::time::Clock;
 
 /// Appends the entries from 1 to below 101 to a region, one a call.
 fn append_hundred<R: Wait>(
@@ -50,22 +51,7 @@ fn append_in_threads<R: Threads + Wait + Sync>(rt: &R, alloc: Global) -> Result<
 
 #[test]
 fn threads_append_at_once(rt: HostRuntime) {
-    let mut all = append_in_threads(&rt, rt.alloc());
-    if matches!(all, Err(Error::Memory)) {
-        all = append_in_threads(&rt, rt.alloc());
-    }
-    assert!(rt; matches!(all, Ok(true)));
-}
-
-/// Tests whether the number is reached within ten thousand sleeps of a millisecond.
-fn is_reached<R: Clock>(rt: &R, number: &AtomicU64, goal: u64) -> bool {
-    for _ in 0..10_000 {
-        if number.load(Ordering::SeqCst) >= goal {
-            return true;
-        }
-        thread::sleep(rt, Duration::from_millis(1));
-    }
-    false
+    assert!(rt; matches!(again!(append_in_threads(&rt, rt.alloc())), Ok(true)));
 }
 
 /// Raises the own flag, and tells whether the other one is raised in time.
@@ -164,11 +150,7 @@ fn meet<R: Threads + Wait + Clock + Sync>(rt: &R, alloc: Global) -> Result<bool>
 #[test]
 fn slots_lock_apart(rt: HostRuntime) {
     assert!(rt; slot_of(1) != slot_of(2));
-    let mut met = meet(&rt, rt.alloc());
-    if matches!(met, Err(Error::Memory)) {
-        met = meet(&rt, rt.alloc());
-    }
-    assert!(rt; matches!(met, Ok(true)));
+    assert!(rt; matches!(again!(meet(&rt, rt.alloc())), Ok(true)));
 }
 
 /// Tests whether those that read one table don't wait for each other.
@@ -178,9 +160,5 @@ fn read_at_once<R: Threads + Wait + Clock + Sync>(rt: &R, alloc: Global) -> Resu
 
 #[test]
 fn readers_lock_together(rt: HostRuntime) {
-    let mut met = read_at_once(&rt, rt.alloc());
-    if matches!(met, Err(Error::Memory)) {
-        met = read_at_once(&rt, rt.alloc());
-    }
-    assert!(rt; matches!(met, Ok(true)));
+    assert!(rt; matches!(again!(read_at_once(&rt, rt.alloc())), Ok(true)));
 }

@@ -8,6 +8,7 @@ use crate::items::{Fault, Item, NEW, NEWER, REWRITTEN, answered, items};
 use crate::seen::{REGION, see_core, see_shared, taken};
 use raft_memtable::{Error, LogQueue, MemTableAccessor, Result};
 use raft_recover::SharedAccessor;
+use raft_trials::again;
 use std::alloc::Global;
 use std::sync::Wait;
 
@@ -292,9 +293,5 @@ fn are_alike<R: Wait>(rt: &R, alloc: Global) -> Result<bool> {
 
 #[test]
 fn calls_are_kept(rt: HostRuntime) {
-    let mut alike = are_alike(&rt, rt.alloc());
-    if matches!(alike, Err(Error::Memory)) {
-        alike = are_alike(&rt, rt.alloc());
-    }
-    assert!(rt; matches!(alike, Ok(true)));
+    assert!(rt; matches!(again!(are_alike(&rt, rt.alloc())), Ok(true)));
 }

@@ -2,8 +2,9 @@
 
 use crate::items::{Item, NEW, items, run};
 use crate::seen::{Seen, counts, see_core, see_shared, shape};
-use raft_memtable::{Error, MemTableAccessor, Result, TableChange, slot_of};
+use raft_memtable::{MemTableAccessor, Result, TableChange, slot_of};
 use raft_recover::{SharedAccessor, Slot};
+use raft_trials::again;
 use std::alloc::Global;
 use std::sync::Wait;
 
@@ -92,11 +93,7 @@ fn are_all_seen<R: Wait>(rt: &R, alloc: Global) -> Result<bool> {
 #[test]
 fn no_slot_is_left_out(rt: HostRuntime) {
     assert!(rt; is_everywhere(0) && is_everywhere(1) && is_everywhere(2));
-    let mut all = are_all_seen(&rt, rt.alloc());
-    if matches!(all, Err(Error::Memory)) {
-        all = are_all_seen(&rt, rt.alloc());
-    }
-    assert!(rt; matches!(all, Ok(true)));
+    assert!(rt; matches!(again!(are_all_seen(&rt, rt.alloc())), Ok(true)));
 }
 
 /// Tests whether tables that were shared come back as they were.
@@ -109,11 +106,7 @@ fn come_back(alloc: Global) -> Result<bool> {
 
 #[test]
 fn shared_tables_come_back(rt: HostRuntime) {
-    let mut came_back = come_back(rt.alloc());
-    if matches!(came_back, Err(Error::Memory)) {
-        came_back = come_back(rt.alloc());
-    }
-    assert!(rt; matches!(came_back, Ok(true)));
+    assert!(rt; matches!(again!(come_back(rt.alloc())), Ok(true)));
 }
 
 /// Tests whether a slot has the table of a region, as it was, if it is one of its regions, and none otherwise.
@@ -171,11 +164,7 @@ fn take(alloc: Global) -> Result<bool> {
 
 #[test]
 fn each_slot_takes_its_tables(rt: HostRuntime) {
-    let mut taken = take(rt.alloc());
-    if matches!(taken, Err(Error::Memory)) {
-        taken = take(rt.alloc());
-    }
-    assert!(rt; matches!(taken, Ok(true)));
+    assert!(rt; matches!(again!(take(rt.alloc())), Ok(true)));
 }
 
 /// Tests whether there are tables exactly while a region has one. The region is listed as cleaned.
@@ -201,9 +190,5 @@ fn is_each_met<R: Wait>(rt: &R, alloc: Global) -> Result<bool> {
 
 #[test]
 fn each_table_is_met(rt: HostRuntime) {
-    let mut met = is_each_met(&rt, rt.alloc());
-    if matches!(met, Err(Error::Memory)) {
-        met = is_each_met(&rt, rt.alloc());
-    }
-    assert!(rt; matches!(met, Ok(true)));
+    assert!(rt; matches!(again!(is_each_met(&rt, rt.alloc())), Ok(true)));
 }

@@ -3,9 +3,10 @@
 ghost use Rattle.std.specs.Prelude.{◌≡◌};
 
 use crate::items::{Fault, answered, run};
-use raft_memtable::{Error, FileId, LogQueue, Result, TableChange, slot_of};
+use raft_memtable::{FileId, LogQueue, Result, TableChange, slot_of};
 use raft_records::{Command, LogItem};
 use raft_recover::Slot;
+use raft_trials::again;
 use std::alloc::Global;
 
 /// Returns a truncation of region 1.
@@ -47,9 +48,5 @@ fn truncate(alloc: Global) -> Result<bool> {
 
 #[test]
 fn slots_truncate(rt: HostRuntime) {
-    let mut truncated = truncate(rt.alloc());
-    if matches!(truncated, Err(Error::Memory)) {
-        truncated = truncate(rt.alloc());
-    }
-    assert!(rt; matches!(truncated, Ok(true)));
+    assert!(rt; matches!(again!(truncate(rt.alloc())), Ok(true)));
 }

@@ -3,7 +3,8 @@
 use crate::overlays::{Word, read};
 use LogQueue::{Append, Rewrite};
 use Word::{Clean, Compact, Delete, Put, Run, Truncate};
-use raft_memtable::{Error, LogQueue, MemTableRecoverContext, Result};
+use raft_memtable::{LogQueue, MemTableRecoverContext, Result};
+use raft_trials::again;
 use std::alloc::Global;
 
 /// The live count of the append queue, and what was written to the rewrite queue and deleted from it.
@@ -106,10 +107,7 @@ fn counted(alloc: Global, row: &Row) -> Result<Counts> {
 #[test]
 fn records_of_contexts_are_counted(rt: HostRuntime) {
     for row in rows() {
-        let mut counts = counted(rt.alloc(), row);
-        if matches!(counts, Err(Error::Memory)) {
-            counts = counted(rt.alloc(), row);
-        }
+        let counts = again!(counted(rt.alloc(), row));
         assert!(rt;
             matches!(counts, Ok(counts) if counts == row.3),
             "{:?}",

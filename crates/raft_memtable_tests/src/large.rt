@@ -8,6 +8,7 @@ use raft_memtable::{
     Error, FileId, LogQueue, MemTable, MemTableAccessor, MemTableRecoverContext, Result,
 };
 use raft_records::{AtomicGroupStatus, Command, FilePart, LogBatch, LogItemBatch};
+use raft_trials::again;
 use std::alloc::Global;
 use std::ops::Range;
 
@@ -319,9 +320,5 @@ fn all_are_merged(alloc: Global) -> Result<bool> {
 
 #[test]
 fn large_contexts_are_merged(rt: HostRuntime) {
-    let mut all = all_are_merged(rt.alloc());
-    if matches!(all, Err(Error::Memory)) {
-        all = all_are_merged(rt.alloc());
-    }
-    assert!(rt; matches!(all, Ok(true)));
+    assert!(rt; matches!(again!(all_are_merged(rt.alloc())), Ok(true)));
 }

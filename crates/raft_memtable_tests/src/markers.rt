@@ -3,8 +3,9 @@
 use crate::files::{replay_read, replayed};
 use crate::groups::{Effect, KEYS, part_of, seen_of};
 use AtomicGroupStatus::{Begin, End, Middle};
-use raft_memtable::{Error, LogQueue, MemTableAccessor, MemTableRecoverContext, Result};
+use raft_memtable::{LogQueue, MemTableAccessor, MemTableRecoverContext, Result};
 use raft_records::{AtomicGroupStatus, FilePart};
+use raft_trials::again;
 use std::alloc::Global;
 
 /// The group markers of four batches.
@@ -177,10 +178,7 @@ fn all_behind_have_effects(
 fn markers_have_their_effects_at_each_cutting(rt: HostRuntime) {
     for &first in &STATUSES {
         for &second in &STATUSES {
-            let mut all = all_behind_have_effects(rt.alloc(), first, second);
-            if matches!(all, Err(Error::Memory)) {
-                all = all_behind_have_effects(rt.alloc(), first, second);
-            }
+            let all = again!(all_behind_have_effects(rt.alloc(), first, second));
             assert!(rt; matches!(all, Ok(true)), "{first:?} {second:?}");
         }
     }

@@ -1,9 +1,8 @@
 //! Hundreds of regions of one slot, read by one context and merged into another.
 
-use raft_memtable::{
-    Error, FileId, FileSeq, LogQueue, MemTable, MemTableRecoverContext, Result, slot_of,
-};
+use raft_memtable::{FileId, FileSeq, LogQueue, MemTable, MemTableRecoverContext, Result, slot_of};
 use raft_records::{Command, LogItemBatch};
+use raft_trials::again;
 use std::alloc::Global;
 
 /// How many regions of slot 5 a newer context names.
@@ -51,10 +50,7 @@ fn are_merged(alloc: Global, older: usize) -> Result<bool> {
 #[test]
 fn regions_of_one_slot_are_merged(rt: HostRuntime) {
     for &older in &[0, 1, 100, 300] {
-        let mut merged = are_merged(rt.alloc(), older);
-        if matches!(merged, Err(Error::Memory)) {
-            merged = are_merged(rt.alloc(), older);
-        }
+        let merged = again!(are_merged(rt.alloc(), older));
         assert!(rt; matches!(merged, Ok(true)), "{older} older regions");
     }
 }

@@ -7,10 +7,11 @@ mod refused;
 
 use crate::files::{file_of, replay_file};
 use crate::groups::part_of;
-use raft_memtable::{Error, FileId, LogQueue, MemTableAccessor, MemTableRecoverContext, Result};
+use raft_memtable::{FileId, LogQueue, MemTableAccessor, MemTableRecoverContext, Result};
 use raft_records::{
     AtomicGroupStatus, Command, FilePart, LogBatch, Message, MessageError, MessageExt,
 };
+use raft_trials::again;
 use std::alloc::Global;
 
 /// An entry of one byte.
@@ -414,10 +415,6 @@ fn holds(alloc: Global, row: &Row) -> Result<bool> {
 #[test]
 fn the_append_queue_lies_over_the_rewrite_queue(rt: HostRuntime) {
     for row in rows() {
-        let mut held = holds(rt.alloc(), row);
-        if matches!(held, Err(Error::Memory)) {
-            held = holds(rt.alloc(), row);
-        }
-        assert!(rt; matches!(held, Ok(true)));
+        assert!(rt; matches!(again!(holds(rt.alloc(), row)), Ok(true)));
     }
 }

@@ -4,6 +4,7 @@ use super::Word::{Clean, Put, Run, Truncate};
 use super::{NONE, Shape, Word, overlaid, part, read, replay, shape_of};
 use crate::files::{replay_file, replay_read};
 use raft_memtable::{Error, FileId, Kept, LogQueue, MemTableRecoverContext, Result};
+use raft_trials::again;
 use std::alloc::Global;
 
 /// Why a call is refused, in which words.
@@ -294,9 +295,5 @@ fn are_refused(alloc: Global) -> Result<bool> {
 
 #[test]
 fn what_does_not_fit_is_refused(rt: HostRuntime) {
-    let mut held = are_refused(rt.alloc());
-    if matches!(held, Err(Error::Memory)) {
-        held = are_refused(rt.alloc());
-    }
-    assert!(rt; matches!(held, Ok(true)));
+    assert!(rt; matches!(again!(are_refused(rt.alloc())), Ok(true)));
 }

@@ -1,9 +1,10 @@
 //! Workers divided between two queues, and thousands of files as shares.
 
-use raft_base::{Error, FileSeq, LogQueue, Result, Version};
+use raft_base::{FileSeq, LogQueue, Result, Version};
 use raft_recover::files::file_segments;
 use raft_recover::recovery::part_of_workers;
 use raft_recover::shares::equal_shares;
+use raft_trials::again;
 use std::alloc::Global;
 
 const MIB: usize = 1 << 20;
@@ -67,9 +68,5 @@ fn are_divided(alloc: Global) -> Result<bool> {
 
 #[test]
 fn thousands_of_files_are_divided(rt: HostRuntime) {
-    let mut divided = are_divided(rt.alloc());
-    if matches!(divided, Err(Error::Memory)) {
-        divided = are_divided(rt.alloc());
-    }
-    assert!(rt; matches!(divided, Ok(true)));
+    assert!(rt; matches!(again!(are_divided(rt.alloc())), Ok(true)));
 }

@@ -4,6 +4,7 @@ use raft_memtable::{
     EntryIndex, Error, FileBlockHandle, FileId, LogQueue, MemTableAccessor, Result, TableChange,
 };
 use raft_recover::print_recovered;
+use raft_trials::again;
 use std::alloc::Global;
 use std::io;
 use std::io::{ErrorKind, Write};
@@ -130,9 +131,5 @@ fn is_handed_on(alloc: Global) -> Result<bool> {
 
 #[test]
 fn each_failing_write_is_handed_on(rt: HostRuntime) {
-    let mut all = is_handed_on(rt.alloc());
-    if matches!(all, Err(Error::Memory)) {
-        all = is_handed_on(rt.alloc());
-    }
-    assert!(rt; matches!(all, Ok(true)));
+    assert!(rt; matches!(again!(is_handed_on(rt.alloc())), Ok(true)));
 }

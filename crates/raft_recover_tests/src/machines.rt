@@ -14,6 +14,7 @@ use raft_recover::{
     Gate, Plan, Segment, Tickets, merge_pieces, piece_count, replay_scheduled, replay_segment,
     replay_segments,
 };
+use raft_trials::again;
 use std::alloc::Global;
 use std::sync::atomic::{AtomicU64, Ordering};
 use std::thread::Threads;
@@ -81,25 +82,14 @@ fn draws(alloc: Global) -> Result<(bool, usize)> {
 
 #[test]
 fn numbers_are_drawn_once(rt: HostRuntime) {
-    let mut drawn = draws(rt.alloc());
-    if matches!(drawn, Err(Error::Memory)) {
-        drawn = draws(rt.alloc());
-    }
-    assert!(rt; matches!(drawn, Ok((true, 5))));
-    let mut nothing = draws_nothing(rt.alloc());
-    if matches!(nothing, Err(Error::Memory)) {
-        nothing = draws_nothing(rt.alloc());
-    }
-    assert!(rt; matches!(nothing, Ok(true)));
+    assert!(rt; matches!(again!(draws(rt.alloc())), Ok((true, 5))));
+    assert!(rt; matches!(again!(draws_nothing(rt.alloc())), Ok(true)));
 }
 
 #[test]
 fn too_many_seats_are_refused(rt: HostRuntime) {
     for &(total, seats) in &[(1 << 62, 1), (3, 0), (3, 1 << 62)] {
-        let mut refused = Tickets::open(rt.alloc(), total, seats);
-        if matches!(refused, Err(Error::Memory)) {
-            refused = Tickets::open(rt.alloc(), total, seats);
-        }
+        let refused = again!(Tickets::open(rt.alloc(), total, seats));
         assert!(rt; matches!(refused, Err(Error::InvalidArgument(_))));
     }
 }
@@ -117,7 +107,7 @@ fn pieces_are_counted(rt: HostRuntime) {
 }
 
 /// Returns the plan of two plans.
-fn join(alloc: Global, left: Plan, right: Plan) -> Result<Plan> {
+pub(crate) fn join(alloc: Global, left: Plan, right: Plan) -> Result<Plan> {
     Ok(Plan::Join(Box::new(alloc, left)?, Box::new(alloc, right)?))
 }
 
@@ -128,13 +118,13 @@ fn pairs(alloc: Global) -> Result<Plan> {
     join(alloc, left, right)
 }
 
-/// Returns the plan that merges so many pieces one by one.
-fn chain(alloc: Global, pieces: usize) -> Result<Plan> {
-    let mut chain = Plan::One;
+/// Returns the plan that merges so many pieces one by one, from the right.
+pub(crate) fn from_right(alloc: Global, pieces: usize) -> Result<Plan> {
+    let mut plan = Plan::One;
     for _ in 1..pieces {
-        chain = join(alloc, Plan::One, chain)?;
+        plan = join(alloc, Plan::One, plan)?;
     }
-    Ok(chain)
+    Ok(plan)
 }
 
 /// Returns the batches of segments that some workers draw so.
@@ -193,7 +183,7 @@ fn schedules(alloc: Global) -> Result<bool> {
     let pairs = pairs(alloc)?;
     Ok(
         is_read(alloc, 5, 15, &pairs)?
-            && is_read(alloc, 5, 15, &chain(alloc, 4)?)?
+            && is_read(alloc, 5, 15, &from_right(alloc, 4)?)?
             && is_read(alloc, 0, 0, &pairs)?,
     )
 }
@@ -233,7 +223,7 @@ fn is_told(
     text: &str,
 ) -> Result<bool> {
     let segments = segments(alloc, number)?;
-    let three = chain(alloc, 3)?;
+    let three = from_right(alloc, 3)?;
     match scheduled(alloc, segments.as_slice(), workers, draws, &three) {
         Ok(list) => Ok(text.is_empty() && has_all(&list, number)),
         Err(Error::InvalidArgument(told)) => Ok(told.as_str() == text),
@@ -256,20 +246,12 @@ fn misfits(alloc: Global) -> Result<bool> {
 
 #[test]
 fn schedules_that_dont_fit_are_refused(rt: HostRuntime) {
-    let mut all = misfits(rt.alloc());
-    if matches!(all, Err(Error::Memory)) {
-        all = misfits(rt.alloc());
-    }
-    assert!(rt; matches!(all, Ok(true)));
+    assert!(rt; matches!(again!(misfits(rt.alloc())), Ok(true)));
 }
 
 #[test]
 fn schedules_give_one_reading(rt: HostRuntime) {
-    let mut all = schedules(rt.alloc());
-    if matches!(all, Err(Error::Memory)) {
-        all = schedules(rt.alloc());
-    }
-    assert!(rt; matches!(all, Ok(true)));
+    assert!(rt; matches!(again!(schedules(rt.alloc())), Ok(true)));
 }
 
 /// Writes down which segments it was told, and how many.
@@ -318,17 +300,10 @@ fn by_workers<R: Threads + Sync>(rt: &R, alloc: Global, workers: usize) -> Resul
 #[test]
 fn workers_give_one_reading(rt: HostRuntime) {
     for &workers in &[1, 2, 4, 256] {
-        let mut all = by_workers(&rt, rt.alloc(), workers);
-        if matches!(all, Err(Error::Memory)) {
-            all = by_workers(&rt, rt.alloc(), workers);
-        }
-        assert!(rt; matches!(all, Ok(true)));
+        assert!(rt; matches!(again!(by_workers(&rt, rt.alloc(), workers)), Ok(true)));
     }
     for &workers in &[0, 257] {
-        let mut refused = by_workers(&rt, rt.alloc(), workers);
-        if matches!(refused, Err(Error::Memory)) {
-            refused = by_workers(&rt, rt.alloc(), workers);
-        }
+        let refused = again!(by_workers(&rt, rt.alloc(), workers));
         assert!(rt; matches!(refused, Err(Error::InvalidArgument(_))));
     }
 }
@@ -357,11 +332,7 @@ fn passes<R: Threads + Clock + Send + Sync + Copy + Drop>(
 #[test]
 fn no_worker_waits_for_another(rt: HostRuntime) {
     for &held in &[(0, 1), (1, 2)] {
-        let mut all = passes(&rt, rt.alloc(), held);
-        if matches!(all, Err(Error::Memory)) {
-            all = passes(&rt, rt.alloc(), held);
-        }
-        assert!(rt; matches!(all, Ok(true)));
+        assert!(rt; matches!(again!(passes(&rt, rt.alloc(), held)), Ok(true)));
     }
 }
 
@@ -395,14 +366,6 @@ fn works<R: Threads + Clock + Send + Sync + Copy + Drop>(rt: &R, alloc: Global) 
 
 #[test]
 fn workers_and_branches_go_at_once(rt: HostRuntime) {
-    let mut seen = merges(&rt, rt.alloc());
-    if matches!(seen, Err(Error::Memory)) {
-        seen = merges(&rt, rt.alloc());
-    }
-    assert!(rt; matches!(seen, Ok(3)));
-    let mut all = works(&rt, rt.alloc());
-    if matches!(all, Err(Error::Memory)) {
-        all = works(&rt, rt.alloc());
-    }
-    assert!(rt; matches!(all, Ok(11)));
+    assert!(rt; matches!(again!(merges(&rt, rt.alloc())), Ok(3)));
+    assert!(rt; matches!(again!(works(&rt, rt.alloc())), Ok(11)));
 }

@@ -22,6 +22,7 @@ use raft_recover::files::file_segments;
 use raft_recover::recovery::recover_segments;
 use raft_recover::shares::equal_shares;
 use raft_recover::{Segment, recover_bytes};
+use raft_trials::again;
 use rows::rows;
 use std::alloc::Global;
 use std::thread::Threads;
@@ -152,16 +153,11 @@ fn both_have<R: Threads + Sync>(
     )
 }
 
-/// Runs each row, once more where an allocation is refused: it has to find memory then.
 #[test]
 fn no_cut_shows(rt: HostRuntime) {
     for list in [rows(), truncations(), histories()] {
         for row in list {
-            let mut all = at_each_cutting(&rt, rt.alloc(), row);
-            if matches!(all, Err(Error::Memory)) {
-                all = at_each_cutting(&rt, rt.alloc(), row);
-            }
-            assert!(rt; matches!(all, Ok(true)));
+            assert!(rt; matches!(again!(at_each_cutting(&rt, rt.alloc(), row)), Ok(true)));
         }
     }
 }
@@ -169,11 +165,7 @@ fn no_cut_shows(rt: HostRuntime) {
 #[test]
 fn no_cut_shows_in_front_of_one_more_batch(rt: HostRuntime) {
     for row in [truncated(), with_a_hole()] {
-        let mut all = at_each_cutting(&rt, rt.alloc(), row);
-        if matches!(all, Err(Error::Memory)) {
-            all = at_each_cutting(&rt, rt.alloc(), row);
-        }
-        assert!(rt; matches!(all, Ok(true)));
+        assert!(rt; matches!(again!(at_each_cutting(&rt, rt.alloc(), row)), Ok(true)));
     }
 }
 
@@ -259,10 +251,7 @@ fn files_have_their_tables(rt: HostRuntime) {
     for list in [rows(), truncations(), histories()] {
         for row in list {
             for &(version, workers) in &FILE_READINGS {
-                let mut held = files_have(&rt, rt.alloc(), row, version, workers);
-                if matches!(held, Err(Error::Memory)) {
-                    held = files_have(&rt, rt.alloc(), row, version, workers);
-                }
+                let held = again!(files_have(&rt, rt.alloc(), row, version, workers));
                 assert!(rt; matches!(held, Ok(true)), "{workers} workers");
             }
         }

@@ -2,6 +2,7 @@
 
 use raft_base::Result;
 use raft_recover::{run, run_without_words};
+use raft_trials::again;
 use std::alloc::Global;
 use std::io::{ErrorKind, Read, Write};
 use std::rt::Files;
@@ -262,10 +263,7 @@ fn words_that_cannot_be_read(rt: HostRuntime) {
         (ErrorKind::OutOfMemory, 1, "raftlog: refused: memory\n"),
         (ErrorKind::InvalidData, 2, "usage: raftlog"),
     ] {
-        let mut ended = ends_without_words(rt.alloc(), kind, status, err);
-        if ended.is_err() {
-            ended = ends_without_words(rt.alloc(), kind, status, err);
-        }
+        let ended = again!(ends_without_words(rt.alloc(), kind, status, err));
         assert!(rt; matches!(ended, Ok(true)));
     }
 }

@@ -5,6 +5,7 @@ use raft_records::{FilePart, LogItemContent, entries_block_in, entry_bytes, next
 use raft_recover::Segment;
 use raft_recover::files::file_segments;
 use raft_recover::shares::equal_shares;
+use raft_trials::again;
 use std::alloc::Global;
 use std::process::Abort;
 
@@ -74,10 +75,7 @@ fn share_bytes(
 
 #[test]
 fn shares_are_of_one_length(rt: HostRuntime) -> Result<()> {
-    match all_shares(&rt, rt.alloc()) {
-        Err(Error::Memory) => all_shares(&rt, rt.alloc()),
-        shares => shares,
-    }
+    again!(all_shares(&rt, rt.alloc()))
 }
 
 fn all_shares(rt: &impl Abort, alloc: Global) -> Result<()> {
@@ -155,10 +153,7 @@ fn entries_read_back(alloc: Global, shares: &[Segment]) -> Result<u64> {
 #[test]
 fn shares_have_the_entries(rt: HostRuntime) {
     for &count in &[1usize, 2, 3] {
-        let mut read = shares_read_back(rt.alloc(), count);
-        if matches!(read, Err(Error::Memory)) {
-            read = shares_read_back(rt.alloc(), count);
-        }
+        let read = again!(shares_read_back(rt.alloc(), count));
         assert!(rt;
             matches!(read, Ok((12, shares)) if shares == count),
             "{count} shares"

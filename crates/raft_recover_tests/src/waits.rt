@@ -3,22 +3,11 @@
 use raft_base::{Factory, FileId, LogQueue, Result};
 use raft_records::LogItemBatch;
 use raft_recover::{Gate, ReplayMachine};
+use raft_trials::is_reached;
 use std::alloc::Global;
 use std::sync::Arc;
 use std::sync::atomic::{AtomicU64, Ordering};
-use std::thread;
-use std::time::{Clock, Duration};
-
-/// Tests whether the number is reached within ten thousand sleeps of a millisecond.
-pub(crate) fn is_reached<R: Clock>(rt: &R, number: &AtomicU64, goal: u64) -> bool {
-    for _ in 0..10_000 {
-        if number.load(Ordering::SeqCst) >= goal {
-            return true;
-        }
-        thread::sleep(rt, Duration::from_millis(1));
-    }
-    false
-}
+use std::time::Clock;
 
 /// Returns the bit of a number below 64.
 fn bit(number: u64) -> u64 {

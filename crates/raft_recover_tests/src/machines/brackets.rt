@@ -1,10 +1,11 @@
 //! A machine that writes down what was replayed and merged.
 
-use crate::machines::{chain, pairs, segments};
+use crate::machines::{from_right, pairs, segments};
 use crate::waits::WaitGate;
 use raft_base::{Error, Factory, FileId, LogQueue, Result};
 use raft_records::LogItemBatch;
 use raft_recover::{Plan, ReplayMachine, merge_pieces, replay_scheduled, replay_segments};
+use raft_trials::again;
 use std::alloc::Global;
 use std::sync::atomic::Ordering;
 use std::thread::Threads;
@@ -88,7 +89,7 @@ fn go_by_plan<R: Threads + Sync>(rt: &R, alloc: Global) -> Result<bool> {
             && is_merged(
                 rt,
                 alloc,
-                &chain(alloc, 4)?,
+                &from_right(alloc, 4)?,
                 "(./(.//(././)))",
                 "(.(.(..)))",
             )?,
@@ -111,7 +112,7 @@ fn is_merged<R: Threads + Sync>(
 
 /// Tests whether worker 0 draws past the end of the draws, and no plan of four pieces merges another number of them.
 fn end_by_rule<R: Threads + Sync>(rt: &R, alloc: Global) -> Result<bool> {
-    if scheduled(alloc, &[1], &chain(alloc, 2)?)?.as_str() != "(././///)" {
+    if scheduled(alloc, &[1], &from_right(alloc, 2)?)?.as_str() != "(././///)" {
         return Ok(false);
     }
     let pairs = pairs(alloc)?;
@@ -127,16 +128,8 @@ fn end_by_rule<R: Threads + Sync>(rt: &R, alloc: Global) -> Result<bool> {
 
 #[test]
 fn pieces_are_merged_as_the_plan_says(rt: HostRuntime) {
-    let mut all = go_by_plan(&rt, rt.alloc());
-    if matches!(all, Err(Error::Memory)) {
-        all = go_by_plan(&rt, rt.alloc());
-    }
-    assert!(rt; matches!(all, Ok(true)));
-    let mut rest = end_by_rule(&rt, rt.alloc());
-    if matches!(rest, Err(Error::Memory)) {
-        rest = end_by_rule(&rt, rt.alloc());
-    }
-    assert!(rt; matches!(rest, Ok(true)));
+    assert!(rt; matches!(again!(go_by_plan(&rt, rt.alloc())), Ok(true)));
+    assert!(rt; matches!(again!(end_by_rule(&rt, rt.alloc())), Ok(true)));
 }
 
 /// How many workers replay how many segments, how many of these from the first on wait until all are passed,
@@ -168,10 +161,7 @@ fn is_worked<R: Threads + Clock + Send + Sync + Copy + Drop>(
 #[test]
 fn workers_make_pieces_and_merge_them_by_halves(rt: HostRuntime) {
     for &(workers, count, waiting, text) in &WORKED {
-        let mut worked = is_worked(&rt, rt.alloc(), workers, count, waiting, text);
-        if matches!(worked, Err(Error::Memory)) {
-            worked = is_worked(&rt, rt.alloc(), workers, count, waiting, text);
-        }
+        let worked = again!(is_worked(&rt, rt.alloc(), workers, count, waiting, text));
         assert!(rt; matches!(worked, Ok(true)), "{workers} workers");
     }
 }

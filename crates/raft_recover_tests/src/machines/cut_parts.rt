@@ -1,9 +1,10 @@
 //! Parts that are cut between batches.
 
 use super::CLEAN;
-use raft_base::{Error, FileId, LogQueue, Result, Version};
+use raft_base::{FileId, LogQueue, Result, Version};
 use raft_records::FilePart;
 use raft_recover::cut_part;
+use raft_trials::again;
 use std::alloc::Global;
 
 /// How many batches of 24 bytes stand in a part, how many bytes that are no header after them, into how many
@@ -82,10 +83,7 @@ fn is_cut(
 fn parts_are_cut_between_batches(rt: HostRuntime) {
     for &version in &[Version::V1, Version::V2] {
         for (batches, behind, count, lengths) in cuts() {
-            let mut cut = is_cut(rt.alloc(), version, *batches, *behind, *count, *lengths);
-            if matches!(cut, Err(Error::Memory)) {
-                cut = is_cut(rt.alloc(), version, *batches, *behind, *count, *lengths);
-            }
+            let cut = again!(is_cut(rt.alloc(), version, *batches, *behind, *count, *lengths));
             assert!(rt; matches!(cut, Ok(true)), "{batches} {behind} {count}");
         }
     }

@@ -2,11 +2,11 @@
 
 use super::list_machine::{List, Lists};
 use super::{has_all, join, segment, segments};
-use crate::waits::is_reached;
-use raft_base::{Error, Factory, LogQueue, Result};
+use raft_base::{Factory, LogQueue, Result};
 use raft_recover::{
     Gate, Plan, Segment, merge_pieces, replay_scheduled, replay_segment, replay_segments,
 };
+use raft_trials::{again, is_reached};
 use std::alloc::Global;
 use std::sync::atomic::{AtomicU64, Ordering};
 use std::thread::{Builder, Threads};
@@ -112,10 +112,7 @@ fn goes_down_on_little<R: Threads + Send + Sync + Copy + Drop + 'static>(
 #[test]
 fn plans_as_long_as_lists_take_little_stack(rt: HostRuntime) {
     for &down_left in &[true, false] {
-        let mut all = goes_down_on_little(rt, rt.alloc(), down_left);
-        if matches!(all, Err(Error::Memory)) {
-            all = goes_down_on_little(rt, rt.alloc(), down_left);
-        }
+        let all = again!(goes_down_on_little(rt, rt.alloc(), down_left));
         assert!(rt; matches!(all, Ok(true)), "{down_left}");
     }
 }
@@ -155,9 +152,5 @@ fn hundred<R: Threads + Clock + Send + Sync + Copy + Drop>(rt: &R, alloc: Global
 
 #[test]
 fn a_hundred_pieces_are_merged(rt: HostRuntime) {
-    let mut all = hundred(&rt, rt.alloc());
-    if matches!(all, Err(Error::Memory)) {
-        all = hundred(&rt, rt.alloc());
-    }
-    assert!(rt; matches!(all, Ok(true)));
+    assert!(rt; matches!(again!(hundred(&rt, rt.alloc())), Ok(true)));
 }

@@ -5,6 +5,7 @@ use super::{join, segment};
 use crate::waits::WaitGate;
 use raft_base::{Error, Factory, LogQueue, Result};
 use raft_recover::{Plan, Segment, replay_scheduled, replay_segments};
+use raft_trials::again;
 use std::alloc::Global;
 use std::sync::atomic::{AtomicU64, Ordering};
 use std::thread::Threads;
@@ -117,10 +118,7 @@ fn told<R: Threads + Clock + Send + Sync + Copy + Drop>(
 #[test]
 fn refusals_are_handed_on(rt: HostRuntime) {
     for &(by_worker, files, given, what) in &REFUSALS {
-        let mut answer = told(&rt, rt.alloc(), by_worker, files, given);
-        if matches!(answer, Err(Error::Memory)) {
-            answer = told(&rt, rt.alloc(), by_worker, files, given);
-        }
+        let answer = again!(told(&rt, rt.alloc(), by_worker, files, given));
         assert!(rt;
             answer.is_ok_and(|(refused, untouched)| {
                 refused == Some(what) && untouched == (what == What::Queue)

@@ -7,6 +7,7 @@ use raft_base::{
 use raft_records::{Command, FilePart, LogBatch};
 use raft_recover::recovered::recovered_text;
 use raft_recover::{Segment, recover_both};
+use raft_trials::again;
 use std::alloc::Global;
 use std::thread::Threads;
 
@@ -185,11 +186,7 @@ fn both_queues_have_their_tables(rt: HostRuntime) {
             (1 << 18, 2),
             (1 << 18, 4),
         ] {
-            let mut held = holds(&rt, rt.alloc(), row, len, workers);
-            if matches!(held, Err(Error::Memory)) {
-                held = holds(&rt, rt.alloc(), row, len, workers);
-            }
-            assert!(rt; matches!(held, Ok(true)));
+            assert!(rt; matches!(again!(holds(&rt, rt.alloc(), row, len, workers)), Ok(true)));
         }
     }
 }

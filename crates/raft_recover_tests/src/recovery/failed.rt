@@ -6,6 +6,7 @@ use super::pieces::History;
 use raft_base::{Error, FileId, FileSeq, LogQueue, Result};
 use raft_memtable::MemTableRecoverContext;
 use raft_records::LogItemBatch;
+use raft_trials::again;
 use std::alloc::Global;
 
 /// How a call is refused, if it is.
@@ -77,11 +78,7 @@ fn refused_batch_stays_failed(alloc: Global) -> Result<bool> {
 
 #[test]
 fn refused_contexts_stay_failed(rt: HostRuntime) {
-    let mut failed = refused_batch_stays_failed(rt.alloc());
-    if matches!(failed, Err(Error::Memory)) {
-        failed = refused_batch_stays_failed(rt.alloc());
-    }
-    assert!(rt; matches!(failed, Ok(true)));
+    assert!(rt; matches!(again!(refused_batch_stays_failed(rt.alloc())), Ok(true)));
 }
 
 /// A run of region 1, and one that leaves a hole after it.
@@ -133,11 +130,7 @@ fn refused_neighbor_is_of_no_use(alloc: Global) -> Result<bool> {
 
 #[test]
 fn refused_merges_stay_failed(rt: HostRuntime) {
-    let mut failed = refused_neighbor_is_of_no_use(rt.alloc());
-    if matches!(failed, Err(Error::Memory)) {
-        failed = refused_neighbor_is_of_no_use(rt.alloc());
-    }
-    assert!(rt; matches!(failed, Ok(true)));
+    assert!(rt; matches!(again!(refused_neighbor_is_of_no_use(rt.alloc())), Ok(true)));
 }
 
 /// A batch of an older context and those of a newer one, whose runs leave a hole together, and what is said of it. No
@@ -174,10 +167,7 @@ fn told_by_merge(alloc: Global, batches: &[Batch]) -> Result<String> {
 #[test]
 fn merges_tell_of_holes(rt: HostRuntime) {
     for &(batches, text) in &HOLES {
-        let mut told = told_by_merge(rt.alloc(), batches);
-        if matches!(told, Err(Error::Memory)) {
-            told = told_by_merge(rt.alloc(), batches);
-        }
+        let told = again!(told_by_merge(rt.alloc(), batches));
         assert!(rt; told.is_ok_and(|told| told.as_str() == text), "{text}");
     }
 }

@@ -9,6 +9,7 @@ use super::rows::rows;
 use super::truncations::truncations;
 use raft_base::{Error, LogQueue, Result};
 use raft_memtable::{Kept, MemTableRecoverContext};
+use raft_trials::again;
 use std::alloc::Global;
 
 /// Tests whether all contexts on the way of a row's batches hold no more than their own batches let them, and the merged
@@ -25,10 +26,7 @@ fn row_holds_little(alloc: Global, row: &Row) -> Result<bool> {
 fn merged_rows_hold_little(rt: HostRuntime) {
     for list in [rows(), truncations(), histories()] {
         for row in list {
-            let mut all = row_holds_little(rt.alloc(), row);
-            if matches!(all, Err(Error::Memory)) {
-                all = row_holds_little(rt.alloc(), row);
-            }
+            let all = again!(row_holds_little(rt.alloc(), row));
             assert!(rt; matches!(all, Ok(true)), "{:?}", row.batches);
         }
     }
@@ -37,10 +35,7 @@ fn merged_rows_hold_little(rt: HostRuntime) {
 #[test]
 fn merged_contexts_before_one_more_batch_hold_little(rt: HostRuntime) {
     for row in [truncated(), with_a_hole()] {
-        let mut all = row_holds_little(rt.alloc(), row);
-        if matches!(all, Err(Error::Memory)) {
-            all = row_holds_little(rt.alloc(), row);
-        }
+        let all = again!(row_holds_little(rt.alloc(), row));
         assert!(rt; matches!(all, Ok(true)), "{:?}", row.lines);
     }
 }
@@ -171,10 +166,7 @@ fn holds_no_more(alloc: Global, row: &Counted) -> Result<bool> {
 #[test]
 fn contexts_hold_little(rt: HostRuntime) {
     for row in counted_rows() {
-        let mut held = holds_no_more(rt.alloc(), row);
-        if matches!(held, Err(Error::Memory)) {
-            held = holds_no_more(rt.alloc(), row);
-        }
+        let held = again!(holds_no_more(rt.alloc(), row));
         assert!(rt; matches!(held, Ok(true)), "{:?}", row.newer);
     }
 }

@@ -5,9 +5,11 @@ use super::owed::Row;
 use super::rows::{FIVE_OWED, rows};
 use super::truncations::truncations;
 use super::{cut, cuttings, have};
+use crate::machines::{from_right, join};
 use raft_base::{Error, Result, Version};
 use raft_memtable::{MemTableRecoverContext, MemTableRecoverContextFactory};
 use raft_recover::{Plan, Segment, piece_count, replay_scheduled};
+use raft_trials::again;
 use std::alloc::Global;
 use std::thread::Threads;
 
@@ -42,11 +44,6 @@ fn schedules() -> &'static [(Draws, Order)] {
     &SCHEDULES
 }
 
-/// Returns the plan of two plans.
-fn join(alloc: Global, left: Plan, right: Plan) -> Result<Plan> {
-    Ok(Plan::Join(Box::new(alloc, left)?, Box::new(alloc, right)?))
-}
-
 /// Returns the plan that merges so many pieces.
 fn plan_of(alloc: Global, pieces: usize, order: Order) -> Result<Plan> {
     match order {
@@ -60,14 +57,6 @@ fn from_left(alloc: Global, pieces: usize) -> Result<Plan> {
     let mut plan = Plan::One;
     for _ in 1..pieces {
         plan = join(alloc, plan, Plan::One)?;
-    }
-    Ok(plan)
-}
-
-fn from_right(alloc: Global, pieces: usize) -> Result<Plan> {
-    let mut plan = Plan::One;
-    for _ in 1..pieces {
-        plan = join(alloc, Plan::One, plan)?;
     }
     Ok(plan)
 }
@@ -141,11 +130,7 @@ fn nothing_shows(alloc: Global, row: &Row) -> Result<bool> {
 
 #[test]
 fn plans_pass_segments_without_parts(rt: HostRuntime) {
-    let mut all = nothing_shows(rt.alloc(), &FIVE_OWED);
-    if matches!(all, Err(Error::Memory)) {
-        all = nothing_shows(rt.alloc(), &FIVE_OWED);
-    }
-    assert!(rt; matches!(all, Ok(true)));
+    assert!(rt; matches!(again!(nothing_shows(rt.alloc(), &FIVE_OWED)), Ok(true)));
 }
 
 /// Tests whether none shows to so many workers.
@@ -167,10 +152,7 @@ fn nothing_shows_to<R: Threads + Sync>(
 #[test]
 fn workers_pass_segments_without_parts(rt: HostRuntime) {
     for &workers in &[1, 2, 256] {
-        let mut all = nothing_shows_to(&rt, rt.alloc(), &FIVE_OWED, workers);
-        if matches!(all, Err(Error::Memory)) {
-            all = nothing_shows_to(&rt, rt.alloc(), &FIVE_OWED, workers);
-        }
+        let all = again!(nothing_shows_to(&rt, rt.alloc(), &FIVE_OWED, workers));
         assert!(rt; matches!(all, Ok(true)), "{workers} workers");
     }
 }
@@ -179,11 +161,7 @@ fn workers_pass_segments_without_parts(rt: HostRuntime) {
 fn plans_give_one_reading(rt: HostRuntime) {
     for list in [rows(), truncations()] {
         for row in list {
-            let mut all = at_each_cutting(rt.alloc(), row);
-            if matches!(all, Err(Error::Memory)) {
-                all = at_each_cutting(rt.alloc(), row);
-            }
-            assert!(rt; matches!(all, Ok(true)));
+            assert!(rt; matches!(again!(at_each_cutting(rt.alloc(), row)), Ok(true)));
         }
     }
 }
@@ -191,28 +169,16 @@ fn plans_give_one_reading(rt: HostRuntime) {
 #[test]
 fn plans_give_one_reading_of_histories(rt: HostRuntime) {
     for row in histories() {
-        let mut all = at_each_cutting(rt.alloc(), row);
-        if matches!(all, Err(Error::Memory)) {
-            all = at_each_cutting(rt.alloc(), row);
-        }
-        assert!(rt; matches!(all, Ok(true)));
+        assert!(rt; matches!(again!(at_each_cutting(rt.alloc(), row)), Ok(true)));
     }
 }
 
 #[test]
 fn plans_give_one_reading_before_a_truncation(rt: HostRuntime) {
-    let mut all = at_each_cutting(rt.alloc(), truncated());
-    if matches!(all, Err(Error::Memory)) {
-        all = at_each_cutting(rt.alloc(), truncated());
-    }
-    assert!(rt; matches!(all, Ok(true)));
+    assert!(rt; matches!(again!(at_each_cutting(rt.alloc(), truncated())), Ok(true)));
 }
 
 #[test]
 fn no_plan_hides_a_hole(rt: HostRuntime) {
-    let mut all = at_each_cutting(rt.alloc(), with_a_hole());
-    if matches!(all, Err(Error::Memory)) {
-        all = at_each_cutting(rt.alloc(), with_a_hole());
-    }
-    assert!(rt; matches!(all, Ok(true)));
+    assert!(rt; matches!(again!(at_each_cutting(rt.alloc(), with_a_hole())), Ok(true)));
 }

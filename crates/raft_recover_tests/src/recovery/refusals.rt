@@ -7,6 +7,7 @@ use raft_records::FilePart;
 use raft_recover::files::file_segments;
 use raft_recover::recovery::recover_segments;
 use raft_recover::{MemTableAccessor, Segment, recover, recover_both};
+use raft_trials::again;
 use std::alloc::Global;
 use std::thread::Threads;
 
@@ -163,10 +164,7 @@ fn is_told<R: Threads + Sync>(rt: &R, alloc: Global, number: usize, text: &str) 
 #[test]
 fn refusals_name_file_and_offset(rt: HostRuntime) {
     for (number, text) in cut_short_texts().iter().enumerate() {
-        let mut told = is_told(&rt, rt.alloc(), number, text);
-        if matches!(told, Err(Error::Memory)) {
-            told = is_told(&rt, rt.alloc(), number, text);
-        }
+        let told = again!(is_told(&rt, rt.alloc(), number, text));
         assert!(rt; matches!(told, Ok(true)), "batch {number}");
     }
 }
@@ -199,10 +197,7 @@ fn is_place_told<R: Threads + Sync>(
 #[test]
 fn refusals_in_files_name_the_batch(rt: HostRuntime) {
     for (number, text) in cut_short_texts().iter().enumerate() {
-        let mut told = is_place_told(&rt, rt.alloc(), number, text);
-        if matches!(told, Err(Error::Memory)) {
-            told = is_place_told(&rt, rt.alloc(), number, text);
-        }
+        let told = again!(is_place_told(&rt, rt.alloc(), number, text));
         assert!(rt; matches!(told, Ok(true)), "batch {number}");
     }
 }
@@ -233,11 +228,7 @@ fn is_hole_told<R: Threads + Sync>(rt: &R, alloc: Global) -> Result<bool> {
 
 #[test]
 fn holes_are_told_in_one_wording(rt: HostRuntime) {
-    let mut told = is_hole_told(&rt, rt.alloc());
-    if matches!(told, Err(Error::Memory)) {
-        told = is_hole_told(&rt, rt.alloc());
-    }
-    assert!(rt; matches!(told, Ok(true)));
+    assert!(rt; matches!(again!(is_hole_told(&rt, rt.alloc())), Ok(true)));
 }
 
 /// Tests whether a call says this of so many workers on a queue; nothing where it takes them.
@@ -265,10 +256,7 @@ fn arguments_are_told(rt: HostRuntime) {
             (LogQueue::Append, 257, OTHER_WORKERS),
             (LogQueue::Rewrite, 1, OTHER_QUEUE),
         ] {
-            let mut told = is_argument_told(&rt, rt.alloc(), call, queue, workers, text);
-            if matches!(told, Err(Error::Memory)) {
-                told = is_argument_told(&rt, rt.alloc(), call, queue, workers, text);
-            }
+            let told = again!(is_argument_told(&rt, rt.alloc(), call, queue, workers, text));
             assert!(rt; matches!(told, Ok(true)), "{workers} workers: {text}");
         }
     }
@@ -350,10 +338,7 @@ fn is_mixture_told<R: Threads + Sync>(
 #[test]
 fn parts_of_another_queue_are_told(rt: HostRuntime) {
     for (row, (queues, queue, text)) in mixtures().iter().enumerate() {
-        let mut told = is_mixture_told(&rt, rt.alloc(), queues, *queue, text);
-        if matches!(told, Err(Error::Memory)) {
-            told = is_mixture_told(&rt, rt.alloc(), queues, *queue, text);
-        }
+        let told = again!(is_mixture_told(&rt, rt.alloc(), queues, *queue, text));
         assert!(rt; matches!(told, Ok(true)), "row {row}");
     }
 }
@@ -370,10 +355,11 @@ fn is_spelling_told<R: Threads + Sync>(
     let files = whole_files(alloc, Version::V1, &batches)?;
     let whole = file_segments(LogQueue::Append, Version::V1, files)?;
     for read in [segments.as_slice(), whole.as_slice()] {
-        let Err(error) = recover(rt, alloc, read, LogQueue::Append, 2) else {
-            return Ok(false);
+        let told = match recover(rt, alloc, read, LogQueue::Append, 2) {
+            Ok(_tables) => return Ok(false),
+            Err(Error::Memory) => return Err(Error::Memory),
+            Err(error) => format!(in alloc; "{error}")?,
         };
-        let told = format!(in alloc; "{error}")?;
         if told.as_str() != text {
             return Ok(false);
         }
@@ -384,10 +370,7 @@ fn is_spelling_told<R: Threads + Sync>(
 #[test]
 fn refused_spellings_name_file_and_offset(rt: HostRuntime) {
     for &(digits, text) in spellings() {
-        let mut told = is_spelling_told(&rt, rt.alloc(), digits, text);
-        if !matches!(told, Ok(true)) {
-            told = is_spelling_told(&rt, rt.alloc(), digits, text);
-        }
+        let told = again!(is_spelling_told(&rt, rt.alloc(), digits, text));
         assert!(rt; matches!(told, Ok(true)), "{text}");
     }
 }

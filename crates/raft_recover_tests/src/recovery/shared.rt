@@ -3,10 +3,11 @@
 use super::histories::histories;
 use super::rows::FIVE_OWED;
 use super::{cut, owed};
-use raft_base::{Error, FileSeq, LogQueue, Result, Version};
+use raft_base::{FileSeq, LogQueue, Result, Version};
 use raft_memtable::MemTable;
 use raft_records::LogBatch;
 use raft_recover::{SharedAccessor, recover};
+use raft_trials::again;
 use std::alloc::Global;
 use std::sync::Wait;
 use std::thread::Threads;
@@ -145,24 +146,11 @@ fn live<R: Wait>(rt: &R, shared: &SharedAccessor) -> (u128, u128) {
     )
 }
 
-/// Tests whether a history's row holds, once more where an allocation is refused: it has to find memory then.
-fn holds_at_last<R: Threads + Wait + Sync>(
-    rt: &R,
-    alloc: Global,
-    history: &owed::Row,
-    row: &Row,
-) -> Result<bool> {
-    match holds(rt, alloc, history, row) {
-        Err(Error::Memory) => holds(rt, alloc, history, row),
-        held => held,
-    }
-}
-
 #[test]
 fn recovered_tables_are_shared(rt: HostRuntime) {
-    assert!(rt; matches!(holds_at_last(&rt, rt.alloc(), &FIVE_OWED, &FIVE), Ok(true)));
+    assert!(rt; matches!(again!(holds(&rt, rt.alloc(), &FIVE_OWED, &FIVE)), Ok(true)));
     for (history, row) in histories().iter().zip(history_rows()) {
-        let held = holds_at_last(&rt, rt.alloc(), history, row);
+        let held = again!(holds(&rt, rt.alloc(), history, row));
         assert!(rt; matches!(held, Ok(true)), "{:?}", row.tables);
     }
 }

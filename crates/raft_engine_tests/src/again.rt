@@ -6,7 +6,7 @@ ghost use Rattle.std.specs.Prelude.{◌≡◌};
 use crate::batches::Part;
 use crate::batches::Part::{Clean, Compact, Delete, Entries, Large, Put, Truncate};
 use crate::calls::{
-    count_files, ended, open, purge, purge_rewrites, rewrite, rewrite_again, rotate, write,
+    count_files, holds, open, purge, purge_rewrites, rewrite, rewrite_again, rotate, write,
 };
 use crate::reopened::{holds, is_found, moved};
 use raft_base::{FileBlockHandle, FileSeq, LogQueue, Version};
@@ -88,11 +88,10 @@ fn change_stays_in<R: Threads + Sync>(
 #[test]
 fn records_move_again(rt: HostRuntime) {
     for (row, (parts, left)) in CHANGES.iter().enumerate() {
-        let mut held = ended(change_stays(&rt, rt.alloc(), parts, left));
-        if held.is_none() {
-            held = ended(change_stays(&rt, rt.alloc(), parts, left));
-        }
-        assert!(rt; matches!(held, Some(true)), "row {row}");
+        assert!(rt;
+            holds!(change_stays(&rt, rt.alloc(), parts, left)),
+            "row {row}"
+        );
     }
 }
 
@@ -273,10 +272,10 @@ fn moves_in_calls<R: Threads + Sync>(rt: &R, alloc: Global, moving: &Moving) -> 
 #[test]
 fn files_that_fail_lose_nothing(rt: HostRuntime) {
     for moving in &MOVING {
-        let mut held = ended(moves_in_calls(&rt, rt.alloc(), moving));
-        if held.is_none() {
-            held = ended(moves_in_calls(&rt, rt.alloc(), moving));
-        }
-        assert!(rt; matches!(held, Some(true)), "{}", moving.text);
+        assert!(rt;
+            holds!(moves_in_calls(&rt, rt.alloc(), moving)),
+            "{}",
+            moving.text
+        );
     }
 }

@@ -157,13 +157,18 @@ pub fn ended(held: Result<bool>) -> Option<bool> {
     }
 }
 
-pub fn is_true(held: Result<bool>) -> bool {
-    matches!(held, Ok(true))
+/// Tests whether a call holds; one that found no memory is made once more, and has to find it then.
+macro_rules! holds {
+    ($call:expr) => {{
+        let mut held = crate::calls::ended($call);
+        if held.is_none() {
+            held = crate::calls::ended($call);
+        }
+        matches!(held, Some(true))
+    }};
 }
 
-pub fn is_corruption<T: Drop>(answer: Result<T>) -> bool {
-    matches!(answer, Err(Error::Corruption(_)))
-}
+pub(crate) use holds;
 
 /// Tests whether a call is refused as damage. Another refusal is handed on.
 pub fn finds_damage<T: Drop>(answer: Result<T>) -> Result<bool> {

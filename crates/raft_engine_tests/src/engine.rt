@@ -275,7 +275,7 @@ impl Engine {
         let part = part_of(file)?;
         let (end, _) = readable_front(&part);
         for at in end..part.bytes().len() {
-            if at > end && next_batch(&part, at).is_ok() {
+            if at > end && finds_batch(next_batch(&part, at))? {
                 return Ok(true);
             }
         }
@@ -395,7 +395,12 @@ fn has_batch_behind(part: &FilePart, at: usize) -> Result<bool> {
     if end >= part.bytes().len() {
         return Ok(false);
     }
-    match next_batch(part, end) {
+    finds_batch(next_batch(part, end))
+}
+
+/// Tests whether a batch is readable. Want of memory is handed on.
+fn finds_batch<T: Drop>(read: Result<T>) -> Result<bool> {
+    match read {
         Ok(_) => Ok(true),
         Err(Error::Memory) => Err(Error::Memory),
         Err(_) => Ok(false),

@@ -5,7 +5,7 @@ use crate::again::{empty_append_files, is_found_again};
 use crate::batches::Part::{Begin, Clean, Compact, End, Entries, Middle, Put};
 use crate::batches::{Part, batch_of};
 use crate::calls::{
-    LogFiles, count_files, ended, finds_invalid, open, purge_rewrites, rewrite_again, write,
+    LogFiles, count_files, finds_invalid, holds, open, purge_rewrites, rewrite_again, write,
 };
 use crate::reopened::{holds, is_found};
 use raft_base::{FileId, FileSeq, LogFileContext, LogQueue, Version};
@@ -165,11 +165,10 @@ fn is_held<R: Threads + Sync>(
 #[test]
 fn groups_in_rows_are_found(rt: HostRuntime) {
     for (row, (files, left)) in ROWS.iter().enumerate() {
-        let mut held = ended(are_held(&rt, rt.alloc(), *files, left));
-        if held.is_none() {
-            held = ended(are_held(&rt, rt.alloc(), *files, left));
-        }
-        assert!(rt; matches!(held, Some(true)), "row {row}");
+        assert!(rt;
+            holds!(are_held(&rt, rt.alloc(), *files, left)),
+            "row {row}"
+        );
     }
 }
 
@@ -181,11 +180,7 @@ fn are_refused<R: Threads + Sync>(rt: &R, alloc: Global, files: Batches) -> Resu
 #[test]
 fn groups_out_of_rows_are_refused(rt: HostRuntime) {
     for (row, files) in OUT.iter().enumerate() {
-        let mut held = ended(are_refused(&rt, rt.alloc(), *files));
-        if held.is_none() {
-            held = ended(are_refused(&rt, rt.alloc(), *files));
-        }
-        assert!(rt; matches!(held, Some(true)), "row {row}");
+        assert!(rt; holds!(are_refused(&rt, rt.alloc(), *files)), "row {row}");
     }
 }
 
@@ -263,9 +258,5 @@ fn finds_fronts<R: Threads + Sync>(rt: &R, alloc: Global) -> Result<bool> {
 
 #[test]
 fn fronts_of_groups_are_found(rt: HostRuntime) {
-    let mut held = ended(finds_fronts(&rt, rt.alloc()));
-    if held.is_none() {
-        held = ended(finds_fronts(&rt, rt.alloc()));
-    }
-    assert!(rt; matches!(held, Some(true)));
+    assert!(rt; holds!(finds_fronts(&rt, rt.alloc())));
 }

@@ -2,7 +2,7 @@
 
 use crate::again::{empty_append_files, is_found_again};
 use crate::batches::Part::{Large, Put};
-use crate::calls::{copies, ended, new_engine, purge_rewrites, rewrite_again, write};
+use crate::calls::{copies, holds, new_engine, purge_rewrites, rewrite_again, write};
 use crate::reopened::is_found;
 use raft_base::{FileId, LogQueue, Version};
 use raft_engine::Engine;
@@ -87,9 +87,5 @@ fn moves_in_two_groups<R: Threads + Sync>(
 
 #[test]
 fn large_regions_move_in_groups(rt: HostRuntime) {
-    let mut held = ended(moves_in_groups(&rt, rt.alloc()));
-    if held.is_none() {
-        held = ended(moves_in_groups(&rt, rt.alloc()));
-    }
-    assert!(rt; matches!(held, Some(true)));
+    assert!(rt; holds!(moves_in_groups(&rt, rt.alloc())));
 }

@@ -2,7 +2,7 @@
 
 use crate::batches::Part::{Entries, Put};
 use crate::batches::REGION;
-use crate::calls::{LogFiles, Opened, RIGHT, Way, copies, ended, new_engine, open_as, write};
+use crate::calls::{LogFiles, Opened, RIGHT, Way, copies, holds, new_engine, open_as, write};
 use crate::engine::text_of;
 use raft_base::{LogQueue, Version};
 use raft_engine::Engine;
@@ -121,9 +121,5 @@ fn all_are_refused<R: Threads + Sync>(rt: &R, alloc: Global) -> Result<bool> {
 
 #[test]
 fn a_refused_opening_asks_nothing(rt: HostRuntime) {
-    let mut held = ended(all_are_refused(&rt, rt.alloc()));
-    if held.is_none() {
-        held = ended(all_are_refused(&rt, rt.alloc()));
-    }
-    assert!(rt; matches!(held, Some(true)));
+    assert!(rt; holds!(all_are_refused(&rt, rt.alloc())));
 }

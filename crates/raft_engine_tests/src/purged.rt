@@ -2,7 +2,7 @@
 
 use crate::batches::Part::{Clean, Compact, Delete, Entries, Put};
 use crate::batches::{Part, REGION};
-use crate::calls::{count_files, ended, new_engine, purge, recovered, rotate, write};
+use crate::calls::{count_files, holds, new_engine, purge, recovered, rotate, write};
 use crate::engine::text_of;
 use crate::reopened::holds;
 use raft_base::LogQueue;
@@ -111,10 +111,6 @@ fn is_purged_in<R: Threads + Sync>(
 #[test]
 fn files_that_no_table_needs_are_deleted(rt: HostRuntime) {
     for (row, purge) in PURGES.iter().enumerate() {
-        let mut held = ended(is_purged(&rt, rt.alloc(), purge));
-        if held.is_none() {
-            held = ended(is_purged(&rt, rt.alloc(), purge));
-        }
-        assert!(rt; matches!(held, Some(true)), "row {row}");
+        assert!(rt; holds!(is_purged(&rt, rt.alloc(), purge)), "row {row}");
     }
 }

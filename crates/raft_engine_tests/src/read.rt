@@ -2,8 +2,8 @@
 
 use crate::batches::{Part, REGION};
 use crate::calls::{
-    LogFiles, copies, ended, fetch, finds_damage, get_entry, is_corruption, new_engine, open,
-    purge, reopened, rewrite, rotate, write, write_batch,
+    LogFiles, copies, fetch, finds_damage, get_entry, holds, new_engine, open, purge, reopened,
+    rewrite, rotate, write, write_batch,
 };
 use crate::round_trip::{TEXTS, entry_of, written_texts};
 use raft_base::{FileBlockHandle, FileSeq, LogQueue, Version};
@@ -94,11 +94,7 @@ fn come_back_reopened<R: Threads + Sync>(
 
 #[test]
 fn entries_come_back(rt: HostRuntime) {
-    let mut held = ended(all_come_back(&rt, rt.alloc()));
-    if held.is_none() {
-        held = ended(all_come_back(&rt, rt.alloc()));
-    }
-    assert!(rt; matches!(held, Some(true)));
+    assert!(rt; holds!(all_come_back(&rt, rt.alloc())));
 }
 
 /// Returns how many of these entries of region 7 a fetch gives.
@@ -135,11 +131,7 @@ fn are_limited(alloc: Global) -> Result<bool> {
 
 #[test]
 fn entries_come_back_up_to_a_size(rt: HostRuntime) {
-    let mut held = ended(are_limited(rt.alloc()));
-    if held.is_none() {
-        held = ended(are_limited(rt.alloc()));
-    }
-    assert!(rt; matches!(held, Some(true)));
+    assert!(rt; holds!(are_limited(rt.alloc())));
 }
 
 fn compact(alloc: Global, engine: &mut Engine<MemoryFiles>) -> Result<()> {
@@ -186,11 +178,7 @@ fn are_refused(alloc: Global) -> Result<bool> {
 
 #[test]
 fn ranges_without_entries_are_refused(rt: HostRuntime) {
-    let mut held = ended(are_refused(rt.alloc()));
-    if held.is_none() {
-        held = ended(are_refused(rt.alloc()));
-    }
-    assert!(rt; matches!(held, Some(true)));
+    assert!(rt; holds!(are_refused(rt.alloc())));
 }
 
 /// Opens an engine over the files of these entries, where the first byte of the first entry is another one: it stands behind
@@ -220,16 +208,17 @@ fn damaged_files(engine: &Engine<MemoryFiles>) -> Result<LogFiles> {
 }
 
 /// Tests whether a fetch of all entries is refused as damage, and pushes none.
-fn are_damaged(alloc: Global, engine: &mut Engine<MemoryFiles>) -> bool {
+fn are_damaged(alloc: Global, engine: &mut Engine<MemoryFiles>) -> Result<bool> {
     let mut entries = Vec::new(alloc);
-    is_corruption(fetch(engine, 7, (1, 6), None, &mut entries)) && entries.is_empty()
+    let refused = finds_damage(fetch(engine, 7, (1, 6), None, &mut entries))?;
+    Ok(refused && entries.is_empty())
 }
 
 fn is_damage_found_in(alloc: Global, engine: &mut Engine<MemoryFiles>) -> Result<bool> {
-    let alone = is_corruption(get_entry(engine, 7, 1));
+    let alone = finds_damage(get_entry(engine, 7, 1))?;
     Ok(
         alone
-            && are_damaged(alloc, engine)
+            && are_damaged(alloc, engine)?
             && engine.is_intact()
             && fetched(alloc, engine, 2, 6, None)? == 4,
     )
@@ -243,11 +232,7 @@ fn is_damage_found<R: Threads + Sync>(rt: &R, alloc: Global) -> Result<bool> {
 
 #[test]
 fn damaged_entries_are_not_read(rt: HostRuntime) {
-    let mut held = ended(is_damage_found(&rt, rt.alloc()));
-    if held.is_none() {
-        held = ended(is_damage_found(&rt, rt.alloc()));
-    }
-    assert!(rt; matches!(held, Some(true)));
+    assert!(rt; holds!(is_damage_found(&rt, rt.alloc())));
 }
 
 /// Tests whether an engine goes on once a damaged entry was read: it writes, syncs and begins a file, and what isn't damaged
@@ -282,11 +267,7 @@ fn fetched_reopened<R: Threads + Sync>(
 
 #[test]
 fn an_engine_goes_on_after_a_damaged_read(rt: HostRuntime) {
-    let mut held = ended(is_written_after_damage(&rt, rt.alloc()));
-    if held.is_none() {
-        held = ended(is_written_after_damage(&rt, rt.alloc()));
-    }
-    assert!(rt; matches!(held, Some(true)));
+    assert!(rt; holds!(is_written_after_damage(&rt, rt.alloc())));
 }
 
 /// Files in memory that count their reads.
@@ -361,11 +342,7 @@ fn are_blocks_read_once(alloc: Global) -> Result<bool> {
 
 #[test]
 fn blocks_are_read_once(rt: HostRuntime) {
-    let mut held = ended(are_blocks_read_once(rt.alloc()));
-    if held.is_none() {
-        held = ended(are_blocks_read_once(rt.alloc()));
-    }
-    assert!(rt; matches!(held, Some(true)));
+    assert!(rt; holds!(are_blocks_read_once(rt.alloc())));
 }
 
 fn put_key(alloc: Global, batch: &mut LogBatch, key: &[u8]) -> Result<()> {
@@ -431,9 +408,5 @@ fn are_scanned(alloc: Global) -> Result<bool> {
 
 #[test]
 fn keys_are_scanned_in_order(rt: HostRuntime) {
-    let mut held = ended(are_scanned(rt.alloc()));
-    if held.is_none() {
-        held = ended(are_scanned(rt.alloc()));
-    }
-    assert!(rt; matches!(held, Some(true)));
+    assert!(rt; holds!(are_scanned(rt.alloc())));
 }

@@ -2,7 +2,7 @@
 
 use crate::batches::Part;
 use crate::batches::Part::Entries;
-use crate::calls::{ended, rewrite, write};
+use crate::calls::{holds, rewrite, write};
 use crate::read::{CountedFiles, new_counted};
 use raft_base::Result;
 use raft_engine::Engine;
@@ -38,9 +38,5 @@ fn are_few(alloc: Global) -> Result<bool> {
 
 #[test]
 fn a_rewriting_reads_a_block_once(rt: HostRuntime) {
-    let mut held = ended(are_few(rt.alloc()));
-    if held.is_none() {
-        held = ended(are_few(rt.alloc()));
-    }
-    assert!(rt; matches!(held, Some(true)));
+    assert!(rt; holds!(are_few(rt.alloc())));
 }

@@ -3,8 +3,8 @@
 use crate::batches::Part::{Clean, Compact, Delete, Entries, Put, Truncate};
 use crate::batches::{Part, REGION};
 use crate::calls::{
-    LogFiles, copies, count_files, ended, is_corruption, new_engine, open, purge, reopened,
-    rewrite, rotate, write,
+    LogFiles, copies, count_files, finds_damage, holds, new_engine, open, purge, reopened, rewrite,
+    rotate, write,
 };
 use crate::engine::Step::{Append, Purge, Rewrite};
 use crate::engine::{Engine as Histories, text_of};
@@ -183,11 +183,7 @@ fn all_stay<R: Threads + Sync>(rt: &R, alloc: Global, change: &Change) -> Result
 #[test]
 fn changes_stay(rt: HostRuntime) {
     for (row, change) in CHANGES.iter().enumerate() {
-        let mut held = ended(all_stay(&rt, rt.alloc(), change));
-        if held.is_none() {
-            held = ended(all_stay(&rt, rt.alloc(), change));
-        }
-        assert!(rt; matches!(held, Some(true)), "row {row}");
+        assert!(rt; holds!(all_stay(&rt, rt.alloc(), change)), "row {row}");
     }
 }
 
@@ -324,17 +320,13 @@ fn finds_fronts<R: Threads + Sync>(rt: &R, alloc: Global) -> Result<bool> {
 
 #[test]
 fn fronts_are_found(rt: HostRuntime) {
-    let mut held = ended(finds_fronts(&rt, rt.alloc()));
-    if held.is_none() {
-        held = ended(finds_fronts(&rt, rt.alloc()));
-    }
-    assert!(rt; matches!(held, Some(true)));
+    assert!(rt; holds!(finds_fronts(&rt, rt.alloc())));
 }
 
 /// Tests whether a file is refused whose first batch is damaged.
 fn refuses_damage<R: Threads + Sync>(rt: &R, alloc: Global, fronts: &Fronts) -> Result<bool> {
     let append = damaged_files(&fronts.engine)?;
-    Ok(is_corruption(open(rt, alloc, append, Vec::new(alloc))))
+    finds_damage(open(rt, alloc, append, Vec::new(alloc)))
 }
 
 fn damaged_files(engine: &Engine<MemoryFiles>) -> Result<LogFiles> {
@@ -351,7 +343,7 @@ fn damaged_files(engine: &Engine<MemoryFiles>) -> Result<LogFiles> {
 fn refuses_numbers<R: Threads + Sync>(rt: &R, alloc: Global, fronts: &Fronts) -> Result<bool> {
     let mut append = copies(&fronts.engine, LogQueue::Append)?;
     append.push((1, Vec::new(alloc)))?;
-    Ok(is_corruption(open(rt, alloc, append, Vec::new(alloc))))
+    finds_damage(open(rt, alloc, append, Vec::new(alloc)))
 }
 
 fn refuses_both<R: Threads + Sync>(rt: &R, alloc: Global, fronts: &Fronts) -> Result<bool> {
@@ -365,9 +357,5 @@ fn refuses<R: Threads + Sync>(rt: &R, alloc: Global) -> Result<bool> {
 
 #[test]
 fn what_no_stop_leaves_is_refused(rt: HostRuntime) {
-    let mut held = ended(refuses(&rt, rt.alloc()));
-    if held.is_none() {
-        held = ended(refuses(&rt, rt.alloc()));
-    }
-    assert!(rt; matches!(held, Some(true)));
+    assert!(rt; holds!(refuses(&rt, rt.alloc())));
 }

@@ -4,7 +4,7 @@
 use crate::again::empty_append_files;
 use crate::batches::Part;
 use crate::batches::Part::{Clean, Compact, Delete, Entries, Put, Truncate};
-use crate::calls::{ended, new_engine, purge, reopened, rotate, write};
+use crate::calls::{holds, new_engine, purge, reopened, rotate, write};
 use crate::reopened::{holds, is_found, moved_parts};
 use raft_engine::Engine;
 use raft_files::MemoryFiles;
@@ -63,11 +63,7 @@ fn finds_third<R: Threads + Sync>(
 
 #[test]
 fn each_restart_finds_all(rt: HostRuntime) {
-    let mut held = ended(restarts_find_all(&rt, rt.alloc()));
-    if held.is_none() {
-        held = ended(restarts_find_all(&rt, rt.alloc()));
-    }
-    assert!(rt; matches!(held, Some(true)));
+    assert!(rt; holds!(restarts_find_all(&rt, rt.alloc())));
 }
 
 /// Records in a rewrite file, batches of the last append file that take something of them away, and what is left.
@@ -196,10 +192,9 @@ fn both_stay_away<R: Threads + Sync>(rt: &R, alloc: Global, removal: &Removal) -
 #[test]
 fn what_was_taken_away_stays_away(rt: HostRuntime) {
     for (row, removal) in REMOVALS.iter().enumerate() {
-        let mut held = ended(both_stay_away(&rt, rt.alloc(), removal));
-        if held.is_none() {
-            held = ended(both_stay_away(&rt, rt.alloc(), removal));
-        }
-        assert!(rt; matches!(held, Some(true)), "row {row}");
+        assert!(rt;
+            holds!(both_stay_away(&rt, rt.alloc(), removal)),
+            "row {row}"
+        );
     }
 }

@@ -1,7 +1,7 @@
 //! An engine that is written, goes on, is opened, and is recovered of its append files: each call once, with ample memory.
 
 use crate::calls::{
-    LogFiles, copies, ended, finds_damage, finds_invalid, new_engine, open, rewrite, rotate,
+    LogFiles, copies, finds_damage, finds_invalid, holds, new_engine, open, rewrite, rotate,
     write_batch,
 };
 use raft_base::is_consecutive;
@@ -266,38 +266,22 @@ fn moves<R: Threads + Sync>(
 
 #[test]
 fn what_was_written_is_recovered(rt: HostRuntime) {
-    let mut held = ended(is_recovered(&rt, rt.alloc()));
-    if held.is_none() {
-        held = ended(is_recovered(&rt, rt.alloc()));
-    }
-    assert!(rt; matches!(held, Some(true)));
+    assert!(rt; holds!(is_recovered(&rt, rt.alloc())));
 }
 
 #[test]
 fn files_are_opened(rt: HostRuntime) {
-    let mut held = ended(is_opened(&rt, rt.alloc()));
-    if held.is_none() {
-        held = ended(is_opened(&rt, rt.alloc()));
-    }
-    assert!(rt; matches!(held, Some(true)));
+    assert!(rt; holds!(is_opened(&rt, rt.alloc())));
 }
 
 #[test]
 fn rewritings_move_records(rt: HostRuntime) {
-    let mut held = ended(is_rewritten(&rt, rt.alloc()));
-    if held.is_none() {
-        held = ended(is_rewritten(&rt, rt.alloc()));
-    }
-    assert!(rt; matches!(held, Some(true)));
+    assert!(rt; holds!(is_rewritten(&rt, rt.alloc())));
 }
 
 #[test]
 fn an_engine_moves_records(rt: HostRuntime) {
-    let mut held = ended(is_moved(&rt, rt.alloc()));
-    if held.is_none() {
-        held = ended(is_moved(&rt, rt.alloc()));
-    }
-    assert!(rt; matches!(held, Some(true)));
+    assert!(rt; holds!(is_moved(&rt, rt.alloc())));
 }
 
 /// Tests whether a number that isn't above that of the last file is refused, and the files are as they were then.
@@ -322,11 +306,7 @@ fn are_left(
 #[test]
 fn a_number_that_is_not_above_the_last_one_is_refused(rt: HostRuntime) {
     for seq in 0..3 {
-        let mut held = ended(is_refused(rt.alloc(), seq));
-        if held.is_none() {
-            held = ended(is_refused(rt.alloc(), seq));
-        }
-        assert!(rt; matches!(held, Some(true)), "number {seq}");
+        assert!(rt; holds!(is_refused(rt.alloc(), seq)), "number {seq}");
     }
 }
 
@@ -358,11 +338,10 @@ fn opens_as<R: Threads + Sync>(
 #[test]
 fn files_are_opened_whose_numbers_rise(rt: HostRuntime) {
     for (numbers, is_opened) in &NUMBERS {
-        let mut held = ended(opens_as(&rt, rt.alloc(), numbers, *is_opened));
-        if held.is_none() {
-            held = ended(opens_as(&rt, rt.alloc(), numbers, *is_opened));
-        }
-        assert!(rt; matches!(held, Some(true)), "{numbers:?}");
+        assert!(rt;
+            holds!(opens_as(&rt, rt.alloc(), numbers, *is_opened)),
+            "{numbers:?}"
+        );
     }
 }
 
@@ -381,11 +360,7 @@ fn goes_on_in(engine: &mut Engine<MemoryFiles>) -> Result<bool> {
 
 #[test]
 fn an_engine_has_many_files(rt: HostRuntime) {
-    let mut held = ended(goes_on(rt.alloc()));
-    if held.is_none() {
-        held = ended(goes_on(rt.alloc()));
-    }
-    assert!(rt; matches!(held, Some(true)));
+    assert!(rt; holds!(goes_on(rt.alloc())));
 }
 
 /// Returns a batch of an entry of region 7.
@@ -476,9 +451,5 @@ fn all_stand(alloc: Global) -> Result<bool> {
 
 #[test]
 fn the_bytes_of_entries_stand_at_their_places(rt: HostRuntime) {
-    let mut held = ended(all_stand(rt.alloc()));
-    if held.is_none() {
-        held = ended(all_stand(rt.alloc()));
-    }
-    assert!(rt; matches!(held, Some(true)));
+    assert!(rt; holds!(all_stand(rt.alloc())));
 }

@@ -1,7 +1,7 @@
 //! Whether the histories end as they say.
 
 use crate::batches::Part::Entries;
-use crate::calls::{ended, is_corruption, is_true};
+use crate::calls::{finds_damage, holds};
 use crate::cases::groups::missed;
 use crate::cases::rewritings::refused;
 use crate::cases::{Case, failures, groups, removals, rewritings};
@@ -52,26 +52,27 @@ fn last_answer(alloc: Global, steps: &[Step]) -> Result<Result<()>> {
 
 /// Tests whether the last step of a history is refused, and no other.
 fn refuses_last(alloc: Global, steps: &[Step]) -> Result<bool> {
-    Ok(is_corruption(last_answer(alloc, steps)?))
+    finds_damage(last_answer(alloc, steps)?)
 }
 
 /// Tests whether the last step of a history finds no file for its entry, and no other.
 fn misses_last(alloc: Global, steps: &[Step]) -> Result<bool> {
-    Ok(is_missing(last_answer(alloc, steps)?))
+    finds_no_entry(last_answer(alloc, steps)?)
 }
 
-fn is_missing(answer: Result<()>) -> bool {
-    matches!(answer, Err(Error::EntryNotFound))
+/// Tests whether a step finds no file for its entry. Another refusal is handed on.
+fn finds_no_entry(answer: Result<()>) -> Result<bool> {
+    match answer {
+        Ok(()) => Ok(false),
+        Err(Error::EntryNotFound) => Ok(true),
+        Err(e) => Err(e),
+    }
 }
 
-/// Runs each history of a table, once more where an allocation is refused: it has to find memory then.
+/// Runs each history of a table.
 fn all_end(rt: &impl Abort, alloc: Global, table: &str, cases: &[Case]) {
     for (row, case) in cases.iter().enumerate() {
-        let mut held = ended(ends(alloc, case));
-        if held.is_none() {
-            held = ended(ends(alloc, case));
-        }
-        assert!(rt; matches!(held, Some(true)), "{table}: row {row}");
+        assert!(rt; holds!(ends(alloc, case)), "{table}: row {row}");
     }
 }
 
@@ -83,27 +84,17 @@ fn histories_end_as_they_say(rt: HostRuntime) {
     all_end(&rt, rt.alloc(), "failures", failures::cases());
 }
 
-/// Runs each, once more where an allocation is refused.
 #[test]
 fn replaced_entries_are_not_moved(rt: HostRuntime) {
     for (row, steps) in refused().iter().enumerate() {
-        let mut held = is_true(refuses_last(rt.alloc(), steps));
-        if !held {
-            held = is_true(refuses_last(rt.alloc(), steps));
-        }
-        assert!(rt; held, "row {row}");
+        assert!(rt; holds!(refuses_last(rt.alloc(), steps)), "row {row}");
     }
 }
 
-/// Runs each, once more where an allocation is refused.
 #[test]
 fn entries_of_deleted_files_are_missed(rt: HostRuntime) {
     for (row, steps) in missed().iter().enumerate() {
-        let mut held = is_true(misses_last(rt.alloc(), steps));
-        if !held {
-            held = is_true(misses_last(rt.alloc(), steps));
-        }
-        assert!(rt; held, "row {row}");
+        assert!(rt; holds!(misses_last(rt.alloc(), steps)), "row {row}");
     }
 }
 
@@ -121,10 +112,10 @@ fn refuses_again(alloc: Global) -> Result<bool> {
 }
 
 fn refuses_again_in(engine: &mut Engine) -> Result<bool> {
-    let tested = is_corruption(engine.write_tested(1, &[Entries(4, 6)]));
+    let tested = finds_damage(engine.write_tested(1, &[Entries(4, 6)]))?;
     let found = recovers(engine, "[1,3)")?;
-    let written = is_corruption(engine.take(&Append(1, &[Entries(4, 6)])));
-    Ok(tested && found && written && is_corruption(engine.recovered()))
+    let written = finds_damage(engine.take(&Append(1, &[Entries(4, 6)])))?;
+    Ok(tested && found && written && finds_damage(engine.recovered())?)
 }
 
 /// Tests whether a torn tail is refused, and what is before it is found once it is cut off.
@@ -136,7 +127,7 @@ fn finds_front(alloc: Global) -> Result<bool> {
 fn finds_front_in(engine: &mut Engine) -> Result<bool> {
     engine.take(&Append(1, &[Entries(3, 4)]))?;
     engine.tear();
-    let torn = is_corruption(engine.recovered());
+    let torn = finds_damage(engine.recovered())?;
     engine.cut_tail()?;
     Ok(torn && recovers(engine, "[1,3)")?)
 }
@@ -151,7 +142,7 @@ fn finds_byte_in(engine: &mut Engine) -> Result<bool> {
     let read = engine.entry(1)?.as_slice() == b"x".as_slice();
     engine.flip(16);
     let found = recovers(engine, "[1,3)")?;
-    Ok(read && found && is_corruption(engine.entry(1)))
+    Ok(read && found && finds_damage(engine.entry(1))?)
 }
 
 /// Tests whether a tail is cut that is torn behind an entry whose bytes are a readable batch.
@@ -179,8 +170,8 @@ fn keeps_damaged_in(engine: &mut Engine) -> Result<bool> {
     engine.take(&Append(1, &[Entries(3, 4)]))?;
     let whole = recovers(engine, "[1,4)")?;
     engine.flip(24);
-    let cut = is_corruption(engine.cut_tail());
-    let refused = is_corruption(engine.recovered());
+    let cut = finds_damage(engine.cut_tail())?;
+    let refused = finds_damage(engine.recovered())?;
     engine.flip(24);
     Ok(whole && cut && refused && recovers(engine, "[1,4)")?)
 }
@@ -208,10 +199,14 @@ fn write_unsynced(engine: &mut Engine) -> Result<(usize, usize)> {
 /// second: that is no front.
 fn keeps_hole(alloc: Global) -> Result<bool> {
     let (mut engine, first, second) = unsynced(alloc)?;
-    let len = engine.len();
     engine.lose_page(first.saturating_add(HEADER), second);
-    let cut = is_corruption(engine.cut_tail());
-    Ok(cut && engine.len() == len && is_corruption(engine.recovered()))
+    refuses_to_cut(&mut engine)
+}
+
+fn refuses_to_cut(engine: &mut Engine) -> Result<bool> {
+    let len = engine.len();
+    let cut = finds_damage(engine.cut_tail())?;
+    Ok(cut && engine.len() == len && finds_damage(engine.recovered())?)
 }
 
 /// Tests whether what was synced is found where that page has the header of the first batch too: nothing says where the
@@ -272,29 +267,26 @@ fn finds_synced(alloc: Global) -> Result<bool> {
     cuts_and_finds(&mut engine, "[1,4)")
 }
 
-/// Runs each, once more where an allocation is refused: it has to find memory then.
 #[test]
 fn damage_is_found(rt: HostRuntime) {
     let alloc = rt.alloc();
-    assert!(rt; is_true(refuses_again(alloc)) || is_true(refuses_again(alloc)));
-    assert!(rt; is_true(finds_front(alloc)) || is_true(finds_front(alloc)));
-    assert!(rt; is_true(finds_byte(alloc)) || is_true(finds_byte(alloc)));
+    assert!(rt; holds!(refuses_again(alloc)));
+    assert!(rt; holds!(finds_front(alloc)));
+    assert!(rt; holds!(finds_byte(alloc)));
 }
 
-/// Runs each, once more where an allocation is refused.
 #[test]
 fn torn_tails_are_told_from_damage(rt: HostRuntime) {
     let alloc = rt.alloc();
-    assert!(rt; is_true(cuts_behind_entry(alloc)) || is_true(cuts_behind_entry(alloc)));
-    assert!(rt; is_true(keeps_damaged(alloc)) || is_true(keeps_damaged(alloc)));
+    assert!(rt; holds!(cuts_behind_entry(alloc)));
+    assert!(rt; holds!(keeps_damaged(alloc)));
 }
 
-/// Runs each, once more where an allocation is refused.
 #[test]
 fn fronts_are_opened_and_holes_refused(rt: HostRuntime) {
     let alloc = rt.alloc();
-    assert!(rt; is_true(keeps_hole(alloc)) || is_true(keeps_hole(alloc)));
-    assert!(rt; is_true(cuts_lost_header(alloc)) || is_true(cuts_lost_header(alloc)));
-    assert!(rt; is_true(opens_fronts(alloc)) || is_true(opens_fronts(alloc)));
-    assert!(rt; is_true(finds_synced(alloc)) || is_true(finds_synced(alloc)));
+    assert!(rt; holds!(keeps_hole(alloc)));
+    assert!(rt; holds!(cuts_lost_header(alloc)));
+    assert!(rt; holds!(opens_fronts(alloc)));
+    assert!(rt; holds!(finds_synced(alloc)));
 }

@@ -1,6 +1,6 @@
 //! An engine over files in memory: each call once, with ample memory, and what a restart finds of its files.
 
-use crate::calls::{LogFiles, ended, finds_damage, new_engine, recovered, rotate, write_batch};
+use crate::calls::{LogFiles, finds_damage, holds, new_engine, recovered, rotate, write_batch};
 use crate::round_trip::{WRITTEN, cleaning, entry_of, has_lines, records};
 use raft_engine::Engine;
 use raft_files::MemoryFiles;
@@ -84,11 +84,7 @@ fn is_recovered<R: Threads + Sync>(
 
 #[test]
 fn what_an_engine_wrote_is_found(rt: HostRuntime) {
-    let mut held = ended(is_found(&rt, rt.alloc()));
-    if held.is_none() {
-        held = ended(is_found(&rt, rt.alloc()));
-    }
-    assert!(rt; matches!(held, Some(true)));
+    assert!(rt; holds!(is_found(&rt, rt.alloc())));
 }
 
 /// Tests what an engine returns of region 7, and of one that isn't there.
@@ -111,11 +107,7 @@ fn has_indexes(engine: &Engine<MemoryFiles>) -> bool {
 
 #[test]
 fn an_engine_is_read(rt: HostRuntime) {
-    let mut held = ended(is_read(rt.alloc()));
-    if held.is_none() {
-        held = ended(is_read(rt.alloc()));
-    }
-    assert!(rt; matches!(held, Some(true)));
+    assert!(rt; holds!(is_read(rt.alloc())));
 }
 
 /// Tests whether an engine refuses an entry behind a hole, asks nothing for it, and serves on.
@@ -135,9 +127,5 @@ fn refuses_a_hole_in(alloc: Global, engine: &mut Engine<MemoryFiles>) -> Result<
 
 #[test]
 fn an_engine_refuses_a_hole_and_serves_on(rt: HostRuntime) {
-    let mut held = ended(refuses_a_hole(rt.alloc()));
-    if held.is_none() {
-        held = ended(refuses_a_hole(rt.alloc()));
-    }
-    assert!(rt; matches!(held, Some(true)));
+    assert!(rt; holds!(refuses_a_hole(rt.alloc())));
 }

@@ -83,6 +83,16 @@ pub fn copies(engine: &Engine<MemoryFiles>, queue: LogQueue) -> Result<LogFiles>
     engine.files().copies(queue)
 }
 
+/// Returns files of which a byte of the first one is another one.
+pub fn with_flipped(mut files: LogFiles, at: usize) -> LogFiles {
+    if let Some(first) = files.first_mut() {
+        if let Some(byte) = first.1.get_mut(at) {
+            *byte ^= 1;
+        }
+    }
+    files
+}
+
 /// Returns how many files of a queue an engine has.
 pub fn count_files(engine: &Engine<MemoryFiles>, queue: LogQueue) -> usize {
     engine.files().files(queue).len()

@@ -2,7 +2,9 @@
 
 use crate::batches::Part::{Entries, Put};
 use crate::batches::REGION;
-use crate::calls::{LogFiles, Opened, RIGHT, Way, copies, holds, new_engine, open_as, write};
+use crate::calls::{
+    LogFiles, Opened, RIGHT, Way, copies, holds, new_engine, open_as, with_flipped, write,
+};
 use crate::engine::text_of;
 use raft_base::{LogQueue, Version};
 use raft_engine::Engine;
@@ -52,13 +54,8 @@ fn tear(alloc: Global, engine: &mut Engine<MemoryFiles>) -> Result<LogFiles> {
 
 /// Makes a file whose first batch is damaged.
 fn damaged(alloc: Global) -> Result<LogFiles> {
-    let mut files = torn(alloc)?;
-    if let Some(last) = files.last_mut() {
-        if let Some(byte) = last.1.get_mut(24) {
-            *byte ^= 1;
-        }
-    }
-    Ok(files)
+    let files = torn(alloc)?;
+    Ok(with_flipped(files, 24))
 }
 
 /// Returns the files that are handed back where they aren't opened, if the refusal isn't want of memory.

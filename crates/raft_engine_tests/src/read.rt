@@ -2,8 +2,8 @@
 
 use crate::batches::{Part, REGION};
 use crate::calls::{
-    LogFiles, copies, fetch, finds_damage, get_entry, holds, new_engine, open, purge, reopened,
-    rewrite, rotate, write, write_batch,
+    copies, fetch, finds_damage, get_entry, holds, new_engine, open, purge, reopened, rewrite,
+    rotate, with_flipped, write, write_batch,
 };
 use crate::round_trip::{TEXTS, entry_of, written_texts};
 use raft_base::{FileBlockHandle, FileSeq, LogQueue, Version};
@@ -193,18 +193,8 @@ fn opened_damaged<R: Threads + Sync>(
     alloc: Global,
     engine: &Engine<MemoryFiles>,
 ) -> Result<Engine<MemoryFiles>> {
-    let append = damaged_files(engine)?;
+    let append = with_flipped(copies(engine, LogQueue::Append)?, 16);
     open(rt, alloc, append, copies(engine, LogQueue::Rewrite)?)
-}
-
-fn damaged_files(engine: &Engine<MemoryFiles>) -> Result<LogFiles> {
-    let mut append = copies(engine, LogQueue::Append)?;
-    if let Some(first) = append.first_mut() {
-        if let Some(byte) = first.1.get_mut(16) {
-            *byte ^= 1;
-        }
-    }
-    Ok(append)
 }
 
 /// Tests whether a fetch of all entries is refused as damage, and pushes none.

@@ -4,7 +4,7 @@ use crate::batches::Part::{Clean, Compact, Delete, Entries, Put, Truncate};
 use crate::batches::{Part, REGION};
 use crate::calls::{
     LogFiles, copies, count_files, finds_damage, holds, new_engine, open, purge, reopened, rewrite,
-    rotate, write,
+    rotate, with_flipped, write,
 };
 use crate::engine::Step::{Append, Purge, Rewrite};
 use crate::engine::{Engine as Histories, text_of};
@@ -325,18 +325,8 @@ fn fronts_are_found(rt: HostRuntime) {
 
 /// Tests whether a file is refused whose first batch is damaged.
 fn refuses_damage<R: Threads + Sync>(rt: &R, alloc: Global, fronts: &Fronts) -> Result<bool> {
-    let append = damaged_files(&fronts.engine)?;
+    let append = with_flipped(copies(&fronts.engine, LogQueue::Append)?, 24);
     finds_damage(open(rt, alloc, append, Vec::new(alloc)))
-}
-
-fn damaged_files(engine: &Engine<MemoryFiles>) -> Result<LogFiles> {
-    let mut append = copies(engine, LogQueue::Append)?;
-    if let Some(last) = append.last_mut() {
-        if let Some(byte) = last.1.get_mut(24) {
-            *byte ^= 1;
-        }
-    }
-    Ok(append)
 }
 
 /// Tests whether files are refused whose numbers don't rise.

@@ -3,8 +3,8 @@
 ghost use Rattle.std.specs.Prelude.{◌≡◌, IfOk, OnOk};
 ghost use Rattle.raft_records.specs.LogBatch.{is_open};
 
-use raft_base::{Message, MessageError, MessageExt};
-use raft_records::{AtomicGroupBuilder, Command, LogBatch, Result};
+use raft_base::{EntryIndex, Message, MessageError, MessageExt, is_consecutive};
+use raft_records::{AtomicGroupBuilder, Command, Error, LogBatch, Result};
 use std::alloc::Global;
 
 /// The region of all histories.
@@ -65,6 +65,24 @@ impl MessageExt for Entries {
     fn index(entry: &Entry) -> u64 {
         entry.index
     }
+}
+
+/// Returns a batch of an entry of these bytes.
+pub fn batch_with(alloc: Global, region: u64, index: u64, bytes: Vec<u8>) -> Result<LogBatch>
+    ensures { IfOk result (λ batch. batch.stage ≡ is_open) }
+{
+    let bytes = vec![in alloc; bytes]?;
+    let entry = EntryIndex {
+        index,
+        ..EntryIndex::default()
+    };
+    let entries = vec![in alloc; entry]?;
+    if !is_consecutive(&entries) {
+        return Err(Error::Failed);
+    }
+    let mut batch = LogBatch::default(alloc);
+    batch.add_raw_entries(region, entries, bytes)?;
+    Ok(batch)
 }
 
 /// Returns a batch of these items.

@@ -1,12 +1,10 @@
 //! An engine that keeps tables and writes files of both queues, all in memory.
 
-ghost use Rattle.std.specs.Prelude.{◌≡◌, IfOk};
+ghost use Rattle.std.specs.Prelude.{◌≡◌};
 ghost use Rattle.raft_records.specs.LogBatch.{is_open};
 
-use crate::batches::{Part, REGION, batch_of};
-use raft_base::{
-    EntryIndex, FileBlockHandle, FileId, FileSeq, LogFileContext, LogQueue, Version, is_consecutive,
-};
+use crate::batches::{Part, REGION, batch_of, batch_with};
+use raft_base::{EntryIndex, FileBlockHandle, FileId, FileSeq, LogFileContext, LogQueue, Version};
 use raft_memtable::{MemTable, MemTableAccessor, MemTableRecoverContext};
 use raft_records::{
     Error, FilePart, LogBatch, Result, entries_block_in, entry_bytes, next_batch, readable_front,
@@ -284,7 +282,7 @@ impl Engine {
 
     /// Writes an entry to append file 1 whose bytes are a batch that might stand in that file.
     pub fn append_batch_in_entry(&mut self, index: u64) -> Result<()> {
-        let batch = batch_with(self.alloc, index, batch_bytes(self.alloc)?)?;
+        let batch = batch_with(self.alloc, REGION, index, batch_bytes(self.alloc)?)?;
         let mut written = self.write(LogQueue::Append, 1, batch)?;
         self.tables.apply_append_writes(written.drain())
     }
@@ -353,24 +351,6 @@ fn batch_bytes(alloc: Global) -> Result<Vec<u8>> {
     batch.finish_populate()?;
     batch.prepare_write(&LogFileContext::new(FileId::new(LogQueue::Append, 1), Version::V2));
     Ok(Vec::from_slice(alloc, batch.encoded_bytes())?)
-}
-
-/// Returns a batch of an entry of these bytes.
-fn batch_with(alloc: Global, index: u64, bytes: Vec<u8>) -> Result<LogBatch>
-    ensures { IfOk result (λ batch. batch.stage ≡ is_open) }
-{
-    let bytes = vec![in alloc; bytes]?;
-    let entry = EntryIndex {
-        index,
-        ..EntryIndex::default()
-    };
-    let entries = vec![in alloc; entry]?;
-    if !is_consecutive(&entries) {
-        return Err(Error::Failed);
-    }
-    let mut batch = LogBatch::default(alloc);
-    batch.add_raw_entries(REGION, entries, bytes)?;
-    Ok(batch)
 }
 
 /// Returns the bytes of an entry in its file.

@@ -1,10 +1,10 @@
 //! An engine that is written, goes on, is opened, and is recovered of its append files: each call once, with ample memory.
 
+use crate::batches::batch_with;
 use crate::calls::{
     LogFiles, copies, finds_damage, finds_invalid, holds, new_engine, open, rewrite, rotate,
     write_batch,
 };
-use raft_base::is_consecutive;
 use raft_engine::Engine;
 use raft_files::{EngineFiles, MemoryFiles};
 use raft_memtable::{EntryIndex, MemTableAccessor};
@@ -37,13 +37,7 @@ live 0 2
 
 /// Returns a batch of an entry and a key value of region 7.
 pub(crate) fn records(alloc: Global) -> Result<LogBatch> {
-    let mut batch = LogBatch::default(alloc);
-    let entry = EntryIndex {
-        index: 1,
-        ..EntryIndex::default()
-    };
-    let bytes = vec![in alloc; Vec::from_slice(alloc, b"x")?]?;
-    batch.add_raw_entries(7, vec![in alloc; entry]?, bytes)?;
+    let mut batch = batch_with(alloc, 7, 1, Vec::from_slice(alloc, b"x")?)?;
     batch.put(
         7,
         Vec::from_slice(alloc, b"k")?,
@@ -365,18 +359,7 @@ fn an_engine_has_many_files(rt: HostRuntime) {
 
 /// Returns a batch of an entry of region 7.
 pub(crate) fn entry_of(alloc: Global, index: u64, text: &str) -> Result<LogBatch> {
-    let mut batch = LogBatch::default(alloc);
-    let entry = EntryIndex {
-        index,
-        ..EntryIndex::default()
-    };
-    let bytes = vec![in alloc; Vec::from_slice(alloc, text.as_bytes())?]?;
-    let entries = vec![in alloc; entry]?;
-    if !is_consecutive(&entries) {
-        return Err(Error::Failed);
-    }
-    batch.add_raw_entries(7, entries, bytes)?;
-    Ok(batch)
+    batch_with(alloc, 7, index, Vec::from_slice(alloc, text.as_bytes())?)
 }
 
 /// The bytes of entries from index 1 on, two in each file.

@@ -3,7 +3,9 @@
 ghost use Rattle.std.specs.Prelude.{◌≡◌, IfOk, OnOk};
 ghost use Rattle.raft_records.specs.LogBatch.{is_open};
 
-use raft_base::{EntryIndex, Message, MessageError, MessageExt, is_consecutive};
+use raft_base::{
+    EntryIndex, FileId, LogFileContext, Message, MessageError, MessageExt, Version, is_consecutive,
+};
 use raft_records::{AtomicGroupBuilder, Command, Error, LogBatch, Result};
 use std::alloc::Global;
 
@@ -83,6 +85,16 @@ pub fn batch_with(alloc: Global, region: u64, index: u64, bytes: Vec<u8>) -> Res
     let mut batch = LogBatch::default(alloc);
     batch.add_raw_entries(region, entries, bytes)?;
     Ok(batch)
+}
+
+/// Returns the bytes that a file has of a batch.
+pub fn bytes_for(alloc: Global, mut batch: LogBatch, file: FileId) -> Result<Vec<u8>> {
+    if !batch.is_open() {
+        return Err(Error::Failed);
+    }
+    batch.finish_populate()?;
+    batch.prepare_write(&LogFileContext::new(file, Version::V2));
+    Ok(Vec::from_slice(alloc, batch.encoded_bytes())?)
 }
 
 /// Returns a batch of these items.

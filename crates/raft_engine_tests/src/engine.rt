@@ -3,7 +3,7 @@
 ghost use Rattle.std.specs.Prelude.{◌≡◌};
 ghost use Rattle.raft_records.specs.LogBatch.{is_open};
 
-use crate::batches::{Part, REGION, batch_of, batch_with};
+use crate::batches::{Part, REGION, batch_of, batch_with, bytes_for};
 use raft_base::{EntryIndex, FileBlockHandle, FileId, FileSeq, LogFileContext, LogQueue, Version};
 use raft_memtable::{MemTable, MemTableAccessor, MemTableRecoverContext};
 use raft_records::{
@@ -347,10 +347,8 @@ impl Engine {
 
 /// Returns the bytes of a batch that might stand in append file 1.
 fn batch_bytes(alloc: Global) -> Result<Vec<u8>> {
-    let mut batch = batch_of(alloc, &[Part::Put("v")])?;
-    batch.finish_populate()?;
-    batch.prepare_write(&LogFileContext::new(FileId::new(LogQueue::Append, 1), Version::V2));
-    Ok(Vec::from_slice(alloc, batch.encoded_bytes())?)
+    let batch = batch_of(alloc, &[Part::Put("v")])?;
+    bytes_for(alloc, batch, FileId::new(LogQueue::Append, 1))
 }
 
 /// Returns the bytes of an entry in its file.

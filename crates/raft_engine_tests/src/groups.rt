@@ -3,15 +3,15 @@
 
 use crate::again::{empty_append_files, is_found_again};
 use crate::batches::Part::{Begin, Clean, Compact, End, Entries, Middle, Put};
-use crate::batches::{Part, batch_of};
+use crate::batches::{Part, batch_of, bytes_for};
 use crate::calls::{
     LogFiles, count_files, finds_invalid, holds, open, purge_rewrites, rewrite_again, write,
 };
 use crate::reopened::{holds, is_found};
-use raft_base::{FileId, FileSeq, LogFileContext, LogQueue, Version};
+use raft_base::{FileId, FileSeq, LogQueue};
 use raft_engine::Engine;
 use raft_files::MemoryFiles;
-use raft_records::{Error, LogBatch, Result};
+use raft_records::Result;
 use std::alloc::Global;
 use std::thread::Threads;
 
@@ -20,19 +20,8 @@ type Batches = &'static [&'static [&'static [Part]]];
 
 /// Returns the bytes of a batch of a rewrite file.
 fn bytes_of(alloc: Global, seq: FileSeq, parts: &[Part]) -> Result<Vec<u8>> {
-    let mut batch = batch_of(alloc, parts)?;
-    sealed(alloc, &mut batch, seq)
-}
-
-fn sealed(alloc: Global, batch: &mut LogBatch, seq: FileSeq) -> Result<Vec<u8>> {
-    if !batch.is_open() {
-        return Err(Error::Failed);
-    }
-    batch.finish_populate()?;
-    let file = LogFileContext::new(FileId::new(LogQueue::Rewrite, seq), Version::V2);
-    batch.prepare_write(&file);
-    let bytes = Vec::from_slice(alloc, batch.encoded_bytes())?;
-    Ok(bytes)
+    let batch = batch_of(alloc, parts)?;
+    bytes_for(alloc, batch, FileId::new(LogQueue::Rewrite, seq))
 }
 
 /// Returns rewrite files of these batches.

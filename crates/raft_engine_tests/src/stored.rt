@@ -1,10 +1,11 @@
 //! An engine over files in memory: each call once, with ample memory, and what a restart finds of its files.
 
+use crate::batches::bytes_for;
 use crate::calls::{LogFiles, finds_damage, holds, new_engine, recovered, rotate, write_batch};
 use crate::round_trip::{WRITTEN, cleaning, entry_of, has_lines, records};
 use raft_engine::Engine;
 use raft_files::MemoryFiles;
-use raft_records::{Error, FileId, FileSeq, LogBatch, LogFileContext, LogQueue, Result, Version};
+use raft_records::{FileId, LogQueue, Result};
 use std::alloc::Global;
 use std::thread::Threads;
 
@@ -22,20 +23,10 @@ fn store(alloc: Global, engine: &mut Engine<MemoryFiles>) -> Result<()> {
     engine.sync()
 }
 
-/// Returns the bytes of a batch, signed for an append file.
-fn bytes_of(alloc: Global, mut batch: LogBatch, seq: FileSeq) -> Result<Vec<u8>> {
-    if !batch.is_open() {
-        return Err(Error::Failed);
-    }
-    let _len = batch.finish_populate()?;
-    batch.prepare_write(&LogFileContext::new(FileId::new(LogQueue::Append, seq), Version::V2));
-    Ok(Vec::from_slice(alloc, batch.encoded_bytes())?)
-}
-
 /// Returns the append files that an engine has with these batches: each in a file of its own, and nothing else.
 fn files_with_batches(alloc: Global) -> Result<LogFiles> {
-    let first = bytes_of(alloc, records(alloc)?, 1)?;
-    let second = bytes_of(alloc, cleaning(alloc)?, 2)?;
+    let first = bytes_for(alloc, records(alloc)?, FileId::new(LogQueue::Append, 1))?;
+    let second = bytes_for(alloc, cleaning(alloc)?, FileId::new(LogQueue::Append, 2))?;
     Ok(vec![in alloc; (1, first), (2, second)]?)
 }
 

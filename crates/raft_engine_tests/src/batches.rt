@@ -6,7 +6,7 @@ ghost use Rattle.raft_records.specs.LogBatch.{is_open};
 use raft_base::{
     EntryIndex, FileId, LogFileContext, Message, MessageError, MessageExt, Version, is_consecutive,
 };
-use raft_records::{AtomicGroupBuilder, Command, Error, LogBatch, Result};
+use raft_records::{AtomicGroupBuilder, AtomicGroupStatus, Command, Error, LogBatch, Result};
 use std::alloc::Global;
 
 /// The region of all histories.
@@ -128,9 +128,9 @@ fn add(alloc: Global, batch: &mut LogBatch, part: Part) -> Result<()>
         Part::Compact(index) => batch.add_command(REGION, Command::Compact { index }),
         Part::Truncate(index) => batch.add_command(REGION, Command::Truncate { index }),
         Part::Clean => batch.add_command(REGION, Command::Clean),
-        Part::Begin(id) => AtomicGroupBuilder::with_id(id).begin(batch),
-        Part::Middle(id) => go_on(alloc, batch, id),
-        Part::End(id) => end(alloc, batch, id),
+        Part::Begin(id) => add_marker(alloc, batch, id, AtomicGroupStatus::Begin),
+        Part::Middle(id) => add_marker(alloc, batch, id, AtomicGroupStatus::Middle),
+        Part::End(id) => add_marker(alloc, batch, id, AtomicGroupStatus::End),
     }
 }
 
@@ -142,22 +142,18 @@ fn entries_from(alloc: Global, first: u64, end: u64, bytes: &'static [u8]) -> Re
     Ok(entries)
 }
 
-/// Goes on with a group that another batch began.
-fn go_on(alloc: Global, batch: &mut LogBatch, id: u64) -> Result<()>
+/// Adds a group marker; one that isn't the first is of a group that another batch began.
+fn add_marker(alloc: Global, batch: &mut LogBatch, id: u64, status: AtomicGroupStatus) -> Result<()>
     requires { batch.old.stage ≡ is_open }
     ensures { OnOk result (batch.new.stage ≡ is_open) }
 {
     let mut group = AtomicGroupBuilder::with_id(id);
+    if status == AtomicGroupStatus::Begin {
+        return group.begin(batch);
+    }
     group.begin(&mut LogBatch::default(alloc))?;
-    group.add(batch)
-}
-
-/// Ends a group that another batch began.
-fn end(alloc: Global, batch: &mut LogBatch, id: u64) -> Result<()>
-    requires { batch.old.stage ≡ is_open }
-    ensures { OnOk result (batch.new.stage ≡ is_open) }
-{
-    let mut group = AtomicGroupBuilder::with_id(id);
-    group.begin(&mut LogBatch::default(alloc))?;
-    group.end(batch)
+    match status {
+        AtomicGroupStatus::Middle => group.add(batch),
+        _ => group.end(batch),
+    }
 }

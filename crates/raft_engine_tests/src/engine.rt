@@ -363,7 +363,8 @@ fn bytes_in(
     Ok(Vec::from_slice(alloc, entry_bytes(alloc, block, entry)?)?)
 }
 
-/// Tests whether a readable batch stands where the header of the unreadable one says that it ends.
+/// Tests whether a readable batch stands where the header of the unreadable one says that it ends: on purpose without the
+/// engine that is tested, since a test must not ask it whether it is right.
 fn has_batch_behind(part: &FilePart, at: usize) -> Result<bool> {
     let mut bytes = part.bytes().get(at..).unwrap_or(b"");
     let Ok((_, _, len)) = LogBatch::decode_header(part.allocator(), &mut bytes) else {

@@ -59,7 +59,8 @@ pub fn empty_append_files(engine: &mut Engine<MemoryFiles>) -> Result<bool> {
     Ok(count_files(engine, LogQueue::Append) == 1)
 }
 
-/// Tests it of a change that isn't told yet, and again once all was moved out of the append files.
+/// Tests whether an engine finds what a change leaves that isn't told yet, and again once all was moved out of the append
+/// files.
 fn change_stays<R: Threads + Sync>(
     rt: &R,
     alloc: Global,

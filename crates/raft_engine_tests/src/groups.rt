@@ -209,7 +209,8 @@ fn goes_on<R: Threads + Sync>(
     Ok(holds(alloc, engine, left)? && move_and_purge(engine)? && is_found(rt, alloc, engine, left)?)
 }
 
-/// Tests it of each number of bytes up to the end of one more batch, which is put behind those that there are.
+/// Tests whether an engine finds this at each number of bytes up to the end of one more batch, which is put behind those that
+/// there are.
 fn finds_to_next<R: Threads + Sync>(
     rt: &R,
     alloc: Global,
@@ -226,7 +227,7 @@ fn finds_to_next<R: Threads + Sync>(
     Ok(true)
 }
 
-/// Puts the batches, one after another, and tests it of each number of bytes.
+/// Puts the batches, one after another, and tests whether an engine finds what they leave at each number of bytes.
 fn finds_batches<R: Threads + Sync>(rt: &R, alloc: Global, bytes: &mut Vec<u8>) -> Result<bool> {
     let mut left = "";
     for (parts, next) in &FRONTS {
@@ -239,7 +240,7 @@ fn finds_batches<R: Threads + Sync>(rt: &R, alloc: Global, bytes: &mut Vec<u8>) 
     finds(rt, alloc, bytes.as_slice(), left)
 }
 
-/// Tests it of each number of bytes.
+/// Tests whether an engine finds what the batches leave at each number of bytes.
 fn finds_fronts<R: Threads + Sync>(rt: &R, alloc: Global) -> Result<bool> {
     let mut bytes = Vec::new(alloc);
     finds_batches(rt, alloc, &mut bytes)

@@ -62,7 +62,7 @@ fn come_back(alloc: Global, engine: &mut Engine<MemoryFiles>) -> Result<bool> {
     Ok(come_back_alone(engine)? && come_back_together(alloc, engine)?)
 }
 
-/// Tests it of entries that were written, then moved, and then found again.
+/// Tests whether an engine gives back entries that were written, then moved, and then found again.
 fn all_come_back<R: Threads + Sync>(rt: &R, alloc: Global) -> Result<bool> {
     let mut engine = written_texts(alloc)?;
     come_back_moved(rt, alloc, &mut engine)
@@ -317,7 +317,7 @@ fn are_counted(engine: &mut Engine<CountedFiles>, entries: &mut Vec<Vec<u8>>) ->
     Ok(count == 5 && together == 2 && found && alone == 3 && none && all == 3)
 }
 
-/// Tests it of four entries in one batch, and two in the next.
+/// Tests whether an engine reads each block once: four entries are in one batch, and two in the next.
 fn are_written_and_counted(alloc: Global, engine: &mut Engine<CountedFiles>) -> Result<bool> {
     write(alloc, engine, &[Part::Entries(1, 5)], false)?;
     write(alloc, engine, &[Part::Entries(5, 7)], false)?;

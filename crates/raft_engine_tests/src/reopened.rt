@@ -175,7 +175,7 @@ fn moved_stays<R: Threads + Sync>(rt: &R, alloc: Global, change: &Change) -> Res
     stays(rt, alloc, &mut engine, change)
 }
 
-/// Tests it of found records and of such that moved.
+/// Tests whether an engine keeps what a change leaves of found records, and of such that moved.
 fn all_stay<R: Threads + Sync>(rt: &R, alloc: Global, change: &Change) -> Result<bool> {
     Ok(found_stays(rt, alloc, change)? && moved_stays(rt, alloc, change)?)
 }
@@ -303,7 +303,7 @@ fn goes_on<R: Threads + Sync>(
     is_found(rt, alloc, engine, "k=x")
 }
 
-/// Tests it of each number of bytes.
+/// Tests whether an engine finds the batches that are whole at each number of bytes.
 fn finds_all<R: Threads + Sync>(rt: &R, alloc: Global, fronts: &Fronts) -> Result<bool> {
     for len in 0..last_len(fronts.engine.files().files(LogQueue::Append)).saturating_add(1) {
         if !finds_front(rt, alloc, fronts, len)? {

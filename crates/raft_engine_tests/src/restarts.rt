@@ -1,5 +1,5 @@
-//! Restarts of an engine: what was written is found again, each time, and what was taken away is not; the laws are called
-//! where they speak of it.
+//! Restarts of an engine: what was written is found again, each time, and what was taken away is not. The law that says of an
+//! engine what a restart finds is called too, in a function of its own, so that it makes no other proof dear.
 
 use crate::again::empty_append_files;
 use crate::batches::Part;
@@ -170,7 +170,8 @@ fn stays_away_in<R: Threads + Sync>(
     Ok(found && deleted == removal.deleted && is_found(rt, alloc, engine, removal.left)?)
 }
 
-/// Tests it where what is left moves before the purge, which deletes the file in any case then.
+/// Tests whether an engine finds what is left, and no more, where that moves before the purge, which deletes the file in any
+/// case then.
 fn stays_away_moved<R: Threads + Sync>(rt: &R, alloc: Global, removal: &Removal) -> Result<bool> {
     let mut engine = removed_and_restarted(rt, alloc, removal)?;
     stays_away_moved_in(rt, alloc, &mut engine, removal)

@@ -405,7 +405,7 @@ fn stands(alloc: Global, engine: &Engine<MemoryFiles>, index: u64, text: &str) -
     Ok(false)
 }
 
-/// Tests it of a file.
+/// Tests whether a file of an engine has these bytes at the place of an entry.
 fn stands_in(
     alloc: Global,
     part: &FilePart,

@@ -1,7 +1,7 @@
 //! Batches that are filled, put together, grouped, made into bytes and signed.
 
 use crate::calls::Call;
-use crate::found::{Found, is_refused};
+use crate::found::{Found, is_refused, retried};
 use crate::steps::{Line, Step, add, batch_of};
 use raft_records::{
     AtomicGroupBuilder, AtomicGroupStatus, Error, FileId, FileSeq, LogBatch, LogFileContext,
@@ -73,26 +73,14 @@ pub(crate) fn encode(
 /// Adds a step; where there is no memory the batch has to be as it was.
 fn add_again(found: &mut Found, batch: &mut LogBatch, step: Step) -> Result<()> {
     let before = batch.clone()?;
-    let answer = add(found.alloc, batch, step);
-    if !is_refused(&answer) {
-        return answer;
-    }
-    found.look(*batch == before);
-    let answer = add(found.alloc, batch, step);
-    found.again(answer)
+    retried!(found; add(found.alloc, batch, step); *batch == before)
 }
 
 /// Makes and signs a batch's bytes; where there is no memory it has to be as it was.
 fn seal_again(found: &mut Found, batch: &mut LogBatch, file: &LogFileContext) -> Result<()> {
     let before = batch.clone()?;
     let size = batch.approximate_size();
-    let mut answer = finish(batch);
-    if is_refused(&answer) {
-        found.look(*batch == before);
-        answer = finish(batch);
-        answer = found.again(answer);
-    }
-    let len = answer?;
+    let len = retried!(found; finish(batch); *batch == before)?;
     let alloc = found.alloc;
     found.line(format!(in alloc; "size {size} length {len}")?.as_str())?;
     if batch.is_open() {

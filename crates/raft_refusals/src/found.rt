@@ -68,6 +68,21 @@ impl Found {
     }
 }
 
+/// Makes a call; where there is no memory, looks whether what has to stand stands, and makes it again.
+macro_rules! retried {
+    ($found:ident; $call:expr; $stands:expr) => {{
+        let mut answer = $call;
+        if crate::found::is_refused(&answer) {
+            $found.look($stands);
+            answer = $call;
+            answer = $found.again(answer);
+        }
+        answer
+    }};
+}
+
+pub(crate) use retried;
+
 /// Tests whether a call found no memory.
 pub(crate) fn is_refused<T>(answer: &Result<T>) -> bool {
     matches!(answer, Err(Error::Memory))

@@ -3,7 +3,7 @@
 ghost use Rattle.std.specs.Prelude.{◌≡◌};
 
 use crate::calls::Call;
-use crate::found::{Found, is_refused};
+use crate::found::{Found, is_refused, retried};
 use crate::steps::Line;
 use raft_records::{
     Command, CompressionType, EntryIndex, Error, FileBlockHandle, FileId, LogFileContext,
@@ -68,13 +68,8 @@ pub(crate) fn add_entries(found: &mut Found) -> Result<()> {
 /// Makes a change; where there is no memory the batch has to be as it was.
 fn change_again(found: &mut Found, batch: &mut LogItemBatch, change: Change) -> Result<()> {
     let before = batch.clone()?;
-    let answer = apply(found.alloc, batch, change);
-    if !is_refused(&answer) {
-        return answer;
-    }
-    found.look(*batch == before && batch.entries_size() == before.entries_size());
-    let answer = apply(found.alloc, batch, change);
-    found.again(answer)
+    retried!(found; apply(found.alloc, batch, change);
+        *batch == before && batch.entries_size() == before.entries_size())
 }
 
 fn apply(alloc: Global, batch: &mut LogItemBatch, change: Change) -> Result<()> {
@@ -133,13 +128,7 @@ fn merge(alloc: Global, batch: &mut LogItemBatch) -> Result<()> {
 /// Writes the bytes of a batch after another byte; where there is no memory that stands alone.
 fn encode_again(found: &mut Found, batch: &mut LogItemBatch) -> Result<()> {
     let mut out = Vec::from_slice(found.alloc, b"!")?;
-    let mut answer = batch.encode(&mut out);
-    if is_refused(&answer) {
-        found.look(out.as_slice() == [b'!'].as_slice());
-        answer = batch.encode(&mut out);
-        answer = found.again(answer);
-    }
-    answer?;
+    retried!(found; batch.encode(&mut out); out.as_slice() == [b'!'].as_slice())?;
     found.bytes(out.as_slice())
 }
 

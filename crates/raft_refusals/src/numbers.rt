@@ -1,6 +1,6 @@
 //! Numbers that are written to a vector.
 
-use crate::found::Found;
+use crate::found::{Found, retried};
 use raft_base::codec::{self, NumberEncoder};
 use raft_base::{Error, Result};
 use std::io::ErrorKind;
@@ -58,26 +58,20 @@ pub(crate) fn encode(found: &mut Found) -> Result<()> {
 /// Writes a number; where there is no memory that is `Io`, and the vector has to be as it was.
 fn encode_again(found: &mut Found, bytes: &mut Vec<u8>, number: Number) -> Result<()> {
     let before = Vec::from_slice(found.alloc, bytes.as_slice())?;
-    let mut answer = write(bytes, number);
-    if is_out_of_memory(&answer) {
-        found.look(bytes.as_slice() == before.as_slice());
-        answer = write(bytes, number);
-        if is_out_of_memory(&answer) {
-            found.is_in_vain = true;
-            return Err(Error::Memory);
+    retried!(found; write(bytes, number); bytes.as_slice() == before.as_slice())
+}
+
+/// Writes a number; want of memory is handed on as `Memory`.
+fn write(bytes: &mut Vec<u8>, number: Number) -> Result<()> {
+    match encode_one(bytes, number) {
+        Err(codec::Error::Io(error)) if error.kind() == ErrorKind::OutOfMemory => {
+            Err(Error::Memory)
         }
-    }
-    Ok(answer?)
-}
-
-fn is_out_of_memory(answer: &codec::Result<()>) -> bool {
-    match answer {
-        Err(codec::Error::Io(error)) => error.kind() == ErrorKind::OutOfMemory,
-        _ => false,
+        answer => Ok(answer?),
     }
 }
 
-fn write(bytes: &mut Vec<u8>, number: Number) -> codec::Result<()> {
+fn encode_one(bytes: &mut Vec<u8>, number: Number) -> codec::Result<()> {
     match number {
         Number::U64(n) => bytes.encode_u64(n),
         Number::U32(n) => bytes.encode_u32(n),

@@ -1,6 +1,6 @@
 //! Calls of tables that threads share, and of one slot.
 
-use crate::found::{Found, is_refused};
+use crate::found::{Found, retried};
 use crate::seen::{number, of_regions};
 use crate::steps::{Step, written};
 use crate::tables::put;
@@ -81,13 +81,7 @@ fn call_again<R: Wait>(
     call: Call,
 ) -> Result<()> {
     let before = see(rt, shared);
-    let mut answer = call_at(rt, found.alloc, shared, call);
-    if is_refused(&answer) {
-        found.look(see(rt, shared) == before);
-        answer = call_at(rt, found.alloc, shared, call);
-        answer = found.again(answer);
-    }
-    answer?;
+    retried!(found; call_at(rt, found.alloc, shared, call); see(rt, shared) == before)?;
     let alloc = found.alloc;
     let (_, append, rewrite) = see(rt, shared);
     found.line(format!(in alloc; "live {append} {rewrite}")?.as_str())
@@ -146,12 +140,7 @@ fn cleaned_tables<R: Wait>(rt: &R, alloc: Global) -> Result<SharedAccessor> {
 pub(crate) fn take<R: Wait>(rt: &R, found: &mut Found) -> Result<()> {
     let shared = cleaned_tables(rt, found.alloc)?;
     let mut logs = LogBatch::default(found.alloc);
-    let mut answer = take_into(rt, &shared, &mut logs);
-    if is_refused(&answer) {
-        answer = take_into(rt, &shared, &mut logs);
-        answer = found.again(answer);
-    }
-    answer?;
+    retried!(found; take_into(rt, &shared, &mut logs); true)?;
     print_regions(found, logs)
 }
 
@@ -186,13 +175,8 @@ fn list(slot: &mut Slot) -> Result<()> {
 fn take_again(found: &mut Found, slot: &mut Slot, logs: &mut LogBatch) -> Result<()> {
     let before = logs.clone()?;
     let listed = of_regions(slot.cleaned_regions());
-    let answer = take_of(slot, logs);
-    if !is_refused(&answer) {
-        return answer;
-    }
-    found.look(*logs == before && of_regions(slot.cleaned_regions()) == listed);
-    let answer = take_of(slot, logs);
-    found.again(answer)
+    retried!(found; take_of(slot, logs);
+        *logs == before && of_regions(slot.cleaned_regions()) == listed)
 }
 
 fn take_of(slot: &mut Slot, logs: &mut LogBatch) -> Result<()> {

@@ -1,7 +1,7 @@
 //! Changes of a table, and what is fetched of it.
 
 use crate::calls::Call;
-use crate::found::{Found, is_refused, word};
+use crate::found::{Found, is_refused, retried, word};
 use crate::seen::see;
 use raft_memtable::{
     EntryIndex, Error, FileBlockHandle, FileId, FileSeq, LogQueue, MemTable, MemTableAccessor,
@@ -86,12 +86,7 @@ pub(crate) fn change_all(found: &mut Found, changes: &[Change]) -> Result<()> {
 /// Changes the table; where there is no memory all tables have to be as they were.
 fn change_again(found: &mut Found, tables: &mut MemTableAccessor, change: Change) -> Result<()> {
     let before = see(tables);
-    let mut answer = apply(found.alloc, tables, change);
-    if is_refused(&answer) {
-        found.look(see(tables) == before);
-        answer = apply(found.alloc, tables, change);
-        answer = found.again(answer);
-    }
+    let answer = retried!(found; apply(found.alloc, tables, change); see(tables) == before);
     if is_refused(&answer) {
         return Err(Error::Memory);
     }

@@ -1,7 +1,7 @@
 //! Items that are written to the tables of several regions, calls at one region, and tables that are merged.
 
 use crate::calls;
-use crate::found::{Found, is_refused, word};
+use crate::found::{Found, is_refused, retried, word};
 use crate::seen::{are_counted, see};
 use crate::steps::{Step, written};
 use crate::tables::put;
@@ -108,17 +108,13 @@ pub(crate) fn write_all(found: &mut Found, calls: &[Call]) -> Result<()> {
 /// records where an item is written.
 fn call_again(found: &mut Found, tables: &mut MemTableAccessor, call: Call) -> Result<()> {
     let before = see(tables);
-    let answer = call_at(found.alloc, tables, call);
-    if !is_refused(&answer) {
-        return answer;
-    }
-    let mut after = see(tables);
-    if matches!(call, Call::Write(..)) {
-        after.tables = before.tables;
-    }
-    found.look(after == before);
-    let answer = call_at(found.alloc, tables, call);
-    found.again(answer)
+    retried!(found; call_at(found.alloc, tables, call); {
+        let mut after = see(tables);
+        if matches!(call, Call::Write(..)) {
+            after.tables = before.tables;
+        }
+        after == before
+    })
 }
 
 fn call_at(alloc: Global, tables: &mut MemTableAccessor, call: Call) -> Result<()> {
@@ -183,13 +179,8 @@ pub(crate) fn tables_of(alloc: Global, calls: &[Call]) -> Result<MemTableAccesso
 pub(crate) fn take(found: &mut Found) -> Result<()> {
     let mut tables = tables_of(found.alloc, CLEANED)?;
     let before = see(&tables);
-    let mut answer = tables.take_cleaned_region_logs();
-    if is_refused(&answer) {
-        found.look(see(&tables) == before);
-        answer = tables.take_cleaned_region_logs();
-        answer = found.again(answer);
-    }
-    print_regions(found, answer?)?;
+    let logs = retried!(found; tables.take_cleaned_region_logs(); see(&tables) == before)?;
+    print_regions(found, logs)?;
     print(found, &tables)
 }
 

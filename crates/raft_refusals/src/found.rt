@@ -3,6 +3,7 @@
 ghost use Rattle.std.specs.Prelude.{◌≡◌};
 
 use raft_records::{Error, Result};
+use raft_recover::refusal;
 use std::alloc::Global;
 
 /// The lines of a row, and what a refusal left.
@@ -98,15 +99,8 @@ pub(crate) fn word<T>(answer: &Result<T>) -> &'static str {
 
 fn refusal_word(error: &Error) -> &'static str {
     match error {
-        Error::InvalidArgument(_) => "invalid-argument",
-        Error::Corruption(_) => "corruption",
-        Error::Io(_) => "io",
-        Error::Codec(_) => "codec",
-        Error::Message(_) => "message",
         Error::EntryCompacted => "compacted",
         Error::EntryNotFound => "not-found",
-        Error::Full => "full",
-        Error::Memory => "memory",
-        _ => "failed",
+        _ => refusal(error),
     }
 }

@@ -5,7 +5,7 @@ ghost use Rattle.raft_ffi.specs.Words.{AllHold, BothHold, HasStrings, HasText, H
 ghost use Rattle.raft_ffi.specs.Words.{at_stage, bare, command_item, concat, empty_batch, encoded, encoded_length, entries_from, file_of, is_open, log_batch_bytes, pair_item, place_at, reserved_key, sealed, signature_of, stage_number};
 ghost use Rattle.raft_ffi.specs.Words.{strings_of, with_batch, with_entries_added, with_item, written_to, Clean, Compact, Truncate, Put, Del};
 
-use crate::handles::{Batch, Handle, Items, told, with};
+use crate::handles::{Batch, Handle, Items, or_told, told, with};
 use crate::item_list::items_of;
 use crate::status::{File, Status, copy_front, memory_code, queue};
 use raft_base::{CompressionType, EntryIndex, Error, FileBlockHandle, FileId, Result};
@@ -191,10 +191,8 @@ pub extern "C" fn raft_ffi_batch_delete(
     ensures changed { IsChangedIfMemory result (λ old new. new ≡ with_item old (pair_item region Del key.now None)) batch.old.value
         batch.new.value }
 {
-    match Vec::from_slice(alloc, key) {
-        Ok(key) => told!(held in batch, alloc; held.delete(region, key)),
-        Err(_) => 11,
-    }
+    let key = or_told!(Vec::from_slice(alloc, key));
+    told!(held in batch, alloc; held.delete(region, key))
 }
 
 /// Moves all items of another open batch to the end of an open one. The other one is then empty.
@@ -301,10 +299,8 @@ pub extern "C" fn raft_ffi_batch_into_items(alloc: Global, batch: Batch, items: 
     ensures err { result ≢ 0 → items.new.value ≡ None }
     ensures fault { result ≢ 0 → result ≡ 11 }
 {
-    match items_of(alloc, batch.into_held()) {
-        Ok(found) => memory_code(&items.put_new(alloc, found)),
-        Err(_) => 11,
-    }
+    let found = or_told!(items_of(alloc, batch.into_held()));
+    memory_code(&items.put_new(alloc, found))
 }
 
 /// Frees the batch.

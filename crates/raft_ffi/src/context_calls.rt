@@ -5,7 +5,7 @@ ghost use Rattle.raft_ffi.specs.Words.{AllHold, AreKept, AreOfTwoQueues, AreTabl
 ghost use Rattle.raft_ffi.specs.Words.{IsCodeForBoth, IsMadeIfMemory, IsMemoryOr, IsMergeAppendFault, IsMergedWith, IsNeighborFault, IsOfFailed, IsOverlaidExactly, IsOverlaidWith, IsRefusedFor, IsReadOrRefused, Sound, StandsForBoth};
 ghost use Rattle.raft_ffi.specs.Words.{StandsForBothExactly, StopsByFault, blank_context, capped, file_of, kept_of, part_of, queue_of, Failed, Reading};
 
-use crate::handles::{Context, Handle, Tables, told, told_or_gone, with};
+use crate::handles::{Context, Handle, Tables, or_told, told, told_or_gone, with};
 use crate::status::{File, Status, answered, memory_code, queue};
 use raft_accessor::MemTableAccessor;
 use raft_base::{Error, LogFileContext, LogQueue, Result};
@@ -33,10 +33,8 @@ pub extern "C" fn raft_ffi_context_new(alloc: Global, context: &mut Context) -> 
     ensures made { IsMadeIfMemory result blank_context context.new.value }
     ensures exact { result ≡ 0 → Holds (λ c. HasReadExactly c []) context.new.value }
 {
-    match MemTableRecoverContext::new(alloc) {
-        Ok(held) => memory_code(&context.put_new(alloc, held)),
-        Err(_) => 11,
-    }
+    let held = or_told!(MemTableRecoverContext::new(alloc));
+    memory_code(&context.put_new(alloc, held))
 }
 
 /// Replays the batches of bytes that stand in the file from `offset` on. Where that is refused the

@@ -91,8 +91,14 @@ macro_rules! told_or_gone {
     }};
 }
 
-/// Returns what was made; where there was no memory for it the call ends with `Memory`.
+/// Returns what was made; where there was no memory for it the call ends with `Memory`, by its number alone where it writes no text.
 macro_rules! or_told {
+    ($made:expr) => {
+        match $made {
+            Ok(made) => made,
+            Err(_) => return 11,
+        }
+    };
     ($made:expr, $alloc:ident, $text:ident) => {
         match $made {
             Ok(made) => made,

@@ -3,7 +3,7 @@
 ghost use Rattle.std.specs.Prelude.{◌≡◌, ◌≢◌, true, IsTrue, is_some, List, IfErr};
 ghost use Rattle.raft_ffi.specs.Words.{AreMovedAgain, AreUnmovedAgain, BothHold, HasText, Holds, IsCodeForBoth, IsCopied, IsRewritten, IsUnrewritten};
 
-use crate::handles::{Engine, Handle, told, with};
+use crate::handles::{Engine, Handle, or_told, told, with};
 use crate::status::{Maybe, Status, copy_front, is_rewrite, queue};
 use raft_accessor::MemTableAccessor;
 use raft_base::{Error, FileId, FileSeq, Result};
@@ -78,13 +78,8 @@ pub extern "C" fn raft_ffi_engine_moving_blocks(
     let gate = gate.number();
     let found =
         with!(held in engine, alloc; blocks_to_move(alloc, held.engine.accessor(), gate, max_size));
-    match found {
-        Ok(found) => {
-            *count = copy_front(found.as_slice(), places);
-            0
-        }
-        Err(_) => 11,
-    }
+    *count = copy_front(or_told!(found).as_slice(), places);
+    0
 }
 
 /// Lends the bytes that stand at a place, as many as the block has, until the next call that moves records. They are copied.

@@ -7,7 +7,7 @@ ghost use Rattle.raft_ffi.specs.Words.{IsAppendedFault, IsChangedIfMemory, IsCod
 ghost use Rattle.raft_ffi.specs.Words.{no_tables, number_in, share_of, slot_of, with_appended, with_newer, without_cleaned};
 ghost use Rattle.std.specs.FinMap as finite;
 
-use crate::handles::{Batch, Handle, Items, Tables, told, with};
+use crate::handles::{Batch, Handle, Items, Tables, or_told, told, with};
 use crate::item_list::ItemList;
 use crate::status::{Maybe, Status, memory_code};
 use raft_accessor::{MemTableAccessor, slot_of};
@@ -30,10 +30,8 @@ pub extern "C" fn raft_ffi_tables_new(alloc: Global, tables: &mut Tables) -> u32
     requires empty { tables.old.value ≡ None }
     ensures made { IsMadeIfMemory result no_tables tables.new.value }
 {
-    match MemTableAccessor::new(alloc) {
-        Ok(held) => memory_code(&tables.put_new(alloc, held)),
-        Err(_) => 11,
-    }
+    let held = or_told!(MemTableAccessor::new(alloc));
+    memory_code(&tables.put_new(alloc, held))
 }
 
 /// Sets the first and the last file of a region's atomic group, once the group's End is written.
@@ -67,14 +65,9 @@ pub extern "C" fn raft_ffi_tables_remove(
     ensures err { result ≢ 0 → tables.new.value ≡ tables.old.value }
     ensures fault { result ≢ 0 → (result ≡ 11) × IsTrue is_listed }
 {
-    let answer = with!(held in tables, alloc; counted!(held; held.remove(region, is_listed)));
-    match answer {
-        Ok(table) => {
-            *found = table.is_some();
-            0
-        }
-        Err(_) => 11,
-    }
+    let removed = with!(held in tables, alloc; counted!(held; held.remove(region, is_listed)));
+    *found = or_told!(removed).is_some();
+    0
 }
 
 /// Merges the tables of a newer neighbor, each into the table of its region. Those are gone then.

@@ -3,8 +3,8 @@
 ghost use Rattle.std.specs.Prelude.{◌≡◌, IsTrue, Some, None, is_some, ℕ, List, filter, OnOk, IfOk, IfErr, IsPermutation, option_copied};
 ghost use Rattle.raft_ffi.specs.Words.{Append, Rewrite, AreInKeyOrder, ArePairsIn, AreScanned, AreScannedIn, IsReadIfMemory, bound_in, is_below, is_between, moving_pairs, pairs_of_both, pairs_shown, pairs_up_to, table_in};
 
-use crate::handles::{Engine, Handle, Tables, told, with};
-use crate::status::copy_front;
+use crate::handles::{Engine, Handle, Tables, or_told, told, with};
+use crate::status::{copy_front, memory_code};
 use raft_accessor::MemTableAccessor;
 use raft_base::{Error, Result};
 use raft_engine::rewriting::pairs_to_move;
@@ -31,7 +31,8 @@ pub extern "C" fn raft_ffi_tables_pairs_before(
     ensures found { IsReadIfMemory result (λ a. ArePairsIn (pairs_up_to Append (Some gate) (table_in a.tables region).keys) lens.old
         lens.new count.new bytes.old bytes.new len.new) tables.old.value tables.new.value }
 {
-    told!(held in tables, alloc; find_moving_pairs(alloc, &*held, region, Some(gate), lens, count, bytes, len))
+    let found = or_told!(with!(held in tables, alloc; pairs_in(alloc, &*held, region, Some(gate))));
+    memory_code(&copy_pairs(alloc, &found, lens, count, bytes, len))
 }
 
 /// Lists the rewritten pairs of a region, in the order of the keys, as [`raft_ffi_tables_pairs_before`] does the appended ones.
@@ -49,7 +50,8 @@ pub extern "C" fn raft_ffi_tables_rewritten_pairs(
     ensures found { IsReadIfMemory result (λ a. ArePairsIn (pairs_up_to Rewrite None (table_in a.tables region).keys) lens.old
         lens.new count.new bytes.old bytes.new len.new) tables.old.value tables.new.value }
 {
-    told!(held in tables, alloc; find_moving_pairs(alloc, &*held, region, None, lens, count, bytes, len))
+    let found = or_told!(with!(held in tables, alloc; pairs_in(alloc, &*held, region, None)));
+    memory_code(&copy_pairs(alloc, &found, lens, count, bytes, len))
 }
 
 /// Lists the pairs of a region whose key is at or above `start` and, where that is asked for, below `end`, in the order of the keys,
@@ -120,24 +122,6 @@ fn scan_in(
     ensures memory { IfErr result (λ e. e ≡ Error.Memory) }
 {
     let found = scanned(alloc, accessor, region, start, end)?;
-    copy_pairs(alloc, &found, lens, count, bytes, len)
-}
-
-fn find_moving_pairs(
-    alloc: Global,
-    accessor: &MemTableAccessor,
-    region: u64,
-    gate: Option<u64>,
-    lens: &mut [usize],
-    count: &mut usize,
-    bytes: &mut [u8],
-    len: &mut usize,
-) -> Result<()>
-    ensures ok { OnOk result (ArePairsIn (moving_pairs gate (table_in accessor.now.tables region).keys)
-        lens.old lens.new count.new bytes.old bytes.new len.new) }
-    ensures memory { IfErr result (λ e. e ≡ Error.Memory) }
-{
-    let found = pairs_in(alloc, accessor, region, gate)?;
     copy_pairs(alloc, &found, lens, count, bytes, len)
 }
 

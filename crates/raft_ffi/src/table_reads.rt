@@ -5,7 +5,7 @@ ghost use Rattle.raft_ffi.specs.Words.{Rewrite, AreEntriesIn, AreRegionsIn, HasT
 ghost use Rattle.raft_ffi.specs.Words.{entry_at, live, moving_entries, number_in, placed_in, queue_of, range_answer, start_of, table_in, value_in};
 
 use crate::entries::{Entry, copy_entries, plain};
-use crate::handles::{Engine, Handle, Tables, told, with};
+use crate::handles::{Engine, Handle, Tables, or_told, told, with};
 use crate::status::{Maybe, Status, copy_found, copy_front, queue};
 use raft_accessor::MemTableAccessor;
 use raft_base::{EntryIndex, Error, LogQueue, Result};
@@ -137,7 +137,11 @@ pub extern "C" fn raft_ffi_tables_entries_before(
     ensures found { IsReadIfMemory result (λ a. AreEntriesIn (appended_before gate (table_in a.tables region).entries) entries.old
         entries.new count.new) tables.old.value tables.new.value }
 {
-    told!(held in tables, alloc; find_moving(alloc, &*held, region, Some(gate), entries, count))
+    let found = or_told!(
+        with!(held in tables, alloc; moving_in(alloc, &*held, region, Some(gate)))
+    );
+    *count = copy_entries(&found, entries);
+    0
 }
 
 /// Lists the rewritten entries of a region, as far as there is room, and says how many they are.
@@ -153,7 +157,9 @@ pub extern "C" fn raft_ffi_tables_rewritten_entries(
     ensures found { IsReadIfMemory result (λ a. AreEntriesIn (placed_in Rewrite (table_in a.tables region).entries) entries.old
         entries.new count.new) tables.old.value tables.new.value }
 {
-    told!(held in tables, alloc; find_moving(alloc, &*held, region, None, entries, count))
+    let found = or_told!(with!(held in tables, alloc; moving_in(alloc, &*held, region, None)));
+    *count = copy_entries(&found, entries);
+    0
 }
 
 /// Finds the value of a region's key, if there is one: as much of it as there is room for, and how long it is.
@@ -391,23 +397,6 @@ fn entries_in(
             MemTable::new(alloc, region).fetch_entries_to(begin, end, max_size, &mut found)?;
         }
     }
-    *count = copy_entries(&found, entries);
-    Ok(())
-}
-
-fn find_moving(
-    alloc: Global,
-    accessor: &MemTableAccessor,
-    region: u64,
-    gate: Option<u64>,
-    entries: &mut [Entry],
-    count: &mut usize,
-) -> Result<()>
-    ensures ok { OnOk result (AreEntriesIn (moving_entries gate
-        (table_in accessor.now.tables region).entries) entries.old entries.new count.new) }
-    ensures memory { IfErr result (λ e. e ≡ Error.Memory) }
-{
-    let found = moving_in(alloc, accessor, region, gate)?;
     *count = copy_entries(&found, entries);
     Ok(())
 }

@@ -75,13 +75,7 @@ fn context_named(queue: &str, seq: &str, version: &str) -> Option<LogFileContext
     Some(LogFileContext::new(FileId::new(queue, seq), version))
 }
 
-/// Returns what the words ask of a recovery, if they ask for one.
-///
-/// # Errors
-///
-/// `Memory`, which they then ask for.
-#[doc(hidden)]
-pub fn recovery_request<'a>(alloc: Global, words: &'a [String]) -> Result<Option<RecoverWords<'a>>>
+fn recovery_request<'a>(alloc: Global, words: &'a [String]) -> Result<Option<RecoverWords<'a>>>
     ensures asked { IfOk result (λ r. IfSome r (λ recovery.
         AsksRecovery (map string_bytes words.now) (asks_for recovery))) }
     ensures refused { IfOk result (λ r. IfNone r

@@ -57,13 +57,10 @@ pub(crate) fn of_words<R: Threads + Files + AllocGlobal + Sync>(
     rt: &R,
     words: &[String],
 ) -> Result<Option<Found>> {
-    let Some(request) = Request::parse(rt.alloc(), words)? else {
+    let Some(Request::Recover(asked)) = Request::parse(rt.alloc(), words)? else {
         return Ok(None);
     };
-    match request {
-        Request::Recover(asked) => Ok(Some(of_files(rt, asked)?)),
-        Request::Batch(_) => Ok(None),
-    }
+    Ok(Some(of_files(rt, asked)?))
 }
 
 /// Reads files at every cutting.

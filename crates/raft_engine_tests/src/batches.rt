@@ -3,10 +3,9 @@
 ghost use Rattle.std.specs.Prelude.{◌≡◌, IfOk, OnOk};
 ghost use Rattle.raft_records.specs.LogBatch.{is_open};
 
-use raft_base::{
-    EntryIndex, FileId, LogFileContext, Message, MessageError, MessageExt, Version, is_consecutive,
-};
+use raft_base::{EntryIndex, FileId, LogFileContext, Version, is_consecutive};
 use raft_records::{AtomicGroupBuilder, AtomicGroupStatus, Command, Error, LogBatch, Result};
+use raft_samples::{Proposal, Proposals};
 use std::alloc::Global;
 
 /// The region of all histories.
@@ -35,39 +34,6 @@ pub enum Part {
 
 /// The bytes of a large entry.
 static LARGE: [u8; 61_440] = [b'x'; 61_440];
-
-/// An entry.
-#[derive(Clone, Copy, PartialEq, Debug, Drop)]
-struct Entry {
-    index: u64,
-    bytes: &'static [u8],
-}
-
-impl Message for Entry {
-    ghost bytes_of = { λ entry. entry.bytes.now };
-
-    ghost refuses = { λ entry code. ⊥ };
-
-    fn write_to_vec(&self, buf: &mut Vec<u8>) -> std::result::Result<(), MessageError> {
-        match buf.extend_from_slice(self.bytes) {
-            Ok(()) => Ok(()),
-            Err(_) => Err(MessageError::Memory),
-        }
-    }
-}
-
-/// Logs of such entries.
-struct Entries;
-
-impl MessageExt for Entries {
-    type Entry = Entry;
-
-    ghost index_of = { λ entry. entry.index };
-
-    fn index(entry: &Entry) -> u64 {
-        entry.index
-    }
-}
 
 /// Returns a batch of an entry of these bytes.
 pub fn batch_with(alloc: Global, region: u64, index: u64, bytes: Vec<u8>) -> Result<LogBatch>
@@ -114,11 +80,12 @@ fn add(alloc: Global, batch: &mut LogBatch, part: Part) -> Result<()>
 {
     match part {
         Part::Entries(first, end) => {
-            batch.add_entries::<Entries>(REGION, entries_from(alloc, first, end, b"x")?.as_slice())
+            let entries = entries_from(alloc, first, end, b"x")?;
+            batch.add_entries::<Proposals>(REGION, entries.as_slice())
         }
         Part::Large(first, end) => {
             let entries = entries_from(alloc, first, end, &LARGE)?;
-            batch.add_entries::<Entries>(REGION, entries.as_slice())
+            batch.add_entries::<Proposals>(REGION, entries.as_slice())
         }
         Part::Put(value) => {
             let value = Vec::from_slice(alloc, value.as_bytes())?;
@@ -134,10 +101,11 @@ fn add(alloc: Global, batch: &mut LogBatch, part: Part) -> Result<()>
     }
 }
 
-fn entries_from(alloc: Global, first: u64, end: u64, bytes: &'static [u8]) -> Result<Vec<Entry>> {
+fn entries_from(alloc: Global, first: u64, end: u64, bytes: &[u8]) -> Result<Vec<Proposal>> {
     let mut entries = Vec::new(alloc);
     for index in first..end {
-        entries.push(Entry { index, bytes })?;
+        let text = Vec::from_slice(alloc, bytes)?;
+        entries.push(Proposal { index, text })?;
     }
     Ok(entries)
 }

@@ -8,45 +8,10 @@ mod refused;
 use crate::files::{file_of, replay_file};
 use crate::groups::part_of;
 use raft_memtable::{FileId, LogQueue, MemTableAccessor, MemTableRecoverContext, Result};
-use raft_records::{
-    AtomicGroupStatus, Command, FilePart, LogBatch, Message, MessageError, MessageExt,
-};
+use raft_records::{AtomicGroupStatus, Command, FilePart, LogBatch};
+use raft_samples::{Proposal, Proposals};
 use raft_trials::again;
 use std::alloc::Global;
-
-/// An entry of one byte.
-#[derive(Clone, Copy, PartialEq, Debug, Drop)]
-struct Line {
-    index: u64,
-}
-
-impl Message for Line {
-    ghost use Rattle.std.specs.Prelude.{[], ◌∷◌};
-
-    ghost bytes_of = { λ line. 120 ∷ [] };
-
-    ghost refuses = { λ line code. ⊥ };
-
-    fn write_to_vec(&self, buf: &mut Vec<u8>) -> std::result::Result<(), MessageError> {
-        match buf.push(b'x') {
-            Ok(()) => Ok(()),
-            Err(_) => Err(MessageError::Memory),
-        }
-    }
-}
-
-/// Logs of lines.
-struct Lines;
-
-impl MessageExt for Lines {
-    type Entry = Line;
-
-    ghost index_of = { λ line. line.index };
-
-    fn index(line: &Line) -> u64 {
-        line.index
-    }
-}
 
 /// What a batch says of region 1.
 #[derive(Clone, Copy)]
@@ -69,11 +34,12 @@ fn add(alloc: Global, region: u64, word: Word, batch: &mut LogBatch) -> Result<(
 {
     match word {
         Run(start, end) => {
-            let mut lines = Vec::new(alloc);
+            let mut proposals = Vec::new(alloc);
             for index in start..end {
-                lines.push(Line { index })?;
+                let text = Vec::from_slice(alloc, b"x")?;
+                proposals.push(Proposal { index, text })?;
             }
-            batch.add_entries::<Lines>(region, lines.as_slice())
+            batch.add_entries::<Proposals>(region, proposals.as_slice())
         }
         Compact(index) => batch.add_command(region, Command::Compact { index }),
         Truncate(index) => batch.add_command(region, Command::Truncate { index }),

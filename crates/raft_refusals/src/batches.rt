@@ -2,7 +2,7 @@
 
 use crate::calls::Call;
 use crate::found::{Found, is_refused, retried};
-use crate::steps::{Line, Step, add, batch_of};
+use crate::steps::{Step, add, batch_of};
 use raft_records::{
     AtomicGroupBuilder, AtomicGroupStatus, Error, FileId, FileSeq, LogBatch, LogFileContext,
     LogQueue, Result, Version,
@@ -13,23 +13,7 @@ pub(crate) static BATCHES: [Call; 6] = [
     Call::Batch(&[Step::Clean(1)], Version::V1, 12),
     Call::Batch(&[Step::Clean(1)], Version::V2, 12),
     Call::Batch(&[], Version::V1, 12),
-    Call::Batch(
-        &[Step::Entries(
-            7,
-            &[
-                Line {
-                    index: 10,
-                    text: b"ab",
-                },
-                Line {
-                    index: 11,
-                    text: b"c",
-                },
-            ],
-        )],
-        Version::V1,
-        12,
-    ),
+    Call::Batch(&[Step::Entries(7, 10, &["ab", "c"])], Version::V1, 12),
     Call::Batch(
         &[Step::Put(1, b"put", b"put_v"), Step::Delete(1, b"")],
         Version::V1,
@@ -40,14 +24,7 @@ pub(crate) static BATCHES: [Call; 6] = [
             Step::Run(7, 1, 40),
             Step::Compact(300, 300),
             Step::Truncate(1, 7),
-            Step::PutLine(
-                2,
-                b"k",
-                Line {
-                    index: 0,
-                    text: b"line",
-                },
-            ),
+            Step::PutMessage(2, b"k", b"line"),
             Step::Raw(8, 5, &[b"ab", b"", b"c"]),
         ],
         Version::V2,

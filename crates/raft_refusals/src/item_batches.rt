@@ -4,7 +4,7 @@ ghost use Rattle.std.specs.Prelude.{◌≡◌};
 
 use crate::calls::Call;
 use crate::found::{Found, is_refused, retried};
-use crate::steps::Line;
+use crate::steps::message;
 use raft_records::{
     Command, CompressionType, EntryIndex, Error, FileBlockHandle, FileId, LogFileContext,
     LogItemBatch, LogQueue, Result, Version,
@@ -15,7 +15,7 @@ use std::alloc::Global;
 enum Change {
     Command(u64),
     Put(&'static [u8], &'static [u8]),
-    PutLine(&'static [u8], Line),
+    PutMessage(&'static [u8], &'static [u8]),
     Delete(&'static [u8]),
     /// Two items of another batch are moved after the batch's own.
     Merge,
@@ -26,13 +26,7 @@ enum Change {
 static CHANGES: [Change; 5] = [
     Change::Command(7),
     Change::Put(b"put", b"put_v"),
-    Change::PutLine(
-        b"k",
-        Line {
-            index: 0,
-            text: b"line",
-        },
-    ),
+    Change::PutMessage(b"k", b"line"),
     Change::Delete(b""),
     Change::Merge,
 ];
@@ -76,7 +70,10 @@ fn apply(alloc: Global, batch: &mut LogItemBatch, change: Change) -> Result<()> 
     match change {
         Change::Command(index) => batch.add_command(1, Command::Compact { index }),
         Change::Put(key, value) => put(alloc, batch, key, value),
-        Change::PutLine(key, line) => batch.put_message(1, Vec::from_slice(alloc, key)?, &line),
+        Change::PutMessage(key, text) => {
+            let value = message(alloc, text)?;
+            batch.put_message(1, Vec::from_slice(alloc, key)?, &value)
+        }
         Change::Delete(key) => batch.delete(1, Vec::from_slice(alloc, key)?),
         Change::Merge => merge(alloc, batch),
         Change::Entries(region, first, lengths) => add_two(alloc, batch, region, first, lengths),

@@ -2,48 +2,17 @@
 
 use raft_records::{
     AtomicGroupBuilder, AtomicGroupStatus, Command, EntryIndex, Error, FileBlockHandle, FileId,
-    LogBatch, LogFileContext, Message, MessageError, MessageExt, Result, Version, is_consecutive,
+    LogBatch, LogFileContext, Result, Version, is_consecutive,
 };
+use raft_samples::{Proposal, Proposals, proposals_from};
 use std::alloc::Global;
-
-/// An entry, or a value, which is its text.
-#[derive(Clone, Copy, PartialEq, Debug, Drop)]
-pub(crate) struct Line {
-    pub(crate) index: u64,
-    pub(crate) text: &'static [u8],
-}
-
-impl Message for Line {
-    ghost bytes_of = { λ line. line.text.now };
-
-    ghost refuses = { λ line code. ⊥ };
-
-    fn write_to_vec(&self, buf: &mut Vec<u8>) -> std::result::Result<(), MessageError> {
-        match buf.extend_from_slice(self.text) {
-            Ok(()) => Ok(()),
-            Err(_) => Err(MessageError::Memory),
-        }
-    }
-}
-
-/// Logs of lines.
-struct Lines;
-
-impl MessageExt for Lines {
-    type Entry = Line;
-
-    ghost index_of = { λ line. line.index };
-
-    fn index(line: &Line) -> u64 {
-        line.index
-    }
-}
 
 /// What is added to a batch; the first number is the region.
 #[derive(Clone, Copy)]
 pub(crate) enum Step {
-    Entries(u64, &'static [Line]),
     /// From an index on, an entry for each text.
+    Entries(u64, u64, &'static [&'static str]),
+    /// The same, as bytes that are encoded already.
     Raw(u64, u64, &'static [&'static [u8]]),
     /// From an index to below another, entries of a byte.
     Run(u64, u64, u64),
@@ -51,7 +20,8 @@ pub(crate) enum Step {
     Compact(u64, u64),
     Truncate(u64, u64),
     Put(u64, &'static [u8], &'static [u8]),
-    PutLine(u64, &'static [u8], Line),
+    /// A value, which is a message.
+    PutMessage(u64, &'static [u8], &'static [u8]),
     Delete(u64, &'static [u8]),
     /// A group marker.
     Marker(u64, AtomicGroupStatus),
@@ -63,19 +33,29 @@ pub(crate) fn add(alloc: Global, batch: &mut LogBatch, step: Step) -> Result<()>
         return Err(Error::Failed);
     }
     match step {
-        Step::Entries(region, lines) => batch.add_entries::<Lines>(region, lines),
+        Step::Entries(region, first, texts) => {
+            let proposals = proposals_from(alloc, first, texts)?;
+            batch.add_entries::<Proposals>(region, proposals.as_slice())
+        }
         Step::Raw(region, first, texts) => add_raw(alloc, batch, region, first, texts),
         Step::Run(region, start, end) => add_run(alloc, batch, region, start, end),
         Step::Clean(region) => batch.add_command(region, Command::Clean),
         Step::Compact(region, index) => batch.add_command(region, Command::Compact { index }),
         Step::Truncate(region, index) => batch.add_command(region, Command::Truncate { index }),
         Step::Put(region, key, value) => put(alloc, batch, region, key, value),
-        Step::PutLine(region, key, line) => {
-            batch.put_message(region, Vec::from_slice(alloc, key)?, &line)
+        Step::PutMessage(region, key, text) => {
+            let value = message(alloc, text)?;
+            batch.put_message(region, Vec::from_slice(alloc, key)?, &value)
         }
         Step::Delete(region, key) => batch.delete(region, Vec::from_slice(alloc, key)?),
         Step::Marker(group, status) => add_marker(alloc, batch, group, status),
     }
+}
+
+/// Returns a message of this text.
+pub(crate) fn message(alloc: Global, text: &[u8]) -> Result<Proposal> {
+    let text = Vec::from_slice(alloc, text)?;
+    Ok(Proposal { index: 0, text })
 }
 
 fn put(alloc: Global, batch: &mut LogBatch, region: u64, key: &[u8], value: &[u8]) -> Result<()> {
@@ -87,14 +67,15 @@ fn put(alloc: Global, batch: &mut LogBatch, region: u64, key: &[u8], value: &[u8
 }
 
 fn add_run(alloc: Global, batch: &mut LogBatch, region: u64, start: u64, end: u64) -> Result<()> {
-    let mut lines = Vec::new(alloc);
+    let mut proposals = Vec::new(alloc);
     for index in start..end {
-        lines.push(Line { index, text: b"x" })?;
+        let text = Vec::from_slice(alloc, b"x")?;
+        proposals.push(Proposal { index, text })?;
     }
     if !batch.is_open() {
         return Err(Error::Failed);
     }
-    batch.add_entries::<Lines>(region, lines.as_slice())
+    batch.add_entries::<Proposals>(region, proposals.as_slice())
 }
 
 fn add_raw(

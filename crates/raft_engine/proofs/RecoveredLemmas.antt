@@ -1,5 +1,5 @@
 -- What a recovery gives of the files that are found.
-use Rattle.std.proofs.Common.{◌≡◌, ◌≢◌, ◌⊎◌, inl, inr, ℕ, ◌<◌, ◌^◌, List, [], ◌∷◌, ◌++◌, map, Vec, refl, sym, ap, subst, ◌∙◌, arith}
+use Rattle.std.proofs.Common.{◌≡◌, ◌≢◌, ◌⊎◌, inl, inr, ℕ, ◌<◌, ◌^◌, List, [], ◌∷◌, ◌++◌, map, Vec, refl, sym, ap, subst, ◌∙◌, arith, Result, Ok, Err, IfErr}
 use Rattle.std.specs.FinMap as finite
 use Rattle.std.specs.Global.{Global}
 use Rattle.raft_base.specs.Errors.{IsInvalidArgument}
@@ -17,7 +17,7 @@ use Rattle.raft_history.specs.Effects.{steps_of}
 use Rattle.raft_history.specs.Histories.{Apart, IsSmall, IsSoundIn, Sound}
 use Rattle.raft_history.specs.RegionSteps.{steps_of_items, steps_on}
 use Rattle.raft_accessor.specs.Accessor.{Accessor}
-use Rattle.raft_files.specs.Asks.{Ask, NumberedBytes}
+use Rattle.raft_files.specs.Asks.{NumberedBytes}
 use Rattle.raft_replay.specs.Segments.{SegmentsHold, parts_within}
 use Rattle.raft_replay.specs.Stops.{IsNothing, StopsAmong}
 use Rattle.raft_replay.specs.WrittenParts.{bytes_of_parts, bytes_of_segments}
@@ -25,10 +25,12 @@ use Rattle.raft_recover.specs.Files.{AreWholeFiles, FilesHold, bytes_of_files, s
 use Rattle.raft_recover.specs.Recovery.{AreBothRecovered, MayReplayBoth}
 use Rattle.raft_engine_laws.specs.Telling.{SayAllAtOpening, SayTheSame, TakeAway, told_items}
 use Rattle.raft_engine.specs.FileSegments.{AreSegmentsOfFiles}
-use Rattle.raft_engine.specs.FoundFiles.{AreReadyBy}
-use Rattle.raft_engine.specs.Markers.{AreOutOfRows, NoneIsInRows}
+use Rattle.raft_engine.specs.Markers.{AreOutOfRows, NoneIsHeld, NoneIsInRows}
 use Rattle.raft_engine.specs.Opening.{AreInRows, AreRecovered, IsToldAtOpening, fronts_of, items_in, with_items}
-use Rattle.raft_engine.specs.Unopened.{AreUnreadableAs, IsOpeningRefusal, IsRecoveryFault, IsTooLongAs, MayRecover, Refusal}
+use Rattle.raft_engine.specs.OpeningAsks.{missing_asks}
+use Rattle.raft_engine.specs.ReadFound.{AreReadyFiles, IsUntellable}
+use Rattle.raft_engine.specs.declared.reading.Ready.{Ready}
+use Rattle.raft_engine.specs.Unopened.{AreManyAs, AreUnreadableAs, IsOpeningRefusal, IsRecoveryFault, IsTooLongAs, MayRecover, Refusal}
 use Rattle.raft_engine.proofs.OpeningLemmas.{runs_found, says_all, take_away}
 use Rattle.raft_engine_laws.specs.GroupsInRows.{AreGroupsInRows}
 use Rattle.raft_engine_laws.proofs.InRows.{rows_apart}
@@ -174,15 +176,31 @@ out_of_rows few_records version rewrite h e held few sound none =
     record { batches = h; held = held; out = why.0; invalid = why.1 }
 
 -- why a reading is refused, once the files of both queues are ready
-pub reading_refused : (IsRefused : Refusal) (version : Version) (append rewrite append_left rewrite_left : List NumberedBytes) (append_missing rewrite_missing : List Ask) (e : Error)
-    → AreReadyBy Append version append_missing append append_left → AreReadyBy Rewrite version rewrite_missing rewrite rewrite_left
-    → (e ≢ errors.Memory → IsRecoveryFault IsRefused append_left rewrite_left e ⊎ IsTooLongAs version append_left rewrite_left e) → IsOpeningRefusal IsRefused version append rewrite e
-reading_refused IsRefused version append rewrite append_left rewrite_left append_missing rewrite_missing e append_ready rewrite_ready fault other = inr (inr (record {
-  append_missing = append_missing;
-  rewrite_missing = rewrite_missing;
-  append_left = append_left;
-  rewrite_left = rewrite_left;
-  append_ready = append_ready;
-  rewrite_ready = rewrite_ready;
-  fault = fault other;
-}))
+module _ (IsRefused : Refusal) (version : Version) (append rewrite append_left rewrite_left : List NumberedBytes) (ready : Ready) (are : AreReadyFiles version append rewrite append_left rewrite_left ready) where
+  pub reading_refused : (e : Error) → (e ≢ errors.Memory → IsRecoveryFault IsRefused append_left rewrite_left e ⊎ IsTooLongAs version append_left rewrite_left e) → IsOpeningRefusal IsRefused version append rewrite e
+  reading_refused e fault other = inr (inr (record {
+    append_missing = missing_asks Append ready.append_missing;
+    rewrite_missing = missing_asks Rewrite ready.rewrite_missing;
+    append_left = append_left;
+    rewrite_left = rewrite_left;
+    append_ready = are.append_ready;
+    rewrite_ready = are.rewrite_ready;
+    fault = fault other;
+  }))
+
+  -- they have too many bytes
+  pub many_refused : (e : Error) → (e ≢ errors.Memory → AreManyAs append_left e ⊎ AreManyAs rewrite_left e) → IsOpeningRefusal IsRefused version append rewrite e
+  many_refused e many = reading_refused e (λ other. elim (many other) [
+    | inl m ↦ inl (inl m)
+    | inr m ↦ inl (inr (inl m))
+  ])
+
+  -- what is told of them can't be told
+  pub untellable_refused : {T : Type 0} (result : Result T Error) (Held : List Event → Type 0) (accessor : Accessor) → IfErr result (λ e. e ≢ errors.Memory → IsUntellable Held accessor e)
+      → ((told : Batch) → IsToldAtOpening Held accessor.tables told → AreRecovered version append_left rewrite_left accessor told)
+      → ((e : Error) → NoneIsHeld Held → IsRefused append_left rewrite_left e) → IfErr result (IsOpeningRefusal IsRefused version append rewrite)
+  untellable_refused (Ok r) Held accessor why recovered none = tt
+  untellable_refused (Err e) Held accessor why recovered none = reading_refused e (λ other. elim (why other) [
+    | inl unheld ↦ inl (inr (inr (none e unheld)))
+    | inr long ↦ inr (record { accessor = accessor; told = long.0; recovered = recovered long.0 long.1; long = long.2; full = long.3 })
+  ])

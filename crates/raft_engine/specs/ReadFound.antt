@@ -1,15 +1,21 @@
 -- What the reading of found files gives, before anything is asked of them.
-use Rattle.std.specs.Prelude.{◌≡◌, ◌≢◌, ◌<◌, ◌^◌, List, []}
+use Rattle.std.specs.Prelude.{◌≡◌, ◌≢◌, ◌⊎◌, ◌<◌, ◌≤◌, ◌^◌, List, []}
+use Rattle.raft_base.specs.declared.errors.Error.{Error}
+use Rattle.raft_base.specs.declared.errors.Error.TheVariants as errors
 use Rattle.raft_base.specs.declared.pipe_log.LogQueue.TheVariants.{Append, Rewrite}
 use Rattle.raft_base.specs.declared.pipe_log.Version.{Version}
 use Rattle.raft_records.specs.LogBatch.{Batch, encoded, encoded_length}
+use Rattle.raft_history.specs.Batches.{Event}
+use Rattle.raft_accessor.specs.Accessor.{Accessor}
 use Rattle.raft_files.specs.Asks.{Ask, NumberedBytes}
 use Rattle.raft_engine.specs.FoundFiles.{AreReadyBy}
-use Rattle.raft_engine.specs.Opening.{AreRecovered}
+use Rattle.raft_engine.specs.Markers.{NoneIsHeld}
+use Rattle.raft_engine.specs.Opening.{AreRecovered, IsToldAtOpening}
 use Rattle.raft_engine.specs.OpeningAsks.{missing_asks, opening_asks}
 use Rattle.raft_engine.specs.QueueFilesOf.{AreOf}
 use Rattle.raft_engine.specs.StoredAsks.{IsWritableBatch}
 use Rattle.raft_engine.specs.declared.reading.Reading.{Reading}
+use Rattle.raft_engine.specs.declared.reading.Ready.{Ready}
 
 -- newest first, what is to be asked once found files are read
 abbrev pub reading_asks : Version → Reading → List Ask
@@ -35,3 +41,16 @@ pub record AreReadFound (version : Version) (append rewrite : List NumberedBytes
   pub writable : told.items ≢ [] → IsWritableBatch told
   pub made : r.told ≡ record told { stage = encoded }
   pub to_be_told : IsToBeTold r
+
+-- the found files of both queues are ready once what is missing was asked, and are these files then, with what is known of them
+pub record AreReadyFiles (version : Version) (append rewrite append_left rewrite_left : List NumberedBytes) (r : Ready) : Type 0 where
+  pub append_ready : AreReadyBy Append version (missing_asks Append r.append_missing) append append_left
+  pub rewrite_ready : AreReadyBy Rewrite version (missing_asks Rewrite r.rewrite_missing) rewrite rewrite_left
+  pub append_of : AreOf append_left r.append
+  pub rewrite_of : AreOf rewrite_left r.rewrite
+  pub room : r.rewrite.len < 2 ^ 63
+
+-- the batches of the append files can't be read, or what the rewrite queue is to be told of them has 2^56 bytes or more
+abbrev pub IsUntellable : (List Event → Type 0) → Accessor → Error → Type 0
+IsUntellable Held accessor e =
+    NoneIsHeld Held ⊎ ((told : Batch) × IsToldAtOpening Held accessor.tables told × (2 ^ 56 ≤ encoded_length told.items told.entry_bytes) × (e ≡ errors.Full))

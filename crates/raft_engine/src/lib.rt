@@ -19,11 +19,11 @@ mod put;
 mod queue_files;
 mod read_back;
 mod reading;
-mod recovered;
 mod removals;
 pub mod restarts;
 #[doc(hidden)]
 pub mod rewriting;
+mod segments;
 mod stored;
 mod stored_found;
 mod unopened;

@@ -1,7 +1,7 @@
 use Rattle.std.proofs.Common.{◌≡◌, ◌+◌, ◌<◌, ◌^◌, map, drop}
 use Rattle.raft_files.specs.HeldFiles.{file_shown}
 use Rattle.raft_recover.specs.Files.{bytes_of_files}
-use Rattle.raft_engine.proofs.recovered.are_few.Given as goal
+use Rattle.raft_engine.proofs.segments.are_few.Given as goal
 
 abbrev pub invariant-loop-bytes : goal.invariant-loop-bytes
 invariant-loop-bytes l = record {

@@ -247,10 +247,7 @@ impl<F: EngineFiles> Engine<F> {
     pub fn get(&self, region: u64, key: &[u8]) -> Option<&[u8]>
         ensures { option_map (λ v. v.now) result ≡ value_at (table_in self.now region).keys key.now }
     {
-        match self.accessor.get(region) {
-            Some(table) => table.get(key),
-            None => None,
-        }
+        self.accessor.get(region)?.get(key)
     }
 
     /// Returns the least index of a region's entries.
@@ -259,10 +256,7 @@ impl<F: EngineFiles> Engine<F> {
             (λ i. ((table_in self.now region).entries ≢ [])
             × (i ≡ start_of (table_in self.now region).entries)) }
     {
-        match self.accessor.get(region) {
-            Some(table) => table.first_index(),
-            None => None,
-        }
+        self.accessor.get(region)?.first_index()
     }
 
     /// Returns the greatest index of a region's entries.
@@ -270,10 +264,7 @@ impl<F: EngineFiles> Engine<F> {
         ensures { MatchOption result ((table_in self.now region).entries ≡ [])
             (λ i. i + 1 ≡ end_of (table_in self.now region).entries) }
     {
-        match self.accessor.get(region) {
-            Some(table) => table.last_index(),
-            None => None,
-        }
+        self.accessor.get(region)?.last_index()
     }
 
     /// Makes all that was written last.

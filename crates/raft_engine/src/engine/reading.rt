@@ -117,9 +117,6 @@ impl<F: EngineFiles> Engine<F> {
     fn entry_index(&self, region: u64, index: u64) -> Option<EntryIndex>
         ensures { result ≡ entry_at index (table_in self.now region).entries }
     {
-        match self.accessor.get(region) {
-            Some(table) => table.get_entry(index),
-            None => None,
-        }
+        self.accessor.get(region)?.get_entry(index)
     }
 }

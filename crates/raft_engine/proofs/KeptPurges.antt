@@ -22,8 +22,8 @@ use Rattle.raft_engine.specs.KeptEngineView.{AreFilesOf, IsKeptBy}
 use Rattle.raft_engine.specs.Lasting.{AreSynced}
 use Rattle.raft_engine.specs.Moved.{IsReady, IsTold, IsUntold}
 use Rattle.raft_engine.specs.Purged.{AreExpired, AreFilesPurged, AreFilesUnpurged, AreSomeDeleted, IsExpired, IsHalfPurged, IsLeastNeeded, asks_of_items, delete_asks, front_below, purge_asks, put_asks}
-use Rattle.raft_engine.specs.PurgedRewrites.{AreDeleted, AreHalfDeleted}
-use Rattle.raft_engine.specs.QueueFilesOf.{IsTakenOff, of_queue}
+use Rattle.raft_engine.specs.Purged.{AreDeleted, AreHalfDeleted}
+use Rattle.raft_engine.specs.QueueFilesOf.{IsQueueShorterBy, files_known}
 use Rattle.raft_engine.specs.ReadBack.{IsReadBackAlone}
 use Rattle.raft_engine.specs.Stored.{AreKeptStored, Bases}
 use Rattle.raft_engine.specs.StoredAsks.{DeletionsAreStored, IsWritableBatch, SyncsAreStored, ToldBatchesAreStored}
@@ -82,14 +82,14 @@ asked_parts deletes puts asks = sym (
 
 -- the files that are counted are expired
 pub its_expired : (queue : LogQueue) (version : Version) (asks : List Ask) (append rewrite : QueueFiles) (untold : Batch) (accessor : Accessor) (intact : Bool)
-    → IsKeptBy version asks append rewrite untold accessor intact → intact ≡ true → (files : QueueFiles) → files ≡ of_queue queue append rewrite
+    → IsKeptBy version asks append rewrite untold accessor intact → intact ≡ true → (files : QueueFiles) → files ≡ files_known queue append rewrite
     → (least count : ℕ) → IsLeastNeeded queue accessor.tables files.seq least → count ≡ front_below least files.closed.items
     → AreExpired queue (record { version = version; asks = asks; untold = untold; accessor = accessor; intact = intact }) count
 its_expired queue version asks append rewrite untold accessor intact k is_intact files are least count l counted =
     are_expired queue (record { version = version; asks = asks; untold = untold; accessor = accessor; intact = intact }) files (subst (AreFilesOf queue asks) (sym are) (its queue))
     (first queue) least count (rising queue) l counted
   where
-    its : (q : LogQueue) → AreFilesOf q asks (of_queue q append rewrite)
+    its : (q : LogQueue) → AreFilesOf q asks (files_known q append rewrite)
     its Append = (k.whole is_intact).append_files
     its Rewrite = (k.whole is_intact).rewrite_files
 
@@ -186,7 +186,7 @@ deletes_begun Rewrite Rewrite count asks = rewrite_deletes_begun count asks
 
 -- the files of both queues that are left
 both_left : (queue : LogQueue) (count : ℕ) (asks : List Ask) (append rewrite append' rewrite' : QueueFiles) → AreFilesOf Append asks append → AreFilesOf Rewrite asks rewrite
-    → count ≤ length (of_queue queue append rewrite).closed.items → IsTakenOff queue count append rewrite append' rewrite'
+    → count ≤ length (files_known queue append rewrite).closed.items → IsQueueShorterBy queue count append rewrite append' rewrite'
     → AreFilesOf Append (delete_asks queue count ++ asks) append' × AreFilesOf Rewrite (delete_asks queue count ++ asks) rewrite'
 both_left Append count asks append rewrite append' rewrite' a r few t = let none = append_deletes_others count asks in (
   files_deleted Append count asks append append' a few t.0.0 t.0.1 t.0.2,
@@ -210,13 +210,13 @@ module _
   one = ask Rewrite Sync ∷ asks
 
   abbrev files : QueueFiles
-  files = of_queue queue append rewrite
+  files = files_known queue append rewrite
 
   deleted : (q : LogQueue) → DeletionsAreStored q
   deleted Append = append_deleted
   deleted Rewrite = rewrite_deleted
 
-  both_files : (q : LogQueue) → AreFilesOf q asks (of_queue q append rewrite)
+  both_files : (q : LogQueue) → AreFilesOf q asks (files_known q append rewrite)
   both_files Append = (k.whole ready.intact).append_files
   both_files Rewrite = (k.whole ready.intact).rewrite_files
 
@@ -278,7 +278,7 @@ module _
       are_new : new ≡ delete_asks queue count ++ one
       are_new = is_new ∙ ap (λ (l : List Ask). delete_asks queue count ++ l) is_first
 
-      pub kept_deleted : (append' rewrite' : QueueFiles) → IsTakenOff queue count append rewrite append' rewrite' → IsKeptBy version new append' rewrite' untold accessor true
+      pub kept_deleted : (append' rewrite' : QueueFiles) → IsQueueShorterBy queue count append rewrite append' rewrite' → IsKeptBy version new append' rewrite' untold accessor true
       kept_deleted append' rewrite' taken =
           let w = k.whole ready.intact in
           let left = both_left queue count one append rewrite append' rewrite'

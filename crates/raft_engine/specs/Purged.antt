@@ -85,6 +85,14 @@ delete_asks queue (suc count) = ask queue Delete ∷ delete_asks queue count
 abbrev pub purge_asks : LogQueue → LogFileContext → Batch → ℕ → List Ask
 purge_asks queue file untold count = delete_asks queue count ++ (ask Rewrite Sync ∷ (put_asks file untold ++ ask Append Sync ∷ []))
 
+-- the rewrite queue is synced, and then so many files of a queue are deleted; nothing else is asked or changed
+abbrev pub AreDeleted : LogQueue → ℕ → KeptEngine → KeptEngine → Type 0
+AreDeleted queue count old new = new ≡ record old { asks = delete_asks queue count ++ (ask Rewrite Sync ∷ old.asks) }
+
+-- the same in part
+abbrev pub AreHalfDeleted : LogQueue → ℕ → KeptEngine → KeptEngine → Type 0
+AreHalfDeleted queue count old new = IsHalfDone (delete_asks queue count ++ (ask Rewrite Sync ∷ [])) old new
+
 -- so many files of a queue, one at least, are deleted, and nothing is untold then; nothing else is asked or changed
 pub record IsPurged (queue : LogQueue) (count : ℕ) (old new : KeptEngine) : Type 0 where
   pub some : 0 < count
@@ -127,8 +135,7 @@ pub record IsHalfPurged (queue : LogQueue) (old new : KeptEngine) : Type 0 where
   pub last : IsLastFile Rewrite old.asks seq bytes
   pub half : IsHalfDone (purge_asks queue (file_of Rewrite old seq) old.untold count) old new
 
--- nothing was asked for one of these reasons, for too many bytes only if some file of the queue is expired, and the engine is as it was; or it
--- is half done
+-- nothing was asked, for one of these reasons, `Full` only if some file of the queue is expired, and the engine is as it was; or it is half done
 abbrev pub AreFilesUnpurged : LogQueue → KeptEngine → KeptEngine → Error → Type 0
 AreFilesUnpurged queue old new e = ((new ≡ old) × IsPurgeRefusal old e × (e ≡ errors.Full → AreSomeExpired queue old)) ⊎ IsHalfPurged queue old new
 

@@ -14,16 +14,16 @@ pub record AreOf (files : List NumberedBytes) (known : QueueFiles) : Type 0 wher
   pub have : known.closed.items ≡ numbers closed
   pub ends : known.len ≡ length bytes
 
--- those of one of both queues
-abbrev pub of_queue : LogQueue → QueueFiles → QueueFiles → QueueFiles
-of_queue Append append rewrite = append
-of_queue Rewrite append rewrite = rewrite
+-- what is known of the files of one of both queues
+abbrev pub files_known : LogQueue → QueueFiles → QueueFiles → QueueFiles
+files_known Append append rewrite = append
+files_known Rewrite append rewrite = rewrite
 
--- the numbers of the oldest ones, so many, are taken off
-abbrev pub AreTakenOff : ℕ → QueueFiles → QueueFiles → Type 0
-AreTakenOff count old new = (new.closed.items ≡ drop count old.closed.items) × (new.seq ≡ old.seq) × (new.len ≡ old.len)
+-- the numbers of so many files, the oldest ones, are taken off
+abbrev pub IsShorterBy : ℕ → QueueFiles → QueueFiles → Type 0
+IsShorterBy count old new = (new.closed.items ≡ drop count old.closed.items) × (new.seq ≡ old.seq) × (new.len ≡ old.len)
 
--- those of a queue's, and the other one's are as they were
-abbrev pub IsTakenOff : LogQueue → ℕ → QueueFiles → QueueFiles → QueueFiles → QueueFiles → Type 0
-IsTakenOff Append count append rewrite append' rewrite' = AreTakenOff count append append' × (rewrite' ≡ rewrite)
-IsTakenOff Rewrite count append rewrite append' rewrite' = (append' ≡ append) × AreTakenOff count rewrite rewrite'
+-- they are taken off this queue's list, and what is known of the other queue is as it was
+abbrev pub IsQueueShorterBy : LogQueue → ℕ → QueueFiles → QueueFiles → QueueFiles → QueueFiles → Type 0
+IsQueueShorterBy Append count append rewrite append' rewrite' = IsShorterBy count append append' × (rewrite' ≡ rewrite)
+IsQueueShorterBy Rewrite count append rewrite append' rewrite' = (append' ≡ append) × IsShorterBy count rewrite rewrite'

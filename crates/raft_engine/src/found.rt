@@ -15,7 +15,6 @@ use raft_base::{Error, FileId, FileSeq, LogFileContext, LogQueue, Result, Versio
 use raft_records::laws::log_batches_are_read_again;
 use raft_records::{FilePart, LogBatch, next_batch, next_in, readable_front};
 use raft_replay::segment::corruption_at;
-use std::alloc::Global;
 
 /// Why a file is refused whose torn batch is followed by another one.
 const DAMAGED: &str = "a batch stands behind one that can't be read";

@@ -3,7 +3,7 @@
 ghost use Rattle.std.specs.Prelude.{◌≡◌, ◌≤◌, ◌++◌, map, IfErr, IfOk, OnErr, OnOk};
 ghost use Rattle.std.specs.Vec.{vec_len};
 ghost use Rattle.raft_engine.specs.OpeningAsks.{FailsAmong};
-ghost use Rattle.raft_engine.specs.QueueFilesOf.{IsTakenOff, of_queue};
+ghost use Rattle.raft_engine.specs.QueueFilesOf.{IsQueueShorterBy, files_known};
 ghost use Rattle.raft_engine.specs.Purged.{AreSomeDeleted, IsLeastNeeded, delete_asks, front_below, least_among};
 
 use crate::queue_files::QueueFiles;
@@ -56,7 +56,7 @@ pub fn count_below(seqs: &[FileSeq], least: FileSeq) -> usize
 ///
 /// # Errors
 ///
-/// Those of `EngineFiles::delete_oldest`. Some were deleted then.
+/// Those of `EngineFiles::delete_oldest`. Some were deleted then, and both lists are as they were.
 pub fn delete_oldest<F: EngineFiles>(
     files: &mut F,
     queue: LogQueue,
@@ -64,9 +64,9 @@ pub fn delete_oldest<F: EngineFiles>(
     append: &mut QueueFiles,
     rewrite: &mut QueueFiles,
 ) -> Result<()>
-    requires { count ≤ vec_len (of_queue queue append.old rewrite.old).closed }
+    requires { count ≤ vec_len (files_known queue append.old rewrite.old).closed }
     ensures asked { OnOk result (F.asked files.new ≡ delete_asks queue count ++ F.asked files.old) }
-    ensures taken { OnOk result (IsTakenOff queue count append.old rewrite.old append.new rewrite.new) }
+    ensures taken { OnOk result (IsQueueShorterBy queue count append.old rewrite.old append.new rewrite.new) }
     ensures err { OnErr result (AreSomeDeleted queue count (F.asked files.old) (F.asked files.new)) }
     ensures fault { IfErr result (FailsAmong F.may_fail (delete_asks queue count) (F.asked files.old)
         (F.asked files.new)) }
@@ -75,8 +75,12 @@ pub fn delete_oldest<F: EngineFiles>(
         files.delete_oldest(queue)?;
     }
     match queue {
-        LogQueue::Append => append.closed.drain(..count),
-        LogQueue::Rewrite => rewrite.closed.drain(..count),
-    };
+        LogQueue::Append => {
+            append.closed.drain(..count);
+        }
+        LogQueue::Rewrite => {
+            rewrite.closed.drain(..count);
+        }
+    }
     Ok(())
 }

@@ -4,7 +4,7 @@ ghost use Rattle.std.specs.Prelude.{◌≡◌, ◌⊎◌, ◌<◌, ◌+◌, ◌-
 ghost use Rattle.raft_files.specs.Asks.{Begin, Sync, ask};
 ghost use Rattle.raft_files.specs.HeldFiles.{file_shown};
 ghost use Rattle.raft_engine.specs.OpeningAsks.{FailsAmong};
-ghost use Rattle.raft_engine.specs.QueueFilesOf.{of_queue};
+ghost use Rattle.raft_engine.specs.QueueFilesOf.{files_known};
 
 use raft_base::{Error, FileSeq, LogQueue, Result};
 use raft_files::EngineFiles;
@@ -22,12 +22,12 @@ pub struct QueueFiles {
 }
 
 /// Returns the files of one of both queues.
-pub fn of_queue<'a>(
+pub fn files_known<'a>(
     queue: LogQueue,
     append: &'a QueueFiles,
     rewrite: &'a QueueFiles,
 ) -> &'a QueueFiles
-    ensures { result.now ≡ of_queue queue append.now rewrite.now }
+    ensures { result.now ≡ files_known queue append.now rewrite.now }
 {
     match queue {
         LogQueue::Append => append,

@@ -8,12 +8,12 @@ ghost use Rattle.raft_engine.specs.Moved.{IsReady};
 ghost use Rattle.raft_engine.specs.MovedAgain.{AreMovedAgain, AreUnmovedAgain, IsRewriteRotated, IsRewriteUnrotated};
 ghost use Rattle.raft_engine.specs.MovingFaults.{IsAgainFault, IsRewriteRotationFault};
 ghost use Rattle.raft_engine.specs.OpeningAsks.{FailsAmong};
-ghost use Rattle.raft_engine.specs.Purged.{AreExpired, AreFilesPurged, AreFilesUnpurged, delete_asks};
-ghost use Rattle.raft_engine.specs.PurgedRewrites.{AreDeleted, AreHalfDeleted, AreRewritesPurged, AreRewritesUnpurged};
+ghost use Rattle.raft_engine.specs.Purged.{AreDeleted, AreExpired, AreFilesPurged, AreFilesUnpurged, AreHalfDeleted, delete_asks};
+ghost use Rattle.raft_engine.specs.PurgedRewrites.{AreRewritesPurged, AreRewritesUnpurged};
 
 use super::Engine;
 use crate::purge::{count_below, delete_oldest, least_needed};
-use crate::queue_files::of_queue;
+use crate::queue_files::files_known;
 use crate::rewriting::regions_of;
 use crate::stored::asks_are_stored;
 use raft_base::{Error, LogQueue, Result};
@@ -127,7 +127,7 @@ impl<F: EngineFiles> Engine<F> {
         ensures ok { IfOk result (AreExpired queue self.now) }
         ensures memory { IfErr result (λ e. e ≡ Error.Memory) }
     {
-        let files = of_queue(queue, &self.append, &self.rewrite);
+        let files = files_known(queue, &self.append, &self.rewrite);
         let least = least_needed(&self.accessor, queue, files.seq)?;
         Ok(count_below(&files.closed, least))
     }

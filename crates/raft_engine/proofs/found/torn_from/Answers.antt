@@ -1,4 +1,4 @@
-use Rattle.std.proofs.Common.{◌≡◌, ℕ, inl, inr, subst, ◌∙◌, sym}
+use Rattle.std.proofs.Common.{◌≡◌, inl, inr, subst, ◌∙◌, sym}
 use Rattle.std.proofs.lemmas.Bool.{false≢true}
 use Rattle.raft_base.specs.declared.pipe_log.FileId.{FileId}
 use Rattle.raft_replay.specs.Stops.{IsUnreadableAt}

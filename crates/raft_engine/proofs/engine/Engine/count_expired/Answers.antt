@@ -9,4 +9,4 @@ returns-clause-ok g c =
     let e = c.self.inside in
     subst (λ (o : KeptEngine). AreExpired c.args.queue o c.count_below.result) c.self.view_is
     (its_expired c.args.queue e.version (g.F.EngineFiles.asked e.files) e.append e.rewrite e.untold e.accessor e.intact c.self.invariant (ap (λ (o : KeptEngine). o.intact) c.self.view_is ∙ c.requires)
-    c.of_queue-files.result.now c.of_queue-files.ensures c.in_ok-least.least c.count_below.result c.in_ok-least.ensures.ok (c.count_below.ensures ∙ ap (front_below c.in_ok-least.least) c.deref.ensures.value))
+    c.files_known-files.result.now c.files_known-files.ensures c.in_ok-least.least c.count_below.result c.in_ok-least.ensures.ok (c.count_below.ensures ∙ ap (front_below c.in_ok-least.least) c.deref.ensures.value))

@@ -4,8 +4,8 @@ use Rattle.raft_files.specs.Asks.{Ask, Sync, ask}
 use Rattle.raft_engine.specs.KeptEngine.{KeptEngine}
 use Rattle.raft_engine.specs.Moved.{IsReady}
 use Rattle.raft_engine.specs.Purged.{AreExpired, delete_asks}
-use Rattle.raft_engine.specs.PurgedRewrites.{AreDeleted, AreHalfDeleted}
-use Rattle.raft_engine.specs.QueueFilesOf.{of_queue}
+use Rattle.raft_engine.specs.Purged.{AreDeleted, AreHalfDeleted}
+use Rattle.raft_engine.specs.QueueFilesOf.{files_known}
 use Rattle.raft_engine.proofs.KeptLemmas.{kept_broken}
 use Rattle.raft_engine.proofs.KeptPurges.{few, is_deleted, kept_deleted, none_half, some_broken, some_half}
 use Rattle.raft_engine.proofs.RewrittenRegions.{on_any}
@@ -22,7 +22,7 @@ delete_oldest-requires g c =
     let x = subst (λ (o : KeptEngine). AreExpired c.args.queue o c.args.count) (sym c.self.view_is) c.requires.expired in
     let low = few c.args.queue c.asks_are_stored.ensures.synced c.asks_are_stored.ensures.deleted c.asks_are_stored.ensures.rewrite_deleted
     e.version old e.append e.rewrite e.untold e.accessor e.intact c.self.invariant ready c.args.count x in
-    let long = (of_queue c.args.queue e.append e.rewrite).closed.ok in
+    let long = (files_known c.args.queue e.append e.rewrite).closed.ok in
     omega (arith, low, long)
 
 pub invariant_of-self : goal.invariant_of-self

@@ -161,13 +161,13 @@ fn is_written<T: ReactiveBytes>(
     bytes.len() == front.len() + seal.len() && bytes.starts_with(front) && bytes.ends_with(seal)
 }
 
-/// Reads a batch back from its bytes in a file, if its header fits them: where its items begin, its entry bytes and its
-/// items.
+/// Reads a batch back from its bytes in a file, if its header fits them: where its items begin, its entry bytes, and its
+/// items or why they can't be read.
 fn read_back(
     alloc: Global,
     bytes: &[u8],
     context: &LogFileContext,
-) -> Result<Option<(usize, Vec<u8>, LogItemBatch)>> {
+) -> Result<Option<(usize, Vec<u8>, Result<LogItemBatch>)>> {
     let mut behind = bytes;
     let (offset, compression_type, len) = LogBatch::decode_header(alloc, &mut behind)?;
     if offset > len || len != bytes.len() {
@@ -180,7 +180,7 @@ fn read_back(
     };
     let entries = LogBatch::decode_entries_block(alloc, behind, place, compression_type)?;
     let mut item_batch = &bytes[offset..];
-    let items = LogItemBatch::decode(alloc, &mut item_batch, place, compression_type, context)?;
+    let items = LogItemBatch::decode(alloc, &mut item_batch, place, compression_type, context);
     Ok(Some((offset, entries, items)))
 }
 
@@ -204,7 +204,7 @@ fn is_read_so(
     Ok(
         offset == row.offset
             && entries.as_slice() == row.entry_bytes
-            && items.approximate_size() == row.item_batch_size,
+            && items?.approximate_size() == row.item_batch_size,
     )
 }
 

@@ -10,11 +10,12 @@ use std::alloc::Global;
 
 /// Tests whether the items of a log batch are read from its bytes in a file, after these entry bytes.
 fn is_read(alloc: Global, bytes: &[u8], seq: u64, entry_bytes: &[u8]) -> Result<bool> {
-    match read_back(alloc, bytes, &context(seq, Version::V2)) {
-        Ok(Some((_offset, entries, items))) => {
-            Ok(entries.as_slice() == entry_bytes && !items.into_items().is_empty())
-        }
-        Ok(None) => Ok(false),
+    let Some((_offset, entries, items)) = read_back(alloc, bytes, &context(seq, Version::V2))?
+    else {
+        return Ok(false);
+    };
+    match items {
+        Ok(items) => Ok(entries.as_slice() == entry_bytes && !items.into_items().is_empty()),
         Err(Error::Corruption(_text)) => Ok(false),
         Err(e) => Err(e),
     }

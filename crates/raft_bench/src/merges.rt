@@ -42,23 +42,20 @@ fn time_run<R: AllocGlobal + Clock>(
     queue: LogQueue,
 ) -> Result<([u64; 2], ())> {
     let (reading, contexts) = timed(rt, || read_quarters(rt.alloc(), quarters))?;
-    let contexts = contexts?;
-    let (merging, merged) = timed(rt, || merge_by_halves(contexts, queue))?;
-    merged?;
+    let (older, newer) = contexts?;
+    let (merging, done) = timed(rt, || merge_by_halves(older, newer, queue))?;
+    done?;
     Ok(([reading, merging], ()))
 }
 
+/// The contexts of two quarters of the files, one behind the other.
+type Half = (MemTableRecoverContext, MemTableRecoverContext);
+
 /// Returns a context for each quarter of the files.
-fn read_quarters(
-    alloc: Global,
-    quarters: &[Segment; CONTEXTS],
-) -> Result<[MemTableRecoverContext; CONTEXTS]> {
-    Ok([
-        read(alloc, &quarters[0])?,
-        read(alloc, &quarters[1])?,
-        read(alloc, &quarters[2])?,
-        read(alloc, &quarters[3])?,
-    ])
+fn read_quarters(alloc: Global, quarters: &[Segment; CONTEXTS]) -> Result<(Half, Half)> {
+    let older = (read(alloc, &quarters[0])?, read(alloc, &quarters[1])?);
+    let newer = (read(alloc, &quarters[2])?, read(alloc, &quarters[3])?);
+    Ok((older, newer))
 }
 
 /// Returns a context of this segment.
@@ -68,10 +65,15 @@ fn read(alloc: Global, segment: &Segment) -> Result<MemTableRecoverContext> {
     Ok(context)
 }
 
-/// Merges the first two contexts and the last two, and then both of these.
-fn merge_by_halves(contexts: [MemTableRecoverContext; CONTEXTS], queue: LogQueue) -> Result<()> {
-    let [mut older, second, mut newer, fourth] = contexts;
-    older.merge(second, queue)?;
-    newer.merge(fourth, queue)?;
-    older.merge(newer, queue)
+/// Merges the contexts of each half, and then both of these.
+fn merge_by_halves(older: Half, newer: Half, queue: LogQueue) -> Result<()> {
+    let mut older = merged(older, queue)?;
+    older.merge(merged(newer, queue)?, queue)
+}
+
+/// Merges the contexts of a half.
+fn merged(half: Half, queue: LogQueue) -> Result<MemTableRecoverContext> {
+    let (mut older, newer) = half;
+    older.merge(newer, queue)?;
+    Ok(older)
 }

@@ -14,14 +14,27 @@ frame_limit=16384
 room=$(mktemp -d)
 trap 'rm -rf "$room"' EXIT
 
+# Says what begins, and how long what came before it took.
+heading=
+begun=$SECONDS
+step() {
+  [ -z "$heading" ] || echo "-- $heading: $((SECONDS - begun)) s"
+  heading=$1
+  begun=$SECONDS
+  [ -z "$heading" ] || echo "-- $heading"
+}
+
+step "pages, declarations and wrong bodies"
 tools/believe.py --check
 tools/calls.py --check
 tools/ffi.py
 tools/wrong_bodies.py --applies
+step "proofs, must-fail edits, tests and programs"
 # (`rt ci` puts back the libraries that it finds in out/, which may be of other sources; tools/archive.py is to find its own)
 rm -rf crates/*/out/rlib
 "${RT:-rt}" ci | tee "$room/proved"
 
+step "words that aren't UTF-8, and a scan"
 status=0
 "$program" recover append 1 1 $'1=\xff' > "$room/out" 2> "$room/err" || status=$?
 if [ "$status" != 2 ] || [ -s "$room/out" ] || ! grep -q '^usage: raftlog ' "$room/err"; then
@@ -35,20 +48,26 @@ if [ "$status" != 0 ] || [ -s "$room/err" ] || ! cmp -s "$room/out" "$room/wante
   echo "a scan of a sound file: status $status, and not its lines alone"
   exit 1
 fi
+step "frames and little stack"
 tools/frames.py "$program" --show 3 --limit "$frame_limit"
 tools/stack.py "$program"
+step "crashes"
 "$crashes" 1 500 2>&1 | tee "$room/crashes"
 (cd "$room" && "$group_crashes" 1 25 1) 2>&1 | tee -a "$room/crashes"
 if [ "$(grep -c '^[1-9].* recoveries$' "$room/crashes")" != 2 ]; then
   echo "crashes: none was tried"
   exit 1
 fi
+step "failed writes"
 tools/short_writes.py
+step "refused memory"
 if command -v cc > "$room/compiler"; then
   tools/refused_memory.py --rows-alone --every 5 --row batches --row tables --row contexts --row take --row shared --row shared-take
 fi
+step "the archive of raft_ffi, and the tests of rust/"
 if cargo --version > "$room/cargo" 2>&1; then
   tools/archive.py > "$room/archive" 2>&1 || { cat "$room/archive"; exit 1; }
   CARGO_TARGET_DIR="$room/target" make --silent rust-tests
 fi
+step ""
 tail -n 1 "$room/proved"

@@ -163,7 +163,8 @@ def opened(program, files):
         for name, bytes_ in files:
             (folder / name).write_bytes(bytes_)
         ended = subprocess.run([program, folder], capture_output=True, text=True, timeout=SECONDS)
-        return tuple(ended.stdout.splitlines()[1:3]) if ended.returncode == 0 else None
+        regions = [line for line in ended.stdout.splitlines() if line.startswith("  region ")]
+        return tuple(regions[:2]) if ended.returncode == 0 else None
 
 
 def main():

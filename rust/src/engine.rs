@@ -1,6 +1,6 @@
 //! An engine: the logs of many regions, in files that it writes.
 
-use crate::sys::EngineHandle;
+use crate::sys::{EngineHandle, Order};
 use crate::{Error, Queue, Result};
 use std::fmt;
 use std::path::Path;
@@ -8,6 +8,7 @@ use std::sync::{Mutex, MutexGuard, OnceLock};
 
 mod commit;
 mod entries;
+mod failure;
 mod files;
 mod folder_files;
 mod found;
@@ -20,6 +21,7 @@ mod pairs;
 mod purged;
 mod purging;
 mod reading;
+mod recovered;
 mod stats;
 mod writing;
 
@@ -30,9 +32,11 @@ pub use memory_files::{Ask, MemoryFiles, Unsynced};
 pub use options::Options;
 pub use pairs::Pairs;
 pub use purged::Purged;
+pub use recovered::{CutTail, Recovered};
 pub use stats::{QueueStats, Stats};
 
 use commit::Commits;
+use failure::Failure;
 use found::Found;
 use numbers::Numbers;
 
@@ -83,10 +87,12 @@ use numbers::Numbers;
 /// # Ok::<(), raft_recover::Error>(())
 /// ```
 ///
-/// What was written is read at once, synced or not. Where a call on the files fails, and in few cases without memory, the engine
-/// fails: every later call returns `Failed` with the reason, and what the files have is found when it is dropped and they are
-/// opened again; where a sync failed, once the machine was started again ([`Files`] says why). A call that is refused otherwise
-/// changes nothing, unless it says what it leaves. Dropping an engine syncs nothing.
+/// What was written is read at once, synced or not. Where a change of the files fails, and in few cases without memory, the
+/// engine fails: every later change returns `Failed` with the reason, and what the files have is found when it is dropped and they
+/// are opened again; where a sync failed, once the machine was started again ([`Files`] says why). Where it was the files that
+/// failed, as on a full disk, reads go on: they find all that was written, and perhaps what was being written then, which may
+/// last or not. Else they return `Failed` too. A call that is refused otherwise changes nothing, unless it says what it leaves.
+/// Dropping an engine syncs nothing.
 ///
 /// A batch is handed in by one thread, and files that threads can't share make no engine:
 ///
@@ -116,20 +122,24 @@ use numbers::Numbers;
 pub struct Engine<F: Files = FolderFiles> {
     files: F,
     options: Options,
+    /// What was cut when the files were opened.
+    recovered: Recovered,
     /// The tables, locked for single calls.
     tables: Mutex<EngineHandle>,
     /// It is held from a call that orders something until that is carried out.
     turn: Mutex<()>,
     numbers: Mutex<Numbers>,
     commits: Commits,
+    /// Whether it takes no change.
+    is_read_only: bool,
     /// Why the engine failed.
-    failure: OnceLock<Error>,
+    failure: OnceLock<Failure>,
 }
 
 impl Engine {
     /// Opens a folder, or makes it. Its files are read on several threads ([`Options::recovery_threads`]). The torn tail of
-    /// a queue's last file, which a stop in the midst of a write leaves, is cut. A damaged last batch there, and all from a
-    /// header with a damaged length on, counts as one.
+    /// a queue's last file, which a stop in the midst of a write leaves, is cut, and kept in a file beside. A damaged last batch
+    /// there counts as one, unless its checksum is that for another file. [`Engine::recovered`] tells of it.
     ///
     /// ```
     /// use raft_recover::{Engine, Options};
@@ -147,6 +157,37 @@ impl Engine {
     pub fn open(path: impl AsRef<Path>, options: Options) -> Result<Engine> {
         Engine::with_files(FolderFiles::open(path)?, options)
     }
+
+    /// Opens a folder to read it, as [`Engine::with_files_read_only`] and [`FolderFiles::open_read_only`] do. Nothing in it is made,
+    /// changed or synced, so it may be one that can only be read. Several may read it at a time, while no engine has it open that
+    /// writes.
+    ///
+    /// ```
+    /// use raft_recover::{Engine, ErrorKind, LogBatch, Options};
+    ///
+    /// # let folder = std::env::temp_dir().join(format!("raft-recover-read-only-{}", std::process::id()));
+    /// let engine = Engine::open(&folder, Options::new())?;
+    /// let mut batch = LogBatch::new()?;
+    /// batch.put(7, b"key", b"value")?;
+    /// engine.write(&mut batch, true)?;
+    /// let refused = Engine::open_read_only(&folder, Options::new()).unwrap_err();
+    /// assert_eq!(refused.kind, ErrorKind::TryAgain);
+    /// drop(engine);
+    ///
+    /// let engine = Engine::open_read_only(&folder, Options::new())?;
+    /// let another = Engine::open_read_only(&folder, Options::new())?;
+    /// assert_eq!(another.get(7, b"key")?, engine.get(7, b"key")?);
+    /// assert_eq!(engine.purge().unwrap_err().kind, ErrorKind::InvalidArgument);
+    /// # std::fs::remove_dir_all(folder).unwrap();
+    /// # Ok::<(), raft_recover::Error>(())
+    /// ```
+    ///
+    /// # Errors
+    ///
+    /// Those of [`FolderFiles::open_read_only`] and [`Engine::with_files_read_only`].
+    pub fn open_read_only(path: impl AsRef<Path>, options: Options) -> Result<Engine> {
+        Engine::with_files_read_only(FolderFiles::open_read_only(path)?, options)
+    }
 }
 
 impl<F: Files> Engine<F> {
@@ -162,25 +203,83 @@ impl<F: Files> Engine<F> {
     ///
     /// # Errors
     ///
-    /// `Corruption` where a file before the last one of its queue can't be read, the last one is damaged in front of a batch
-    /// that can be read, it is of the other version, or the numbers of files don't rise; `InvalidArgument` where a file is one
-    /// of raft-engine, which begins with a header, or the batches of an atomic
-    /// group don't stand in a row in one file; `Codec`, `Full`. Nothing was asked of
-    /// the files then but to be read. `Io`, `Memory`: whatever is left has the records that were found.
+    /// `Corruption` where a file before the last one of its queue can't be read; where the last one is damaged: its reading stops,
+    /// what is left isn't part of one batch, and a batch that can be read stands behind, or one that is signed for another file;
+    /// where it is of the other version, a file is missing between two others, or the numbers of files don't rise;
+    /// `InvalidArgument` where a file is one of raft-engine, which begins with a header, or the batches of an atomic group don't
+    /// stand in a row in one file; `Codec`, `Full`. Nothing was asked of the files then but to be read. `Io`, `Memory`: whatever
+    /// is left has the records that were found.
     pub fn with_files(files: F, options: Options) -> Result<Engine<F>> {
-        let found = Found::read(&files, &options)?;
-        let (tables, numbers) = found.open()?;
+        let (engine, orders) = Engine::of_found(files, options)?;
+        engine.turn()?.carry_out(orders)?;
+        Ok(engine)
+    }
+
+    /// Opens an engine over files of which nothing is asked but to be listed and read. A torn tail is cut in memory alone
+    /// ([`Engine::recovered`] tells of it), so the files need be nobody's own, as long as nobody changes them.
+    ///
+    /// Each call that would change something is refused, and named: `write`, `sync`, `rotate`, `rewrite`, `rewrite_again` and
+    /// `purge`.
+    ///
+    /// ```
+    /// use raft_recover::{Engine, MemoryFiles, Options};
+    ///
+    /// let files = MemoryFiles::found(vec![(1, b"torn".to_vec())], vec![]);
+    /// let engine = Engine::with_files_read_only(files, Options::new())?;
+    /// assert_eq!(engine.recovered().cuts().count(), 1);
+    /// assert_eq!(engine.files().asked(), 0);
+    /// let refused = engine.sync().unwrap_err();
+    /// assert_eq!(refused.text, "Invalid Argument: sync: the engine is open for reading alone");
+    /// # Ok::<(), raft_recover::Error>(())
+    /// ```
+    ///
+    /// # Errors
+    ///
+    /// Those of [`Engine::with_files`], but for those of changes.
+    pub fn with_files_read_only(files: F, options: Options) -> Result<Engine<F>> {
+        let (engine, orders) = Engine::of_found(files, options)?;
+        for order in orders {
+            if let Order::Cut(queue, len) = order {
+                locks::lock(&engine.numbers).cut(queue, len);
+            }
+        }
+        Ok(Engine {
+            is_read_only: true,
+            ..engine
+        })
+    }
+
+    /// Reads the files, and returns an engine with what is to be done to them before it is used.
+    fn of_found(files: F, options: Options) -> Result<(Engine<F>, Vec<Order>)> {
+        let opened = Found::read(&files, &options)?.open()?;
         let engine = Engine {
             files,
             options,
-            tables: Mutex::new(tables),
+            recovered: opened.recovered,
+            tables: Mutex::new(opened.tables),
             turn: Mutex::new(()),
-            numbers: Mutex::new(numbers),
+            numbers: Mutex::new(opened.numbers),
             commits: Commits::default(),
+            is_read_only: false,
             failure: OnceLock::new(),
         };
-        engine.turn()?.call(|_| Ok(()))?;
-        Ok(engine)
+        Ok((engine, opened.orders))
+    }
+
+    /// Returns what was cut off the files when they were opened.
+    ///
+    /// ```
+    /// # use raft_recover::{Engine, MemoryFiles, Options};
+    /// let found = MemoryFiles::found(vec![(1, b"torn".to_vec())], vec![]);
+    /// let engine = Engine::with_files(found, Options::new())?;
+    /// for cut in engine.recovered().cuts() {
+    ///     eprintln!("{cut}");
+    /// }
+    /// # assert_eq!(engine.recovered().append.as_ref().unwrap().len, 4);
+    /// # Ok::<(), raft_recover::Error>(())
+    /// ```
+    pub fn recovered(&self) -> &Recovered {
+        &self.recovered
     }
 
     /// Returns the files.
@@ -196,6 +295,32 @@ impl<F: Files> Engine<F> {
     #[must_use]
     pub fn files(&self) -> &F {
         &self.files
+    }
+
+    /// Tests whether the engine was opened to be read alone.
+    ///
+    /// ```
+    /// # use raft_recover::{Engine, MemoryFiles, Options};
+    /// assert!(Engine::with_files_read_only(MemoryFiles::new(), Options::new())?.is_read_only());
+    /// assert!(!Engine::with_files(MemoryFiles::new(), Options::new())?.is_read_only());
+    /// # Ok::<(), raft_recover::Error>(())
+    /// ```
+    #[must_use]
+    pub fn is_read_only(&self) -> bool {
+        self.is_read_only
+    }
+
+    /// Tests that a call may change something.
+    ///
+    /// # Errors
+    ///
+    /// `InvalidArgument`, with the name of the call, where the engine was opened to be read alone.
+    fn changeable(&self, call: &str) -> Result<()> {
+        if self.is_read_only {
+            let text = format!("{call}: the engine is open for reading alone");
+            return Err(Error::invalid_argument(&text));
+        }
+        Ok(())
     }
 
     /// Returns how the engine was opened.

@@ -69,8 +69,8 @@ pub use batches::{
 };
 pub use context::{Context, Kept};
 pub use engine::{
-    Ask, Engine, Entries, Files, FolderFiles, MemoryFiles, Options, Pairs, Purged, QueueStats,
-    Stats, Unsynced,
+    Ask, CutTail, Engine, Entries, Files, FolderFiles, MemoryFiles, Options, Pairs, Purged,
+    QueueStats, Recovered, Stats, Unsynced,
 };
 pub use entries::{Block, Entry, Pair};
 pub use error::{Error, ErrorKind, Result};

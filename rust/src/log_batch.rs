@@ -123,7 +123,22 @@ impl LogBatch {
         self.handle.stage()
     }
 
-    /// Returns about how many bytes the batch will have, and how many it has once they are made.
+    /// Tests whether the batch has no items.
+    ///
+    /// ```
+    /// # use raft_recover::LogBatch;
+    /// # let mut batch = LogBatch::new()?;
+    /// assert!(batch.is_empty());
+    /// batch.clean(7)?;
+    /// assert!(!batch.is_empty());
+    /// # Ok::<(), raft_recover::Error>(())
+    /// ```
+    #[must_use]
+    pub fn is_empty(&self) -> bool {
+        self.approximate_size() == 0
+    }
+
+    /// Returns about how many bytes the batch will have, and how many it has once they are made: 0 without items.
     ///
     /// ```
     /// # use raft_recover::LogBatch;

@@ -92,7 +92,10 @@ fn replay(parts: &[FilePart<'_>]) -> Result<Context> {
 }
 
 /// Makes two calls at once, the second one on another thread; one behind the other where none can be started.
-fn both<A: Send>(first: impl FnOnce() -> A, second: impl FnOnce() -> A + Copy + Send) -> (A, A) {
+pub(crate) fn both<A, B: Send>(
+    first: impl FnOnce() -> A,
+    second: impl FnOnce() -> B + Copy + Send,
+) -> (A, B) {
     thread::scope(|scope| {
         let started = thread::Builder::new().spawn_scoped(scope, second);
         let first = first();

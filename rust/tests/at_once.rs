@@ -91,10 +91,15 @@ unsafe extern "C" fn rattle_dealloc(p: *mut c_void) {
     unsafe { free(p) }
 }
 
-/// The bytes of eight files.
-fn files() -> Vec<Vec<u8>> {
+/// The bytes of eight files, each of which cleans a region, and puts a value of so many bytes.
+fn files(value: usize) -> Vec<Vec<u8>> {
     (1..=8)
-        .map(|seq| batch_bytes(file(seq), |batch| batch.clean(seq).unwrap()))
+        .map(|seq| {
+            batch_bytes(file(seq), |batch| {
+                batch.put(seq, b"key", &vec![7; value]).unwrap();
+                batch.clean(seq).unwrap();
+            })
+        })
         .collect()
 }
 
@@ -104,7 +109,7 @@ static TURN: Mutex<()> = Mutex::new(());
 #[test]
 fn all_threads_of_a_recovery_read_at_the_same_time() {
     let _turn = TURN.lock();
-    let files = files();
+    let files = files(0);
     let parts = parts(&files);
     for workers in 1..=8 {
         let call = || recover(&parts, Queue::Append, workers);
@@ -117,12 +122,15 @@ fn all_threads_of_a_recovery_read_at_the_same_time() {
 #[test]
 fn an_engine_is_opened_on_as_many_threads_as_its_options_say() {
     let _turn = TURN.lock();
-    let files: Vec<_> = (1..).zip(files()).collect();
-    for threads in 1..=8 {
-        let found = MemoryFiles::found(files.clone(), vec![(1, vec![])]);
-        let options = Options::new().recovery_threads(threads);
-        let (engine, come) = threads_in(1, || Engine::with_files(found, options));
-        assert_eq!(engine.unwrap().regions().unwrap(), []);
-        assert_eq!(come, Some(threads));
+    // of large files a thread copies the bytes meanwhile
+    for value in [0, 100 << 10] {
+        let files: Vec<_> = (1..).zip(files(value)).collect();
+        for threads in 1..=8 {
+            let found = MemoryFiles::found(files.clone(), vec![(1, vec![])]);
+            let options = Options::new().recovery_threads(threads);
+            let (engine, come) = threads_in(1, || Engine::with_files(found, options));
+            assert_eq!(engine.unwrap().regions().unwrap(), []);
+            assert_eq!(come, Some(threads), "values of {value} bytes");
+        }
     }
 }

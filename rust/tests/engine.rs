@@ -241,6 +241,26 @@ fn a_sync_is_asked_where_it_is_wanted() {
 }
 
 #[test]
+fn batches_are_counted_that_have_items_and_syncs_that_are_made() {
+    let engine = engine();
+    let before = engine.stats().syncs;
+    let mut batch = LogBatch::new().unwrap();
+    engine.sync().unwrap();
+    engine.write(&mut batch, true).unwrap();
+    engine.write(&mut batch, false).unwrap();
+    batch.add_entries(7, 1, &[""; 0]).unwrap();
+    engine.write(&mut batch, false).unwrap();
+    let counted = || (engine.stats().batches, engine.stats().syncs - before);
+    assert_eq!(counted(), (0, 2));
+    batch.add_entries(7, 1, &["an entry"]).unwrap();
+    engine.write(&mut batch, true).unwrap();
+    assert_eq!(counted(), (1, 3));
+    batch.add_entries(7, 9, &["behind a hole"]).unwrap();
+    engine.write(&mut batch, true).unwrap_err();
+    assert_eq!(counted(), (1, 3));
+}
+
+#[test]
 fn files_are_begun_where_the_last_one_is_long_enough() {
     let options = Options::new().target_file_size(200);
     let engine = Engine::with_files(MemoryFiles::new(), options).unwrap();

@@ -24,33 +24,42 @@ fn batch(number: u64) -> LogBatch {
     batch
 }
 
-/// Steps that make each kind of change: writes with and without a sync, and what moves and deletes. Returns how many batches
-/// were written for certain, and the refusal.
-fn run<F: Files>(engine: &Engine<F>) -> (u64, Result<()>) {
-    let mut certain = 0;
+/// How far the steps of a run have come: how many batches were written, and how many for certain.
+#[derive(Clone, Copy, Default)]
+struct Come {
+    written: u64,
+    certain: u64,
+}
+
+/// Steps that make each kind of change: writes with and without a sync, and what moves and deletes. Returns how far they
+/// came, and the refusal.
+fn run<F: Files>(engine: &Engine<F>) -> (Come, Result<()>) {
+    let mut come = Come::default();
     let mut steps = || {
         for number in 1..=6 {
             engine.write(&mut batch(number), number % 2 == 0)?;
+            come.written = number;
             if number % 2 == 0 {
-                certain = number;
+                come.certain = number;
             }
         }
         engine.rotate()?;
         engine.rewrite(1)?;
         engine.purge()?;
         engine.write(&mut batch(7), false)?;
+        come.written = 7;
         engine.rewrite_again()?;
         engine.purge()?;
         engine.sync()?;
-        certain = 7;
+        come.certain = 7;
         Ok(())
     };
     let result = steps();
-    (certain, result)
+    (come, result)
 }
 
-/// Every call on a failed engine.
-fn all_calls<F: Files>(engine: &Engine<F>) -> Vec<Error> {
+/// The refusals of every change by a failed engine.
+fn changes<F: Files>(engine: &Engine<F>) -> Vec<Error> {
     let results = [
         engine.write(&mut batch(9), false),
         engine.sync(),
@@ -58,6 +67,13 @@ fn all_calls<F: Files>(engine: &Engine<F>) -> Vec<Error> {
         engine.rewrite(1),
         engine.rewrite_again(),
         engine.purge().map(drop),
+    ];
+    results.map(Result::unwrap_err).into()
+}
+
+/// The refusals of every read of an engine whose tables may not be whole.
+fn reads<F: Files>(engine: &Engine<F>) -> Vec<Error> {
+    let results = [
         engine.entry(7, 1).map(drop),
         engine.entries(7, ..).map(drop),
         engine.get(7, b"a").map(drop),
@@ -66,10 +82,7 @@ fn all_calls<F: Files>(engine: &Engine<F>) -> Vec<Error> {
         engine.summary(7).map(drop),
         engine.regions().map(drop),
     ];
-    results
-        .into_iter()
-        .map(|result| result.unwrap_err())
-        .collect()
+    results.map(Result::unwrap_err).into()
 }
 
 /// What the system said of a call on a file.
@@ -94,9 +107,9 @@ fn place_of(call: Call<'_>, files: &MemoryFiles) -> (Option<FileId>, Option<u64>
     (Some(file), Some(offset))
 }
 
-/// Each call of an engine fails with its first failure, which asks nothing of the files.
-fn assert_every_call_fails<F: Files>(engine: &Engine<F>, first: &Error) {
-    for e in all_calls(engine) {
+/// Each change by an engine fails with its first failure, which asks nothing of the files.
+fn assert_every_change_fails<F: Files>(engine: &Engine<F>, first: &Error) {
+    for e in changes(engine) {
         assert_eq!(e.kind, ErrorKind::Failed);
         assert_eq!(source_of(&e), io::ErrorKind::StorageFull);
         assert_eq!((e.file, e.offset), (first.file, first.offset));
@@ -105,20 +118,47 @@ fn assert_every_call_fails<F: Files>(engine: &Engine<F>, first: &Error) {
     assert!(format!("{engine:?}").contains("failure: Some"));
 }
 
-/// The files have a front of what `run` writes, and at least what is certain.
-fn assert_nothing_is_lost(files: MemoryFiles, certain: u64, failing: usize) {
-    let opened = Engine::with_files(files, Options::new()).unwrap();
-    let region = region_of(&opened, 7).unwrap();
+/// An engine has the first ones of the batches that `run` writes. Returns how many.
+fn batches_in<F: Files>(engine: &Engine<F>) -> u64 {
+    let region = region_of(engine, 7).unwrap();
     let written = region.entries.len() as u64;
-    assert!(written >= certain, "{failing}: {written} of {certain}");
-    let indexes: Vec<_> = region.entries.keys().copied().collect();
-    assert_eq!(indexes, (1..=written).collect::<Vec<_>>());
+    let expected = (1..=written).map(|number| (number, number.to_string().into_bytes()));
+    assert!(region.entries.into_iter().eq(expected));
     let last = region.keys.get(&b"a"[..]).map(|value| value[0]);
     assert_eq!(last.unwrap_or(0), written as u8);
+    written
+}
+
+/// A failed engine is read on: it has all that was written, and perhaps the batch with which it failed.
+fn assert_reads_go_on<F: Files>(engine: &Engine<F>, written: u64, failing: usize) {
+    let found = batches_in(engine);
+    let allowed = written..=written + 1;
+    assert!(allowed.contains(&found), "{failing}: {found} of {written}");
+    for number in 1..=found {
+        let entry = engine.entry(7, number).unwrap().unwrap();
+        assert_eq!(entry, number.to_string().into_bytes());
+    }
+    let first_and_last = (found > 0).then_some((1, found)).unzip();
+    let read = (
+        engine.first_index(7).unwrap(),
+        engine.last_index(7).unwrap(),
+    );
+    assert_eq!(read, first_and_last);
+    let regions: &[u64] = if found > 0 { &[7] } else { &[] };
+    assert_eq!(engine.regions().unwrap(), regions);
+    assert_eq!(engine.scan(7, ..).unwrap().len(), regions.len());
+    assert_eq!(engine.summary(7).unwrap().is_some(), found > 0);
+}
+
+/// The files have the first ones of what `run` writes, and at least what is certain.
+fn assert_nothing_is_lost(files: MemoryFiles, certain: u64, failing: usize) {
+    let opened = Engine::with_files(files, Options::new()).unwrap();
+    let written = batches_in(&opened);
+    assert!(written >= certain, "{failing}: {written} of {certain}");
 }
 
 #[test]
-fn where_any_change_fails_every_later_call_says_so_and_nothing_is_lost() {
+fn where_any_change_fails_every_later_one_says_so_reads_go_on_and_nothing_is_lost() {
     let count = AtomicUsize::new(0);
     let counting = Hooked::new(&MemoryFiles::new(), |call: Call<'_>| {
         count.fetch_add(usize::from(call.is_change()), SeqCst);
@@ -143,18 +183,19 @@ fn where_any_change_fails_every_later_call_says_so_and_nothing_is_lost() {
             Ok(())
         });
         let engine = Engine::with_files(hooked, Options::new()).unwrap();
-        let (certain, result) = run(&engine);
+        let (come, result) = run(&engine);
         let first = result.unwrap_err();
         assert_eq!(first.kind, ErrorKind::Io);
         assert_eq!(Some(&(first.file, first.offset)), place.get(), "{first}");
         assert_eq!(source_of(&first), io::ErrorKind::StorageFull);
-        assert_every_call_fails(&engine, &first);
+        assert_every_change_fails(&engine, &first);
+        assert_reads_go_on(&engine, come.written, failing);
         assert_eq!(
             made.load(SeqCst),
             failing + 1,
             "something was asked of failed files"
         );
-        assert_nothing_is_lost(files, certain, failing);
+        assert_nothing_is_lost(files, come.certain, failing);
     }
 }
 
@@ -311,7 +352,7 @@ fn files_that_panic_leave_a_failed_engine_and_nobody_waits_for_ever() {
         let failed: Vec<_> = failed.map(|result| result.unwrap_err().kind).collect();
         assert_eq!(failed, [ErrorKind::Failed; 3]);
     });
-    for e in all_calls(&engine) {
+    for e in changes(&engine).into_iter().chain(reads(&engine)) {
         assert_eq!(e.kind, ErrorKind::Failed);
     }
 }

@@ -4,8 +4,9 @@ mod common;
 
 use common::TempFolder;
 use raft_recover::{ErrorKind, FileId, Files, FolderFiles, Queue};
-use std::fs;
+use std::fs::{self, TryLockError};
 use std::io;
+use std::os::unix::fs::symlink;
 
 const FIRST: FileId = FileId::new(Queue::Append, 1);
 const SECOND: FileId = FileId::new(Queue::Append, 2);
@@ -70,11 +71,59 @@ fn one_engine_at_a_time_has_a_folder() {
     let e = FolderFiles::open(room.path()).unwrap_err();
     assert_eq!(e.kind, ErrorKind::TryAgain);
     assert!(
-        e.text.contains("LOCK: another engine has the folder open"),
+        e.text.contains(": another engine has the folder open"),
         "{e}"
     );
     drop(files);
     FolderFiles::open(room.path()).unwrap();
+}
+
+#[test]
+fn the_folder_is_locked_whatever_becomes_of_the_file_lock() {
+    let room = TempFolder::new();
+    let lock = room.path().join("LOCK");
+    let opened = || FolderFiles::open(room.path()).map_err(|e| e.kind);
+    let files = opened().unwrap();
+    fs::remove_file(&lock).unwrap();
+    assert_eq!(opened().unwrap_err(), ErrorKind::TryAgain);
+    fs::write(&lock, "").unwrap();
+    assert_eq!(opened().unwrap_err(), ErrorKind::TryAgain);
+    drop(files);
+    // and the file is locked for those who look at it alone, and looked at
+    let files = opened().unwrap();
+    let file = fs::File::open(&lock).unwrap();
+    let refused = file.try_lock_shared().unwrap_err();
+    assert!(matches!(refused, TryLockError::WouldBlock), "{refused}");
+    drop(files);
+    file.try_lock_shared().unwrap();
+    let e = FolderFiles::open(room.path()).unwrap_err();
+    assert_eq!(e.kind, ErrorKind::TryAgain);
+    assert!(
+        e.text.contains("LOCK: another engine has the folder open"),
+        "{e}"
+    );
+    drop(file);
+    opened().unwrap();
+}
+
+#[test]
+fn a_link_is_followed_once() {
+    let room = TempFolder::new();
+    let [path, other, link] = ["folder", "other", "link"].map(|name| room.path().join(name));
+    fs::create_dir(&other).unwrap();
+    symlink(&path, &link).unwrap();
+    let e = FolderFiles::open(&link).unwrap_err(); // it leads nowhere
+    assert_eq!(e.kind, ErrorKind::Io);
+    fs::create_dir(&path).unwrap();
+    let files = FolderFiles::open(&link).unwrap();
+    assert_eq!(files.path(), path);
+    let e = FolderFiles::open(&path).unwrap_err();
+    assert_eq!(e.kind, ErrorKind::TryAgain);
+    fs::remove_file(&link).unwrap();
+    symlink(&other, &link).unwrap();
+    files.rotate(FIRST).unwrap();
+    assert!(path.join("0000000000000001.raftlog").exists());
+    assert_eq!(fs::read_dir(&other).unwrap().count(), 0);
 }
 
 #[test]

@@ -133,8 +133,10 @@ struct Disk {
     since: Vec<(String, Option<usize>)>,
     /// Whether it was opened, and the names that were found aren't synced.
     is_found: bool,
-    /// Whether it was locked since it was opened.
-    is_locked: bool,
+    /// How many of its two locks were taken since it was opened.
+    locks: usize,
+    /// How many files were cut.
+    cuts: usize,
 }
 
 /// The names and bytes of files that a stop leaves.
@@ -183,23 +185,29 @@ impl Disk {
     }
 
     /// Takes in a call of the system on a name in the folder, and tells whether it changes what a stop may leave. Names of log
-    /// files that were found, made or deleted are synced before anything else, and so is a file that was cut. The lock is taken
-    /// before anything else is read or made, and no file is synced that has no new bytes.
+    /// files that were found, made or deleted are synced before anything else, and so is a file that was cut. What is cut is on the
+    /// disk before, in a file of its own. The locks are taken before anything else is read or made, and no file is synced that
+    /// has no new bytes.
     fn take(&mut self, call: &Call) -> bool {
         let name = call.name.clone();
         let file = self.now.get(&name).copied();
         let is_change = matches!(call.what.as_str(), "write" | "ftruncate" | "unlink");
-        if is_change || call.rest.contains("O_CREAT") {
-            assert!(self.since.iter().all(|(name, _)| name == "LOCK"));
+        if is_change || (call.rest.contains("O_CREAT") && name != "LOCK") {
+            let is_own = |made: &String| *made == name && made.ends_with(".cut");
+            let mut made = self.since.iter().map(|(made, _)| made);
+            assert!(made.all(|made| made == "LOCK" || is_own(made)));
             let cut = |file: &File| matches!(file.since.last(), Some(Change::Cut(_)));
             assert!(!self.files.iter().any(cut));
             assert!(!self.is_found);
         }
         match (call.what.as_str(), name.as_str()) {
-            ("flock", "LOCK") => self.is_locked = true,
-            ("openat", "LOCK") => (self.is_found, self.is_locked) = (true, false),
             ("mkdir", "") => {}
-            _ => assert!(self.is_locked, "{} {name}", call.what),
+            ("openat", "") if !call.rest.contains("O_DIRECTORY") => {
+                (self.is_found, self.locks) = (true, 0);
+            }
+            ("flock", _) => self.locks += 1,
+            ("openat", "LOCK") => assert_eq!(self.locks, 1, "the folder itself is locked first"),
+            _ => assert_eq!(self.locks, 2, "{} {name}", call.what),
         }
         match (call.what.as_str(), file) {
             ("openat", None) if call.rest.contains("O_CREAT") => {
@@ -213,7 +221,11 @@ impl Disk {
                 .push(Change::Bytes(call.bytes.clone())),
             ("ftruncate", Some(file)) => {
                 let len = call.rest.rsplit(' ').next().unwrap().parse().unwrap();
+                let kept = self.names[&format!("{name}.{len}.cut")];
+                let whole = self.files[file].versions().pop().unwrap();
+                assert_eq!(self.files[kept].synced, whole[len..]);
                 self.files[file].since.push(Change::Cut(len));
+                self.cuts += 1;
             }
             ("fsync" | "fdatasync", Some(file)) => {
                 assert!(self.is_found || !self.files[file].since.is_empty());
@@ -353,6 +365,6 @@ fn each_folder_that_a_stop_may_leave_has_what_was_synced() {
         }
     }
     println!("{stops} changes, {opened} folders");
-    assert_eq!(certain, 23);
+    assert_eq!((certain, disk.cuts), (23, 1));
     assert!(stops > 90 && opened > 1500, "{stops} {opened}");
 }

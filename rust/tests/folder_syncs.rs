@@ -58,6 +58,7 @@ fn a_file_without_new_bytes_isnt_synced_again() {
     let files = FolderFiles::open(&path).unwrap();
     assert_eq!(synced(), ["folder".to_owned(), name(room.path())]);
     let [first, second] = [FIRST, SECOND].map(|file| name(&files.path_of(file)));
+    let kept = format!("{second}.7.cut");
     type Step<'a> = (&'a str, &'a dyn Fn() -> io::Result<()>, &'a [&'a str]);
     let steps: [Step<'_>; 18] = [
         ("begin", &|| files.rotate(FIRST), &["folder"]),
@@ -74,7 +75,11 @@ fn a_file_without_new_bytes_isnt_synced_again() {
         ("no cut", &|| files.truncate(SECOND, 5), &[]),
         ("bytes", &|| files.sync(Queue::Append), &[&second]),
         ("write", &|| files.write(SECOND, b"more"), &[]),
-        ("cut", &|| files.truncate(SECOND, 7), &[&second]),
+        (
+            "cut",
+            &|| files.truncate(SECOND, 7),
+            &[&kept, "folder", &second],
+        ),
         ("was cut", &|| files.sync(Queue::Append), &[]),
         ("delete", &|| files.delete(FIRST), &["folder"]),
         ("deleted", &|| files.sync(Queue::Append), &[]),
@@ -129,7 +134,7 @@ fn after_a_sync_that_failed_nothing_more_is_changed() {
     let changes: [(Change, usize); 5] = [
         (|files| files.sync(Queue::Append), 1),
         (|files| files.rotate(SECOND), 2),
-        (|files| files.truncate(FIRST, 1), 1),
+        (|files| files.truncate(FIRST, 1), 3),
         (|files| files.rotate(REWRITTEN), 1),
         (|files| files.delete(FIRST), 1),
     ];

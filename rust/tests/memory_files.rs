@@ -1,7 +1,11 @@
 //! The files of an engine in memory, and what a stop of the machine leaves of them.
 
-use raft_recover::{Ask, FileId, Files, MemoryFiles, Queue, Unsynced};
+mod common;
+
+use common::model::{Region, region_of};
+use raft_recover::{Ask, Engine, FileId, Files, LogBatch, MemoryFiles, Options, Queue, Unsynced};
 use std::io;
+use std::sync::Arc;
 
 const FIRST: FileId = FileId::new(Queue::Append, 1);
 const SECOND: FileId = FileId::new(Queue::Append, 2);
@@ -201,4 +205,49 @@ fn a_clone_is_a_handle_of_the_same_files() {
     files.clone().rotate(FIRST).unwrap();
     assert_eq!(files.list(Queue::Append).unwrap(), [(1, 0)]);
     assert_eq!(format!("{files:?}"), "MemoryFiles { asked: 1, .. }");
+}
+
+/// What a region has after a history with each kind of request, over files that were found with a torn tail, and what was asked of
+/// them.
+fn history<F: Files>(files: F) -> Region {
+    let options = Options::new().target_file_size(300).purge_above(600);
+    let engine = Engine::with_files(files, options).unwrap();
+    for index in 1..=20 {
+        let mut batch = LogBatch::new().unwrap();
+        batch.add_entries(7, index, &[[7; 50]]).unwrap();
+        batch.put(7, b"a", &index.to_le_bytes()).unwrap();
+        batch.compact(7, index.saturating_sub(5)).unwrap();
+        engine.write(&mut batch, index % 3 == 0).unwrap();
+        if index % 7 == 0 {
+            engine.purge().unwrap();
+            engine.rewrite_again().unwrap();
+        }
+    }
+    engine.purge().unwrap();
+    engine.sync().unwrap();
+    region_of(&engine, 7).unwrap()
+}
+
+#[test]
+fn files_behind_an_arc_are_asked_the_same() {
+    let found = || MemoryFiles::found(vec![(1, b"torn".to_vec())], vec![]);
+    let (alone, shared) = (found(), Arc::new(found()));
+    let expected = history(alone.clone());
+    assert_eq!(expected.entries.len(), 6);
+    assert_eq!(history(Arc::clone(&shared)), expected);
+    let behind_dyn: Arc<dyn Files> = Arc::new(found());
+    assert_eq!(history(behind_dyn), expected);
+    let asks = shared.asks();
+    assert_eq!(asks, alone.asks());
+    for queue in [Queue::Append, Queue::Rewrite] {
+        assert!(asks.contains(&Ask::Sync(queue)));
+        let is_deletion = |ask: &Ask| matches!(ask, Ask::Delete(file) if file.queue == queue);
+        assert!(asks.iter().any(is_deletion), "{queue}");
+        assert_eq!(shared.list(queue).unwrap(), alone.list(queue).unwrap());
+    }
+    assert!(asks.contains(&Ask::Cut(FIRST, 0)));
+    // all of it is synced, so that whatever stops the machine leaves it
+    let left = shared.left(asks.len(), NONE, NONE);
+    let opened = Engine::with_files(left, Options::new()).unwrap();
+    assert_eq!(region_of(&opened, 7).unwrap(), expected);
 }

@@ -237,6 +237,28 @@ fn a_share_is_tested_and_written_without_leaks_where_memory_is_refused() {
     assert!(refused > 20, "{refused}");
 }
 
+#[test]
+fn what_is_lent_for_moves_is_let_go() {
+    let _turn = TURN.lock();
+    let engine = Engine::with_files(MemoryFiles::new(), Options::new()).unwrap();
+    let mut batch = LogBatch::new().unwrap();
+    // the same entry is written, moves, and moves again, so that as many blocks of memory are left each time
+    let mut live_after_moves = || {
+        batch.add_entries(7, 1, &["an entry"]).unwrap();
+        engine.write(&mut batch, true).unwrap();
+        engine.rotate().unwrap();
+        let closed = engine.stats().append.last_file - 1;
+        engine.rewrite(closed).unwrap();
+        engine.purge().unwrap();
+        engine.rewrite_again().unwrap();
+        engine.purge().unwrap();
+        LIVE.load(SeqCst)
+    };
+    let first = (0..5).map(|_| live_after_moves()).max();
+    let later = (0..50).map(|_| live_after_moves()).max();
+    assert_eq!(first, later);
+}
+
 /// Does with an engine all that it does. Counts the batches that it took.
 fn engine_steps(engine: &Engine<MemoryFiles>, written: &mut u64) -> Result<()> {
     for index in 1..=4 {

@@ -3,7 +3,7 @@
 use raft_base::util::crc32;
 
 /// Lengths, and the checksums of as many bytes that count up and begin anew after 250.
-const CHECKSUMS: [(usize, u32); 16] = [
+const CHECKSUMS: [(usize, u32); 23] = [
     (0, 0x00000000),
     (1, 0xd202ef8d),
     (7, 0xad5809f9),
@@ -13,9 +13,16 @@ const CHECKSUMS: [(usize, u32); 16] = [
     (31, 0x4d786d77),
     (127, 0xdec481aa),
     (128, 0x24650d57),
+    (143, 0x5e21612a),
+    (144, 0x74e0998b),
+    (159, 0x7ad76dab),
+    (160, 0xf3cccc55),
     (255, 0x6f7c9956),
+    (319, 0xf8fd72cf),
     (639, 0xff805395),
     (640, 0xc6fc3391),
+    (1023, 0x5a9e0eff),
+    (1024, 0x7be4dfd0),
     (2348, 0xfde1f9ae),
     (2349, 0xf12669cb),
     (2649, 0xcef9a330),

@@ -26,3 +26,4 @@ mod ReadOverlayLemmas
 mod MovedEntryLemmas
 mod MovedTableLemmas
 mod AppendedLemmas
+pub mod TakenAwayLemmas

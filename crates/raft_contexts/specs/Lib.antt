@@ -4,6 +4,7 @@ pub mod WaitingGroupsView
 pub mod WaitingItemsView
 pub mod WaitingShown
 pub mod StepCounts
+pub mod TakenAway
 pub mod ImpliedMarks
 pub mod MarkedTables
 pub mod MovedPlaces

@@ -10,6 +10,7 @@ mod read_state;
 pub mod reading;
 pub mod recover_context;
 pub mod region_marks;
+mod taken_away;
 pub mod waiting_group;
 pub mod waiting_groups;
 pub mod waiting_items;

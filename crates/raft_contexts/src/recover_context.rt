@@ -3,6 +3,7 @@
 ghost use Rattle.std.specs.Prelude.{ℕ, ◌≡◌, ◌≢◌, ◌⊎◌, ◌↔◌, [], List, IfOk, IfErr, OnOk, OnErr, IsTrue};
 ghost use Rattle.raft_contexts.specs.Common.{Error, LogQueue, Append, Rewrite, Event, IsReadingOfBoth, Suits, IsSmall, IsOfQueue, IsOneReading, kept_of, kept_by, IsAtMost, Tables, event, AreCountsOf, kept_shown, IsOverlaidWith};
 ghost use Rattle.raft_contexts.specs.Common.{IsOfBothExactly, IsMergeAppendFault, blank_context, HasRead, HasReadExactly, IsBatchTaken, IsBatchCounted, IsBatchFault, IsMergedWith, IsNeighborFault, refused_stage, Reading, Failed};
+ghost use Rattle.raft_contexts.specs.TakenAway.{IsTakenAway};
 
 use crate::context_stage::ContextStage;
 use crate::kept::Kept;
@@ -10,7 +11,7 @@ use crate::read_state::ReadState;
 use raft_accessor::MemTableAccessor;
 use raft_base::{Error, Factory, FileId, LogQueue, Result};
 use raft_history::ReplayMachine;
-use raft_records::{LogItemBatch, ReadBatch};
+use raft_records::{LogBatch, LogItemBatch, ReadBatch};
 use std::alloc::Global;
 use std::marker::Model;
 
@@ -168,6 +169,29 @@ impl MemTableRecoverContext {
         self.state.overlay(state)?;
         self.stage = ContextStage::Overlaid;
         Ok(())
+    }
+
+    /// Returns what this context, that of the append queue, takes away of the tables of `rewritten`, the context of the rewrite
+    /// queue, as an open batch that tells it: of each region with a rewritten table a Clean, if the append queue cleaned it, or else
+    /// its greatest compaction, the truncation at its cut, and the deletion of each key; and of these what takes something away of
+    /// the rewritten table. So nothing is told of a region that lacks one.
+    ///
+    /// # Errors
+    ///
+    /// `Failed` where either context doesn't read on, `Memory`.
+    #[doc(hidden)]
+    pub fn taken_away(&self, alloc: Global, rewritten: &MemTableRecoverContext) -> Result<LogBatch>
+        ensures ok { IfOk result (IsTakenAway self.now.context.regions rewritten.now.context.regions.tables) }
+        ensures accepted { OnOk result ((self.now.stage ≡ Reading) × (rewritten.now.stage ≡ Reading)) }
+        ensures fault { IfErr result (λ e. e ≢ Error.Memory → (e ≡ Error.Failed)
+            × ((self.now.stage ≢ Reading) ⊎ (rewritten.now.stage ≢ Reading))) }
+    {
+        if !self.reads_on() || !rewritten.reads_on() {
+            return Err(Error::Failed);
+        }
+        self.state
+            .regions
+            .taken_away(alloc, &rewritten.state.regions.accessor)
     }
 
     /// Counts what the context holds. Where it stands for a history exactly, that is no more than

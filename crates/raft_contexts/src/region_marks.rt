@@ -1,6 +1,6 @@
 //! The region marks of some regions.
 
-ghost use Rattle.std.specs.Prelude.{◌≡◌, ◌≤◌, ◌<◌, length, replicate, IfOk, OnOk, OnErr, Some, is_some};
+ghost use Rattle.std.specs.Prelude.{◌≡◌, ◌≤◌, ◌<◌, length, replicate, IfOk, OnOk, OnErr, Some, is_some, option_map};
 ghost use Rattle.raft_contexts.specs.Common.{keys_of, total, Mark, fresh, mark_of, joined_at, step_shown, together, AreSlots, count_absent, implied_mark, all_marks, mark_in, run_at, with_slots, IsRunKept};
 ghost use Rattle.std.specs.FinMap as finite;
 ghost use Rattle.std.specs.FinSet as finset;
@@ -147,6 +147,16 @@ impl RegionMarks {
         self.slots[slot_of(id)].has(id)
     }
 
+    /// Returns the region mark that is kept of a region.
+    pub(crate) fn get(&self, id: u64) -> Option<&SmallMark>
+        ensures { option_map (λ m. m.now) result ≡ finite.get self.now id }
+    {
+        if self.slots.is_empty() {
+            return None;
+        }
+        self.slots[slot_of(id)].get(id)
+    }
+
     fn put_run(&mut self, id: u64, start: u64) -> AllocResult<()>
         ensures ok { OnOk result (self.new ≡ finite.insert self.old id (run_at start)) }
         ensures err { OnErr result (self.new ≡ self.old) }
@@ -205,6 +215,13 @@ impl RegionMarks {
             Some(first) => Mark::of_run(self.alloc, first),
             None => Mark::new(self.alloc),
         }
+    }
+
+    /// Makes the region mark of no step.
+    pub(crate) fn of_no_step(&self) -> Mark
+        ensures { result ≡ fresh }
+    {
+        Mark::new(self.alloc)
     }
 
     /// Makes room in a slot, up to `count` region marks.

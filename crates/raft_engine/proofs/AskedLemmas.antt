@@ -12,6 +12,7 @@ use Rattle.raft_engine.specs.OpeningAsks.{Failures, FailsAmong, asks_that_tell, 
 use Rattle.raft_engine.specs.StoredFound.{told_asks}
 use Rattle.raft_engine.specs.declared.missing.Missing.{Missing}
 use Rattle.raft_engine.specs.declared.missing.Missing.TheVariants as missings
+use Rattle.raft_engine.specs.declared.recovered.CutTail.{CutTail}
 
 -- of what is wanted, newest first, some, none or all was asked, the oldest first
 pub record AreAskedInPart (wanted old new : List Ask) : Type 0 where
@@ -52,10 +53,10 @@ module _ (MayFail : Failures) where
   first_failed r queue missing old new is may why =
       subst (λ (m : Missing). IfErr r (FailsAmong MayFail (missing_asks queue m) old new)) (sym is) (one_so r (ask queue (Begin 1)) old new may why)
 
-  pub cut_failed : {T : Type 0} (r : Result T Error) (queue : LogQueue) (missing : Missing) (len : ℕ) (old new : List Ask) → missing ≡ missings.Cut len
-      → OnErr r (MayBeAsked (ask queue (Cut len)) old new) → IfErr r (MayFail old (ask queue (Cut len))) → IfErr r (FailsAmong MayFail (missing_asks queue missing) old new)
-  cut_failed r queue missing len old new is may why =
-      subst (λ (m : Missing). IfErr r (FailsAmong MayFail (missing_asks queue m) old new)) (sym is) (one_so r (ask queue (Cut len)) old new may why)
+  pub cut_failed : {T : Type 0} (r : Result T Error) (queue : LogQueue) (missing : Missing) (tail : CutTail) (old new : List Ask) → missing ≡ missings.Cut tail
+      → OnErr r (MayBeAsked (ask queue (Cut tail.offset)) old new) → IfErr r (MayFail old (ask queue (Cut tail.offset))) → IfErr r (FailsAmong MayFail (missing_asks queue missing) old new)
+  cut_failed r queue missing tail old new is may why =
+      subst (λ (m : Missing). IfErr r (FailsAmong MayFail (missing_asks queue m) old new)) (sym is) (one_so r (ask queue (Cut tail.offset)) old new may why)
 
   -- ---- one among others
 

@@ -1,5 +1,5 @@
 -- What each ask does to a queue, and which batches it puts there.
-use Rattle.std.proofs.Common.{◌≡◌, ℕ, ◌+◌, ◌<◌, ◌≤◌, List, [], ◌∷◌, ◌++◌, length, refl, sym, ap, ◌∙◌, subst, arith, length-append}
+use Rattle.std.proofs.Common.{◌≡◌, suc, ℕ, ◌+◌, ◌<◌, ◌≤◌, List, [], ◌∷◌, ◌++◌, length, refl, sym, ap, ◌∙◌, subst, arith, length-append}
 use Rattle.raft_base.specs.Signature.{signature_in}
 use Rattle.raft_base.specs.declared.pipe_log.FileBlockHandle.{FileBlockHandle}
 use Rattle.raft_base.specs.declared.pipe_log.FileId.{FileId}
@@ -12,18 +12,18 @@ use Rattle.raft_history.specs.Histories.{HaveStatus}
 use Rattle.raft_files.specs.Asks as asks
 use Rattle.raft_files.specs.Asks.{Act, Begin, NumberedBytes, Put, Sync}
 use Rattle.raft_files.specs.Disk.{begun, deletions}
-use Rattle.raft_files.specs.Places.{IsNext}
 use Rattle.raft_replay.specs.WrittenParts.{written_event}
 use Rattle.raft_recover.specs.Files.{whole_file}
 use Rattle.raft_engine_laws.specs.Stops as queue_deeds
 use Rattle.raft_engine_laws.specs.Stops.{Deed, Write, Delete, Stop, written, deleted, IsSynced}
 use Rattle.raft_engine_fronts.specs.Fronts.{ArePut, ArePutWhole, WrittenBatchIsPut}
-use Rattle.raft_engine_fronts.specs.Done.{AreDoneWhole, AreRisingFrom, LastFileIsNext, WrittenBatchIsDone, numbers}
+use Rattle.raft_engine_fronts.specs.Done.{AreDoneWhole, AreRisingFrom, Follows, LastFileIsNext, WrittenBatchIsDone, numbers}
+use Rattle.raft_engine_fronts.proofs.EntryPlaceLemmas.{written_within}
 use Rattle.raft_engine.specs.Lasting.{AreSynced}
 use Rattle.raft_engine.specs.Stored.{AreAllDone}
 use Rattle.raft_engine.specs.StoredAsks.{IsWritableBatch}
 use Rattle.raft_engine.proofs.LastingLemmas.{all_synced, synced_front}
-use Rattle.raft_engine.proofs.OfVersionLemmas.{nothing_other, stays}
+use Rattle.raft_engine.proofs.WellPutLemmas.{begin_well, delete_well, none_well, put_well, sync_well}
 
 -- ---- what is synced
 
@@ -50,10 +50,10 @@ module _ (queue : LogQueue) (version : Version) (acts : List Act) (deeds : List 
 pub none_done : ((queue : LogQueue) (version : Version) → AreDoneWhole queue version [] [])
     → ((queue : LogQueue) (version : Version) → ArePutWhole queue version [] [] [])
     → (queue : LogQueue) (version : Version) → AreAllDone queue version [] []
-none_done done put queue version = record { done = done queue version; put = put queue version; of_version = nothing_other queue version }
+none_done done put queue version = record { done = done queue version; put = put queue version; well = none_well queue version }
 
 pub first_done : ((queue : LogQueue) (version : Version) (acts : List Act) (deeds : List Deed) (seq : ℕ)
-    → AreDoneWhole queue version acts deeds → IsSynced deeds → IsNext seq (begun acts) → deleted deeds ≤ seq
+    → AreDoneWhole queue version acts deeds → IsSynced deeds → Follows seq (begun acts) → deleted deeds ≤ seq
     → AreDoneWhole queue version (Begin seq ∷ acts) deeds)
     → ((queue : LogQueue) (version : Version) (acts : List Act) (synced h : List Event) (seq : ℕ)
     → ArePutWhole queue version acts synced h → ArePutWhole queue version (Begin seq ∷ acts) h h)
@@ -61,7 +61,7 @@ pub first_done : ((queue : LogQueue) (version : Version) (acts : List Act) (deed
 first_done begin put queue version a = record {
   done = begin queue version [] [] 1 a.done tt tt (omega arith);
   put = put queue version [] [] [] 1 a.put;
-  of_version = (stays queue version []).begun 1 a.of_version;
+  well = begin_well queue version [] 1 a.well;
 }
 
 -- ---- a sync
@@ -75,38 +75,38 @@ pub sync_done : ((queue : LogQueue) (version : Version) (acts : List Act) (deeds
 sync_done done put queue version acts deeds a = record {
   done = done queue version acts deeds a.done;
   put = record { put = put queue version acts (queue_deeds.synced deeds) (written deeds) a.put.put; whole = a.put.whole };
-  of_version = (stays queue version acts).synced a.of_version;
+  well = sync_well queue version acts a.well;
 }
 
 -- ---- a new file
 
-next_last : (n : ℕ) (closed : List NumberedBytes) (file : NumberedBytes) → file.0 < n → IsNext n (closed ++ file ∷ [])
-next_last n [] file less = less
-next_last n (x ∷ []) file less = less
-next_last n (x ∷ y ∷ files) file less = next_last n (y ∷ files) file less
+follows_last : (n : ℕ) (closed : List NumberedBytes) (file : NumberedBytes) → n ≡ suc file.0 → Follows n (closed ++ file ∷ [])
+follows_last n [] file follows = follows
+follows_last n (x ∷ []) file follows = follows
+follows_last n (x ∷ y ∷ files) file follows = follows_last n (y ∷ files) file follows
 
 no_items_status : (queue : LogQueue) → HaveStatus queue []
 no_items_status Append = tt
 no_items_status Rewrite = tt
 
 pub begin_done : ((queue : LogQueue) (version : Version) (acts : List Act) (deeds : List Deed) (seq : ℕ)
-    → AreDoneWhole queue version acts deeds → IsSynced deeds → IsNext seq (begun acts) → deleted deeds ≤ seq
+    → AreDoneWhole queue version acts deeds → IsSynced deeds → Follows seq (begun acts) → deleted deeds ≤ seq
     → AreDoneWhole queue version (Begin seq ∷ acts) deeds)
     → ((queue : LogQueue) (version : Version) (acts : List Act) (synced h : List Event) (seq : ℕ)
     → ArePutWhole queue version acts synced h → ArePutWhole queue version (Begin seq ∷ acts) h h)
     → LastFileIsNext
     → (queue : LogQueue) (version : Version) (acts : List Act) (deeds : List Deed) (closed : List NumberedBytes) (last : NumberedBytes) (seq : ℕ)
-    → AreSynced acts → begun acts ≡ closed ++ last ∷ [] → last.0 < seq
+    → AreSynced acts → begun acts ≡ closed ++ last ∷ [] → seq ≡ suc last.0
     → AreAllDone queue version acts deeds → AreAllDone queue version (Begin seq ∷ acts) deeds
-begin_done begin put next queue version acts deeds closed last seq synced is less a =
+begin_done begin put next queue version acts deeds closed last seq synced is follows a =
     let same = same_synced queue version acts deeds a synced in
     let file : FileId = record { queue = queue; seq = last.0 } in
     let e : Event = record { items = []; file = file } in
     let n = next queue version acts deeds closed last e a.done is refl tt (no_items_status queue) in
     let low : deleted deeds ≤ last.0 = n.stays in record {
-      done = begin queue version acts deeds seq a.done (deeds_synced queue version acts deeds a synced) (subst (IsNext seq) (sym is) (next_last seq closed last less)) (omega (arith, low, less));
+      done = begin queue version acts deeds seq a.done (deeds_synced queue version acts deeds a synced) (subst (Follows seq) (sym is) (follows_last seq closed last follows)) (omega (arith, low, follows));
       put = subst (λ (l : List Event). ArePutWhole queue version (Begin seq ∷ acts) l (written deeds)) (sym same) (put queue version acts (queue_deeds.synced deeds) (written deeds) seq a.put);
-      of_version = (stays queue version acts).begun seq a.of_version;
+      well = begin_well queue version acts seq a.well;
     }
 
 -- ---- a batch
@@ -119,10 +119,12 @@ pub put_done : WrittenBatchIsDone → WrittenBatchIsPut
     → AreAllDone queue version (Put (log_batch_bytes (signature_in version last.0) batch.items batch.entry_bytes) ∷ acts)
     (Write (written_event (whole_file queue version last) handle batch.items batch.entry_bytes) ∷ deeds)
 put_done done put queue version acts deeds closed last handle batch w file place is a =
-    let p = put queue version acts (queue_deeds.synced deeds) (written deeds) closed last handle batch.items batch.entry_bytes w.tiled w.in_range w.in_bytes w.some w.short file place is a.put in record {
+    let p = put queue version acts (queue_deeds.synced deeds) (written deeds) closed last handle batch.items batch.entry_bytes w.tiled w.in_range w.in_bytes w.some w.short file place is a.put in
+    let part = whole_file queue version last in record {
       done = done queue version acts deeds closed last handle batch.items batch.entry_bytes w.tiled w.in_range w.in_bytes w.some w.short file place is a.done;
       put = p;
-      of_version = (stays queue version acts).put (log_batch_bytes (signature_in version last.0) batch.items batch.entry_bytes) _ p.whole a.of_version;
+      well = put_well queue version acts (log_batch_bytes (signature_in version last.0) batch.items batch.entry_bytes) (written deeds) (written_event part handle batch.items batch.entry_bytes) a.put.whole p.whole
+          (written_within part handle batch.items batch.entry_bytes w.tiled) a.well;
     }
 
 -- ---- a deletion
@@ -144,5 +146,5 @@ delete_done done put queue version acts deeds gone rest oldest next is count a =
     let less = rising_next a.done.done.first gone rest oldest next (subst (λ (files : List NumberedBytes). AreRisingFrom a.done.done.first (numbers files)) is a.done.done.rising) in record {
       done = done queue version acts deeds gone rest oldest next (oldest.0 + 1) a.done is count (omega arith) (omega (arith, less));
       put = put queue version acts (queue_deeds.synced deeds) (written deeds) a.put;
-      of_version = (stays queue version acts).deleted a.of_version;
+      well = delete_well queue version acts a.well;
     }

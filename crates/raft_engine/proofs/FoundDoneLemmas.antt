@@ -6,23 +6,23 @@ use Rattle.raft_base.specs.declared.pipe_log.Version.{Version}
 use Rattle.raft_history.specs.Batches.{Event}
 use Rattle.raft_files.specs.Asks.{Act, Ask, Begin, Cut, Found, NumberedBytes, acts_on, ask}
 use Rattle.raft_files.specs.Disk.{begun, cut_last, deletions}
-use Rattle.raft_files.specs.Places.{IsNext}
 use Rattle.raft_files.proofs.LastLemmas.{last_of}
 use Rattle.raft_replay.specs.Segments.{HoldsFrom}
 use Rattle.raft_replay.specs.Stops.{IsUnreadableAt}
 use Rattle.raft_recover.specs.Files.{FilesHold, whole_file}
 use Rattle.raft_engine_laws.specs.Stops.{Deed, Stop, deleted, in_files_from, IsSynced}
-use Rattle.raft_engine_fronts.specs.Done.{AreDone, AreDoneWhole, AreRisingFrom, numbers}
+use Rattle.raft_engine_fronts.specs.Done.{AreConsecutive, AreDone, AreDoneWhole, AreRisingFrom, Follows, numbers}
 use Rattle.raft_engine_fronts.specs.Fronts.{ArePut, ArePutWhole}
-use Rattle.raft_engine_fronts.specs.TornTails.{FilesHoldTorn, IsFollowedAt, StopsAt}
+use Rattle.raft_engine_fronts.specs.TornTails.{FilesHoldTorn, IsDamagedAt, StopsAt}
 use Rattle.raft_engine_fronts.proofs.EventLemmas.{files_high}
+use Rattle.raft_engine_fronts.proofs.NumberLemmas.{consecutive_rise}
 use Rattle.raft_engine_fronts.proofs.TornLemmas.{one_file, whole_torn}
 use Rattle.raft_engine.specs.FoundFiles.{IsCut, IsFirstBegun, IsLastOfOther, IsReady, IsTornFrom, IsUntorn}
-use Rattle.raft_engine.specs.OfVersion.{NoneIsOther}
 use Rattle.raft_engine.specs.Stored.{AreAllDone}
+use Rattle.raft_engine.specs.WellPut.{AreWellPut}
 use Rattle.raft_engine.proofs.FoundLemmas.{stands_inside}
-use Rattle.raft_engine.proofs.OfVersionLemmas.{stays}
 use Rattle.raft_engine.proofs.ReadyLemmas.{no_last}
+use Rattle.raft_engine.proofs.WellPutLemmas.{begin_well, cut_well, found_well}
 
 -- ---- what a queue holds before and after
 
@@ -36,14 +36,14 @@ none_held queue version h held = go h (one_file queue version (1, []) h held)
 
 -- where the last file is cut, it held the same batches and a torn tail
 cut_torn : (queue : LogQueue) (version : Version) (closed : List NumberedBytes) (last : NumberedBytes) (at : ℕ) (h : List Event) →
-    at < length last.1 → IsUnreadableAt (whole_file queue version last) at → ¬ (IsFollowedAt (whole_file queue version last) at)
+    at < length last.1 → IsUnreadableAt (whole_file queue version last) at → ¬ (IsDamagedAt (whole_file queue version last) at)
     → FilesHold queue version (closed ++ (last.0, take at last.1) ∷ []) h → FilesHoldTorn queue version (closed ++ last ∷ []) h
 cut_torn queue version [] last at h less none alone held = record {
   at = at;
   inside = omega (arith, less);
   held = one_file queue version (last.0, take at last.1) h held;
   torn = none;
-  unfollowed = alone;
+  undamaged = alone;
 }
 cut_torn queue version (c ∷ []) last at h less none alone held = record {
   first = held.first;
@@ -87,7 +87,7 @@ one_ask queue version asks later files left r = go r.ready
 pub record IsFoundDone (queue : LogQueue) (version : Version) (acts : List Act) (h : List Event) : Type 0 where
   pub done : AreDone queue version acts (Stop h 0 ∷ [])
   pub put : ArePut queue version acts h h
-  pub of_version : NoneIsOther queue version acts
+  pub well : AreWellPut queue version acts
 
 pub record AreReadyDone (queue : LogQueue) (version : Version) (files left : List NumberedBytes) (later : List Act) (h : List Event) : Type 0 where
   pub torn : FilesHoldTorn queue version files h
@@ -98,34 +98,34 @@ pub record AreReadyDone (queue : LogQueue) (version : Version) (files left : Lis
 
 module _
     (found : (queue : LogQueue) (version : Version) (acts : List Act) (deeds : List Deed) (files : List NumberedBytes) (standing : List Event) (n : ℕ)
-    → FilesHoldTorn queue version files (in_files_from n standing) → AreRisingFrom n (numbers files) → AreDone queue version (Found files ∷ acts) (Stop standing n ∷ deeds))
+    → FilesHoldTorn queue version files (in_files_from n standing) → AreRisingFrom n (numbers files) → AreConsecutive (numbers files) → AreDone queue version (Found files ∷ acts) (Stop standing n ∷ deeds))
     (found_whole : (queue : LogQueue) (version : Version) (acts : List Act) (deeds : List Deed) (files : List NumberedBytes) (standing : List Event) (n : ℕ)
-    → FilesHold queue version files (in_files_from n standing) → AreRisingFrom n (numbers files) → AreDoneWhole queue version (Found files ∷ acts) (Stop standing n ∷ deeds))
+    → FilesHold queue version files (in_files_from n standing) → AreRisingFrom n (numbers files) → AreConsecutive (numbers files) → AreDoneWhole queue version (Found files ∷ acts) (Stop standing n ∷ deeds))
     (cut : (queue : LogQueue) (version : Version) (acts : List Act) (deeds : List Deed) (closed : List NumberedBytes) (last : NumberedBytes) (at : ℕ)
     → AreDone queue version acts deeds → begun acts ≡ closed ++ last ∷ [] → StopsAt (whole_file queue version last) at → AreDoneWhole queue version (Cut at ∷ acts) deeds)
     (begin : (queue : LogQueue) (version : Version) (acts : List Act) (deeds : List Deed) (seq : ℕ)
-    → AreDoneWhole queue version acts deeds → IsSynced deeds → IsNext seq (begun acts) → deleted deeds ≤ seq → AreDoneWhole queue version (Begin seq ∷ acts) deeds)
+    → AreDoneWhole queue version acts deeds → IsSynced deeds → Follows seq (begun acts) → deleted deeds ≤ seq → AreDoneWhole queue version (Begin seq ∷ acts) deeds)
     (put_found : (queue : LogQueue) (version : Version) (acts : List Act) (files : List NumberedBytes) (h : List Event)
     → FilesHoldTorn queue version files h → ArePut queue version (Found files ∷ acts) h h)
     (put_cut : (queue : LogQueue) (version : Version) (acts : List Act) (synced h : List Event) (closed : List NumberedBytes) (last : NumberedBytes) (at : ℕ)
     → ArePut queue version acts synced h → begun acts ≡ closed ++ last ∷ [] → StopsAt (whole_file queue version last) at → ArePutWhole queue version (Cut at ∷ acts) synced h)
     (put_begin : (queue : LogQueue) (version : Version) (acts : List Act) (synced h : List Event) (seq : ℕ)
     → ArePutWhole queue version acts synced h → ArePutWhole queue version (Begin seq ∷ acts) h h) where
-  torn_done : (queue : LogQueue) (version : Version) (files : List NumberedBytes) (h : List Event) → AreRisingFrom 0 (numbers files) → ¬ (IsLastOfOther queue version files) → FilesHoldTorn queue version files h
+  torn_done : (queue : LogQueue) (version : Version) (files : List NumberedBytes) (h : List Event) → AreConsecutive (numbers files) → ¬ (IsLastOfOther queue version files) → FilesHoldTorn queue version files h
       → IsFoundDone queue version (Found files ∷ []) h
-  torn_done queue version files h rising none held = record {
-    done = found queue version [] [] files h 0 (subst (FilesHoldTorn queue version files) (sym (files_high queue version 0 files h rising held)) held) rising;
+  torn_done queue version files h consecutive none held = record {
+    done = found queue version [] [] files h 0 (subst (FilesHoldTorn queue version files) (sym (files_high queue version 0 files h (consecutive_rise (numbers files) consecutive) held)) held) (consecutive_rise (numbers files) consecutive) consecutive;
     put = put_found queue version [] files h held;
-    of_version = (stays queue version []).found files none;
+    well = found_well queue version [] files none;
   }
 
-  whole_done : (queue : LogQueue) (version : Version) (files : List NumberedBytes) (h : List Event) → AreRisingFrom 0 (numbers files) → ¬ (IsLastOfOther queue version files) → FilesHold queue version files h
+  whole_done : (queue : LogQueue) (version : Version) (files : List NumberedBytes) (h : List Event) → AreConsecutive (numbers files) → ¬ (IsLastOfOther queue version files) → FilesHold queue version files h
       → AreAllDone queue version (Found files ∷ []) (Stop h 0 ∷ [])
-  whole_done queue version files h rising none held =
+  whole_done queue version files h consecutive none held =
       let torn = whole_torn queue version files h held in record {
-        done = found_whole queue version [] [] files h 0 (subst (FilesHold queue version files) (sym (files_high queue version 0 files h rising torn)) held) rising;
+        done = found_whole queue version [] [] files h 0 (subst (FilesHold queue version files) (sym (files_high queue version 0 files h (consecutive_rise (numbers files) consecutive) torn)) held) (consecutive_rise (numbers files) consecutive) consecutive;
         put = record { put = put_found queue version [] files h torn; whole = held };
-        of_version = (stays queue version []).found files none;
+        well = found_well queue version [] files none;
       }
 
   -- a first file is begun
@@ -139,39 +139,39 @@ module _
         after = record {
           done = begin queue version (Found [] ∷ []) (Stop h 0 ∷ []) 1 all.done tt tt (omega arith);
           put = put_begin queue version (Found [] ∷ []) h h 1 all.put;
-          of_version = (stays queue version (Found [] ∷ [])).begun 1 all.of_version;
+          well = begin_well queue version (Found [] ∷ []) 1 all.well;
         };
         are = refl;
         none = refl;
       }
 
   -- there is no torn tail
-  whole_ready : (queue : LogQueue) (version : Version) (files : List NumberedBytes) (h : List Event) → AreRisingFrom 0 (numbers files) → ¬ (IsLastOfOther queue version files) → FilesHold queue version files h
+  whole_ready : (queue : LogQueue) (version : Version) (files : List NumberedBytes) (h : List Event) → AreConsecutive (numbers files) → ¬ (IsLastOfOther queue version files) → FilesHold queue version files h
       → AreReadyDone queue version files files (Found files ∷ []) h
-  whole_ready queue version files h rising no_other held =
+  whole_ready queue version files h consecutive no_other held =
       let torn = whole_torn queue version files h held in record {
         torn = torn;
-        before = torn_done queue version files h rising no_other torn;
-        after = whole_done queue version files h rising no_other held;
+        before = torn_done queue version files h consecutive no_other torn;
+        after = whole_done queue version files h consecutive no_other held;
         are = refl;
         none = refl;
       }
 
   -- a torn tail is cut off
-  cut_ready : (queue : LogQueue) (version : Version) (closed : List NumberedBytes) (last : NumberedBytes) (at : ℕ) (h : List Event) → AreRisingFrom 0 (numbers (closed ++ last ∷ []))
+  cut_ready : (queue : LogQueue) (version : Version) (closed : List NumberedBytes) (last : NumberedBytes) (at : ℕ) (h : List Event) → AreConsecutive (numbers (closed ++ last ∷ []))
       → ¬ (IsLastOfOther queue version (closed ++ last ∷ [])) → IsTornFrom (whole_file queue version last) (Some at)
       → FilesHold queue version (cut_last at (closed ++ last ∷ [])) h → AreReadyDone queue version (closed ++ last ∷ []) (cut_last at (closed ++ last ∷ [])) (Cut at ∷ Found (closed ++ last ∷ []) ∷ []) h
-  cut_ready queue version closed last at h rising no_other t held =
+  cut_ready queue version closed last at h consecutive no_other t held =
       let files = closed ++ last ∷ [] in
       let torn : FilesHoldTorn queue version files h = cut_torn queue version closed last at h t.1 (unreadable queue version last at t) t.2
       (subst (λ (l : List NumberedBytes). FilesHold queue version l h) (last_of (λ old. take at old) closed last) held) in
-      let before = torn_done queue version files h rising no_other torn in record {
+      let before = torn_done queue version files h consecutive no_other torn in record {
         torn = torn;
         before = before;
         after = record {
           done = cut queue version (Found files ∷ []) (Stop h 0 ∷ []) closed last at before.done refl t.0;
           put = put_cut queue version (Found files ∷ []) h h closed last at before.put refl t.0;
-          of_version = (stays queue version (Found files ∷ [])).cut at h held before.of_version;
+          well = cut_well queue version (Found files ∷ []) at h torn held before.well;
         };
         are = refl;
         none = refl;
@@ -193,11 +193,11 @@ module _
       go (inr (inl u)) =
           subst (λ (l : List Act). AreReadyDone queue version files left l h) (sym (ap (acts_on queue) u.asked ∙ acts))
           (subst (λ (f : List NumberedBytes). AreReadyDone queue version files f (Found files ∷ []) h) (sym u.same)
-          (whole_ready queue version files h r.accepted.rising r.accepted.of_version (subst (λ (f : List NumberedBytes). FilesHold queue version f h) u.same held)))
+          (whole_ready queue version files h r.accepted.consecutive r.accepted.of_version (subst (λ (f : List NumberedBytes). FilesHold queue version f h) u.same held)))
       go (inr (inr c)) =
           subst (λ (l : List Act). AreReadyDone queue version files left l h) (more (Cut c.at) c.asked)
           (subst (λ (f : List NumberedBytes). AreReadyDone queue version files f (Cut c.at ∷ Found files ∷ []) h) (sym c.cut)
           (subst (λ (f : List NumberedBytes). AreReadyDone queue version f (cut_last c.at f) (Cut c.at ∷ Found f ∷ []) h) (sym c.split)
-          (cut_ready queue version c.closed c.last c.at h (subst (λ (f : List NumberedBytes). AreRisingFrom 0 (numbers f)) c.split r.accepted.rising)
+          (cut_ready queue version c.closed c.last c.at h (subst (λ (f : List NumberedBytes). AreConsecutive (numbers f)) c.split r.accepted.consecutive)
           (subst (λ (f : List NumberedBytes). ¬ (IsLastOfOther queue version f)) c.split r.accepted.of_version) c.torn
           (subst (λ (f : List NumberedBytes). FilesHold queue version (cut_last c.at f) h) c.split (subst (λ (f : List NumberedBytes). FilesHold queue version f h) c.cut held)))))

@@ -1,15 +1,13 @@
 -- Files that are found: where a reader stops, and what stands behind.
-use Rattle.std.proofs.Common.{◌≡◌, ◌≢◌, ◌⊎◌, Vec, map, take, ℕ, ◌+◌, ◌-◌, ◌^◌, ◌<◌, ◌≤◌, min, Option, Some, None, List, [], ◌∷◌, ◌++◌, length, drop, inl, inr, sym, ap, ◌∙◌, subst, arith}
+use Rattle.std.proofs.Common.{◌≡◌, ◌≢◌, ◌⊎◌, Vec, map, take, ℕ, ◌-◌, ◌<◌, Some, None, List, [], ◌∷◌, ◌++◌, length, drop, inl, inr, sym, ap, ◌∙◌, subst, arith}
 use Rattle.std.proofs.lemmas.List.{length-append, length-drop, map-append}
 use Rattle.std.proofs.lemmas.Option.{slice_get_within, get_or_from_slice_get}
 use Rattle.std.specs.List.{slice_get}
 use Rattle.std.specs.Global.{Global}
 use Rattle.raft_files.specs.HeldFiles.{file_shown}
 use Rattle.raft_files.proofs.LastLemmas.{at_last}
-use Rattle.raft_codec.specs.Reading.{Reads, HasNoFront, HasOneFront}
-use Rattle.raft_base.specs.declared.compression_type.CompressionType.{CompressionType}
-use Rattle.raft_records.specs.FilePart.{AreBatchesUpTo, HasHeader, IsBatchAt, IsNext, Part, StandBetween}
-use Rattle.raft_records.specs.Header.{IsHeader}
+use Rattle.raft_codec.specs.Reading.{HasNoFront}
+use Rattle.raft_records.specs.FilePart.{AreBatchesUpTo, IsBatchAt, Part, StandBetween}
 use Rattle.raft_base.specs.Signature.{signature_of}
 use Rattle.raft_base.specs.declared.pipe_log.LogFileContext.{LogFileContext}
 use Rattle.raft_records.specs.Item.{Item}
@@ -17,35 +15,11 @@ use Rattle.raft_records.specs.LogBatch.{IsReadable}
 use Rattle.raft_records.proofs.Names.{part_signature}
 use Rattle.raft_replay.specs.Stops.{IsUnreadableAt}
 use Rattle.raft_replay.proofs.SegmentLemmas.{batch_none}
-use Rattle.raft_engine_fronts.specs.TornTails.{IsFollowedAt, StopsAt}
+use Rattle.raft_engine_fronts.specs.TornTails.{IsDamagedAt, StopsAt}
+use Rattle.raft_tail.specs.Tails.{IsBrokenOff, IsNextElsewhere, IsNextSound}
 use Rattle.raft_engine_fronts.proofs.BatchPartLemmas.{batch_long, end_unreadable}
 use Rattle.raft_engine_fronts.proofs.TornLemmas.{one_stop}
 use Rattle.raft_engine.specs.FoundFiles.{BeginsInOther, IsDamaged, IsOfOther, in_other, other_version}
-
--- without a header nothing follows
-pub headless : (part : Part) (at : ℕ) → HasNoFront IsHeader (drop at part.bytes) → ¬ (IsFollowedAt part at)
-headless part at none f =
-    let h = f.header.header in
-    none h.front f.header.rest (f.offset, f.header.compression, f.len) h.spells h.split
-
--- every header at a byte says that length
-pub record IsLong (part : Part) (at len : ℕ) : Type 0 where
-  pub offset : ℕ
-  pub header : HasHeader (drop at part.bytes) offset len
-  pub one : (offset' len' : ℕ) → HasHeader (drop at part.bytes) offset' len' → len' ≡ len
-
-pub header_at : HasOneFront IsHeader → (part : Part) (at : ℕ) (bytes rest : List ℕ) (offset len : ℕ) (compression : CompressionType)
-    → bytes ≡ drop at part.bytes → Reads IsHeader bytes rest (offset, compression, len) → IsLong part at len
-header_at one part at bytes rest offset len compression e r = record {
-  offset = offset;
-  header = subst (λ (xs : List ℕ). HasHeader xs offset len) e (record { compression = compression; rest = rest; header = r });
-  one = λ offset' len' h. same (subst (λ (xs : List ℕ). HasHeader xs offset' len') (sym e) h);
-}
-  where
-    same : {offset' len' : ℕ} → HasHeader bytes offset' len' → len' ≡ len
-    same {offset'} {len'} h =
-        let g = h.header in
-        ap (λ (t : ℕ × CompressionType × ℕ). t.2) (one g.front r.front h.rest rest (offset', h.compression, len') (offset, compression, len) g.spells r.spells (sym g.split ∙ r.split)).1
 
 -- what stands somewhere stands before the end
 pub stands_inside : (part : Part) (i next : ℕ) (items : List Item) → IsBatchAt part i items next → i < length part.bytes
@@ -54,34 +28,6 @@ stands_inside part i next items b =
     let n = sym (length-drop i part.bytes) ∙ ap length b.stands ∙ length-append b.bytes (drop next part.bytes) in
     omega (arith, some, n)
 
--- nothing follows where the file ends before
-pub beyond : (part : Part) (at len sat : ℕ) → IsLong part at len → sat ≡ min (at + len) (2 ^ 64 - 1) → length part.bytes ≤ sat → ¬ (IsFollowedAt part at)
-beyond part at len sat l e ends f =
-    let same = l.one f.offset f.len f.header in
-    let inside = stands_inside part (at + f.len) f.next f.items f.stands in
-    absurd (omega (arith, same, inside, e, ends))
-
--- where it says that its batch ends none stands
-pub not_there : (part : Part) (at len sat : ℕ) → IsLong part at len → sat ≡ min (at + len) (2 ^ 64 - 1) → length part.bytes < 2 ^ 63 → sat < length part.bytes
-    → IsUnreadableAt part sat → ¬ (IsFollowedAt part at)
-not_there part at len sat l e few less none f =
-    let same = l.one f.offset f.len f.header in
-    let here : at + f.len ≡ sat = omega (arith, same, e, few, less) in
-    batch_none part sat f.items f.next none (subst (λ (n : ℕ). IsBatchAt part n f.items f.next) here f.stands)
-
--- or one does
-pub there : (part : Part) (at len sat : ℕ) (o : Option (List Item × ℕ)) → IsLong part at len → sat ≡ min (at + len) (2 ^ 64 - 1) → length part.bytes < 2 ^ 63 → sat < length part.bytes
-    → IsNext part sat o → IsFollowedAt part at
-there part at len sat None l e few less next = absurd (omega (arith, less, next))
-there part at len sat (Some n) l e few less next = record {
-  offset = l.offset;
-  len = len;
-  header = l.header;
-  items = n.0;
-  next = n.1;
-  stands = subst (λ (i : ℕ). IsBatchAt part i n.0 n.1) (omega (arith, e, few, less)) next;
-}
-
 stop_unreadable : (part : Part) (at : ℕ) → (at ≡ length part.bytes) ⊎ IsUnreadableAt part at → IsUnreadableAt part at
 stop_unreadable part at s = elim s [ inl e ↦ end_unreadable part at e | inr none ↦ none ]
 
@@ -89,16 +35,32 @@ stop_unreadable part at s = elim s [ inl e ↦ end_unreadable part at e | inr no
 pub one_stopped : (part : Part) (at other : ℕ) → StopsAt part at → StopsAt part other → at ≡ other
 one_stopped part at other s o = one_stop part 0 at other s.batches.0 o.batches.0 s.batches.1 o.batches.1 (stop_unreadable part at s.stops) (stop_unreadable part other o.stops)
 
--- nothing follows at the end
-pub undamaged : (part : Part) (at : ℕ) → StopsAt part at → ((at ≡ length part.bytes) ⊎ (¬ (IsFollowedAt part at))) → ¬ (IsDamaged part)
+-- where a reader stops no damage begins, or it is the end
+pub undamaged : (part : Part) (at : ℕ) → StopsAt part at → ((at ≡ length part.bytes) ⊎ (¬ (IsDamagedAt part at))) → ¬ (IsDamaged part)
 undamaged part at stops none d = go none
   where
     same : d.at ≡ at
     same = one_stopped part d.at at d.stops stops
 
-    go : (at ≡ length part.bytes) ⊎ (¬ (IsFollowedAt part at)) → ⊥
+    go : (at ≡ length part.bytes) ⊎ (¬ (IsDamagedAt part at)) → ⊥
     go (inl ends) = let less = d.before_end in omega (arith, same, ends, less)
-    go (inr not) = not (subst (IsFollowedAt part) same d.followed)
+    go (inr not) = not (subst (IsDamagedAt part) same d.damaged)
+
+-- ---- damage
+
+-- from where reading stops on nothing stands that can be read
+pub nothing_stands : (part : Part) (at : ℕ) → IsNextSound part at None → IsNextElsewhere part at None → ¬ (IsDamagedAt part at)
+nothing_stands part at none_sound none_elsewhere d =
+    elim d.batches.2 [
+      | inl sound ↦ none_sound d.batches.0 d.batches.1 sound
+      | inr elsewhere ↦ none_elsewhere d.batches.0 d.batches.1 elsewhere
+    ]
+
+pub sound_stands : (part : Part) (at i : ℕ) → ¬ (IsBrokenOff part at) → IsNextSound part at (Some i) → IsDamagedAt part at
+sound_stands part at i whole first = record { whole = whole; batches = (i, first.0, inl first.1) }
+
+pub elsewhere_stands : (part : Part) (at : ℕ) (found : ℕ × ℕ) → ¬ (IsBrokenOff part at) → IsNextElsewhere part at (Some found) → IsDamagedAt part at
+elsewhere_stands part at found whole first = record { whole = whole; batches = (found.0, first.0.0, inr first.0.1) }
 
 -- ---- the last file
 

@@ -1,5 +1,5 @@
 -- What is stored of found files.
-use Rattle.std.proofs.Common.{◌≡◌, ◌⊎◌, inl, inr, ℕ, List, [], ◌∷◌, ◌++◌, length, refl, sym, ap, ◌∙◌, subst, arith}
+use Rattle.std.proofs.Common.{◌≡◌, ◌⊎◌, inl, inr, ℕ, List, [], ◌∷◌, ◌++◌, length, refl, sym, ap, ◌∙◌, subst}
 use Rattle.std.specs.FinMap as finite
 use Rattle.raft_base.specs.declared.compression_type.CompressionType.TheVariants as compressions
 use Rattle.raft_base.specs.declared.entry_index.EntryIndex.{EntryIndex}
@@ -30,25 +30,24 @@ use Rattle.raft_engine_laws.specs.Records.{HaveRecords, Records, live}
 use Rattle.raft_engine_laws.specs.Stops as queue_deeds
 use Rattle.raft_engine_laws.specs.Stops.{Deed, Stop, Write, IsNextIn, IsSafe, LoseNothing, written}
 use Rattle.raft_engine_laws.specs.Telling.{AreRemovals, SayAllAtOpening, TakeAway}
-use Rattle.raft_engine_fronts.specs.Done.{AreDone, HoldLeft, LastFileIsNext, numbers}
-use Rattle.raft_engine_fronts.proofs.NumberLemmas.{rising_low}
+use Rattle.raft_engine_fronts.specs.Done.{AreDone, HoldLeft, LastFileIsNext}
 use Rattle.raft_engine_fronts.specs.Fronts.{ArePut}
 use Rattle.raft_engine.specs.BatchBytes.{bytes_for, place_at, placed_at}
 use Rattle.raft_engine.specs.FoundFiles.{IsReady}
 use Rattle.raft_engine.specs.FoundRecords.{FoundRecordsLast, HaveEverRecords}
 use Rattle.raft_engine.specs.Lasting.{AreFoundIn, HaveBothBegun, IsBegunOrFound, IsLastingAfter}
 use Rattle.raft_engine.specs.Opening.{AreRecovered}
-use Rattle.raft_engine.specs.OfVersion.{NoneIsOther}
 use Rattle.raft_engine.specs.OpeningAsks.{asks_that_tell}
 use Rattle.raft_engine.specs.Stored.{AreAllDone, Bases}
 use Rattle.raft_engine.specs.StoredAsks.{IsWritableBatch, WhatIsDoneLasts}
+use Rattle.raft_engine.specs.WellPut.{AreWellPut}
 use Rattle.raft_engine_fronts.specs.Contents.{AreBothTold, KeepsBytes}
 use Rattle.raft_engine.specs.StoredFound.{AreMadeReady, AreReady, AreStoredAlone, FoundFilesAreReady, FoundFilesAreStored, found_asks, told_asks}
 use Rattle.raft_engine.proofs.FoundDoneLemmas.{AreReadyDone, one_ask}
 use Rattle.raft_engine_laws.proofs.InRows.{rows_alone, rows_left}
-use Rattle.raft_engine.proofs.OfVersionLemmas.{both_not_other}
 use Rattle.raft_engine.proofs.StoredLemmas.{first_on, goes_on}
 use Rattle.raft_engine.proofs.UntoldLemmas.{placed_away, placed_steps}
+use Rattle.raft_engine.proofs.WellPutLemmas.{both_well}
 
 no_more : (x : Ask) (rest : List Ask) → [] ≡ x ∷ rest → ⊥
 no_more x rest e = absurd cc
@@ -134,9 +133,9 @@ module _ (ready : ReadyIsDone) (version : Version) (asked : List Ask) (append re
 
   module _ (P : List Ask → Type 0)
       (so : (l : List Ask) → AreDone Append version (acts_on Append l) (Stop h 0 ∷ []) → AreDone Rewrite version (acts_on Rewrite l) (Stop k 0 ∷ []) → ArePut Append version (acts_on Append l) h h
-      → ((queue : LogQueue) → NoneIsOther queue version (acts_on queue l)) → P l) where
+      → ((queue : LogQueue) → AreWellPut queue version (acts_on queue l)) → P l) where
     at_first : WasEver P first
-    at_first [] earlier e begun = subst P e (so first a.before.done b.before.done a.before.put (both_not_other version first a.before.of_version b.before.of_version))
+    at_first [] earlier e begun = subst P e (so first a.before.done b.before.done a.before.put (both_well version first a.before.well b.before.well))
     at_first (x ∷ []) earlier e begun = absurd (begun.1 (sym (ap (λ (l : List Ask). acts_on Rewrite (tail_of l)) e)))
     at_first (x ∷ y ∷ []) earlier e begun = absurd (begun.0 (sym (ap (λ (l : List Ask). acts_on Append (tail_of (tail_of l))) e)))
     at_first (x ∷ y ∷ z ∷ later) earlier e begun = absurd (no_more z (later ++ earlier) (ap (λ (l : List Ask). tail_of (tail_of l)) e))
@@ -146,8 +145,8 @@ module _ (ready : ReadyIsDone) (version : Version) (asked : List Ask) (append re
         may_more P Rewrite r.between asked step_rewrite
         (may_more P Append first r.between step_append at_first
         (so r.between a.after.done.done (subst (λ (l : List Act). AreDone Rewrite version l (Stop k 0 ∷ [])) (sym rewrite_same) b.before.done) a.after.put.put
-        (both_not_other version r.between a.after.of_version (subst (NoneIsOther Rewrite version) (sym rewrite_same) b.before.of_version))))
-        (so asked append_all.done.done b.after.done.done append_all.put.put (both_not_other version asked append_all.of_version b.after.of_version))
+        (both_well version r.between a.after.well (subst (AreWellPut Rewrite version) (sym rewrite_same) b.before.well))))
+        (so asked append_all.done.done b.after.done.done append_all.put.put (both_well version asked append_all.well b.after.well))
 
 pub found_ready : ReadyIsDone → FoundFilesAreReady
 found_ready ready version asked append rewrite append_left rewrite_left h k r append_held rewrite_held = made_ready ready version asked append rewrite append_left rewrite_left h k r append_held rewrite_held
@@ -178,8 +177,8 @@ records_found left content version base l h rewritten append_done rewrite_done r
       rewritten = b.left;
       append_held = a.held;
       rewrite_held = b.held;
-      append_rising = rising_low 0 a.is_left.gone (numbers append) (omega arith) a.rising;
-      rewrite_rising = rising_low 0 b.is_left.gone (numbers rewrite) (omega arith) b.rising;
+      append_consecutive = a.consecutive;
+      rewrite_consecutive = b.consecutive;
       append_sound = ok.0;
       rewrite_sound = ok.1;
       apart = ok.2;
@@ -241,7 +240,7 @@ module _ (ready : ReadyIsDone) (lasts : WhatIsDoneLasts) (left : LeftIsHeld)
 
     ever : (P : List Ask → Type 0)
         → ((l : List Ask) → AreDone Append version (acts_on Append l) (Stop h 0 ∷ []) → AreDone Rewrite version (acts_on Rewrite l) (Stop k 0 ∷ []) → ArePut Append version (acts_on Append l) h h
-        → ((queue : LogQueue) → NoneIsOther queue version (acts_on queue l)) → P l)
+        → ((queue : LogQueue) → AreWellPut queue version (acts_on queue l)) → P l)
         → WasEver P asked
     ever = ever_ready ready version asked append rewrite append_left rewrite_left h k r g.append_held g.rewrite_held
 
@@ -249,13 +248,13 @@ module _ (ready : ReadyIsDone) (lasts : WhatIsDoneLasts) (left : LeftIsHeld)
         → (content : EntryIndex → List ℕ) → WasEver (λ (l : List Ask). IsLastingAfter content version (base content) l) asked
     ever_lasting base none content =
         ever (λ (l : List Ask). IsLastingAfter content version (base content) l)
-        (λ l done done' put no_other. (lasts content version (base content) l (Stop h 0 ∷ []) (Stop k 0 ∷ []) done done' put no_other g.rows (none content)).0)
+        (λ l done done' put well. (lasts content version (base content) l (Stop h 0 ∷ []) (Stop k 0 ∷ []) done done' put well g.rows (none content)).0)
 
     ever_found : (base : Bases) → ((content : EntryIndex → List ℕ) → LoseNothing content (base content) (Stop h 0 ∷ []) (Stop k 0 ∷ []))
         → (content : EntryIndex → List ℕ) → WasEver (HaveLeft content version (live content (base content) h)) asked
     ever_found base none content =
         ever (HaveLeft content version (live content (base content) h))
-        (λ l done done' put no_other. records_found left content version (base content) l h (Stop k 0 ∷ []) done done' g.rows (none content))
+        (λ l done done' put well. records_found left content version (base content) l h (Stop k 0 ∷ []) done done' g.rows (none content))
 
     module _ (nothing : told.items ≡ []) where
       open_so : (base : Bases) × ((content : EntryIndex → List ℕ) → IsSafe content (base content) (Stop h 0 ∷ []) (Stop k 0 ∷ []) [] accessor.tables)
@@ -327,7 +326,7 @@ module _ (ready : ReadyIsDone) (lasts : WhatIsDoneLasts) (left : LeftIsHeld)
       ever_put content =
           one_more (λ (l : List Ask). IsLastingAfter content version (o.0 content) l) put_ask asked (ever_lasting o.0 o.3 content)
           (lasts content version (o.0 content) (put_ask ∷ asked) (Stop h 0 ∷ []) (Write e ∷ Stop k 0 ∷ []) append_done.done.done put_all.done.done append_done.put.put
-          (both_not_other version (put_ask ∷ asked) append_done.of_version put_all.of_version) rows_more (o.2 content)).0
+          (both_well version (put_ask ∷ asked) append_done.well put_all.well) rows_more (o.2 content)).0
 
       once_told : AreStoredAlone version (told_asks version seq told asked) accessor.tables
       once_told = (

@@ -1,5 +1,5 @@
 -- What is done to both queues lasts.
-use Rattle.std.proofs.Common.{◌≡◌, inl, inr, List, [], ◌∷◌, ◌++◌, refl, sym, ap, ◌∙◌, subst, append_assoc, append-nil, arith}
+use Rattle.std.proofs.Common.{◌≡◌, inl, inr, List, [], ◌∷◌, ◌++◌, refl, sym, ap, ◌∙◌, subst, append_assoc, append-nil}
 use Rattle.raft_base.specs.declared.pipe_log.LogQueue.{LogQueue}
 use Rattle.raft_base.specs.declared.pipe_log.LogQueue.TheVariants.{Append, Rewrite}
 use Rattle.raft_base.specs.declared.pipe_log.Version.{Version}
@@ -9,12 +9,14 @@ use Rattle.raft_files.specs.Asks.{Act, Ask, Begin, Cut, Found, NumberedBytes, Pu
 use Rattle.raft_files.specs.Disk.{begun, IsLeftOf}
 use Rattle.raft_engine_laws.specs.Stops as queue_deeds
 use Rattle.raft_engine_laws.specs.Stops.{Deed, Write, Delete, Stop, in_files_from, written, MayStand}
+use Rattle.raft_engine_fronts.specs.EntryPlaces.{FilesEndWithin, FoundEndWithin}
 use Rattle.raft_engine_fronts.specs.Fronts.{ArePut, IsFrontWith}
+use Rattle.raft_engine_fronts.proofs.EndLemmas.{left_within}
 use Rattle.raft_engine_fronts.specs.TornTails.{FilesHoldTorn}
 use Rattle.raft_engine_fronts.proofs.TornLemmas.{whole_torn}
+use Rattle.raft_engine_fronts.specs.AnyTails.{IsUnforgedLeftOf}
 use Rattle.raft_engine_fronts.specs.Contents.{AreTold, AreToldByFiles}
-use Rattle.raft_engine_fronts.specs.Done.{AreDone, HoldLeft, numbers}
-use Rattle.raft_engine_fronts.proofs.NumberLemmas.{rising_low}
+use Rattle.raft_engine_fronts.specs.Done.{AreDone, HoldLeft}
 use Rattle.raft_engine.specs.CutFiles.{AreCut}
 use Rattle.raft_engine.specs.Lasting.{AreSynced, before_sync}
 use Rattle.raft_engine.specs.StoredAsks.{WhatIsDoneLasts}
@@ -80,13 +82,17 @@ pub done_lasts : ((queue : LogQueue) (version : Version) (asked : List Ask) (dee
     → AreDone queue version (acts_on queue asked) deeds → IsLeftOf queue asked files → HoldLeft queue version deeds files)
     → ((queue : LogQueue) (version : Version) (acts : List Act) (synced h : List Event)
     → ArePut queue version acts synced h → FilesHoldTorn queue version (begun acts) h)
+    → ((queue : LogQueue) (version : Version) (asked : List Ask) (deeds : List Deed) (files : List NumberedBytes) (read : List Event)
+    → AreDone queue version (acts_on queue asked) deeds → IsUnforgedLeftOf queue version asked files → FilesHoldTorn queue version files read → HoldLeft queue version deeds files)
     → WhatIsDoneLasts
-done_lasts left all content version base asked appended rewritten append_done rewrite_done put not_other rows lose = (
+done_lasts left all any content version base asked appended rewritten append_done rewrite_done put well rows lose = (
   record {
     batches = written appended;
     synced = queue_deeds.synced appended;
     batches_held = all Append version (acts_on Append asked) (queue_deeds.synced appended) (written appended) put;
     synced_held = held_at_sync Append version (acts_on Append asked) (queue_deeds.synced appended) (written appended) put;
+    put = put;
+    stays = append_done.stays;
     left = λ append rewrite left_append left_rewrite.
         let a = left Append version asked appended append append_done left_append in
         let r = left Rewrite version asked rewritten rewrite rewrite_done left_rewrite in
@@ -98,8 +104,28 @@ done_lasts left all content version base asked appended rewritten append_done re
             rewritten = r.left;
             append_held = a.held;
             rewrite_held = r.held;
-            append_rising = rising_low 0 a.is_left.gone (numbers append) (omega arith) a.rising;
-            rewrite_rising = rising_low 0 r.is_left.gone (numbers rewrite) (omega arith) r.rising;
+            append_consecutive = a.consecutive;
+            rewrite_consecutive = r.consecutive;
+            append_sound = ok.0;
+            rewrite_sound = ok.1;
+            apart = ok.2;
+            rows = rows_left rewritten r.standing r.left rows r.is_left;
+            found = λ tables cleaned reading. lose.found a.standing a.left r.standing r.left a.is_left r.is_left tables cleaned reading;
+          },
+        );
+    left_any = λ append rewrite left_append left_rewrite append_read rewrite_read append_is rewrite_is.
+        let a = any Append version asked appended append append_read append_done left_append append_is in
+        let r = any Rewrite version asked rewritten rewrite rewrite_read rewrite_done left_rewrite rewrite_is in
+        let ok = lose.readable a.standing a.left r.standing r.left a.is_left r.is_left in (
+          a.standing,
+          stands_with_synced appended a.standing a.is_left.stands,
+          record {
+            appended = a.left;
+            rewritten = r.left;
+            append_held = a.held;
+            rewrite_held = r.held;
+            append_consecutive = a.consecutive;
+            rewrite_consecutive = r.consecutive;
             append_sound = ok.0;
             rewrite_sound = ok.1;
             apart = ok.2;
@@ -108,7 +134,8 @@ done_lasts left all content version base asked appended rewritten append_done re
           },
         );
     told = told_of;
-    of_version = λ queue files l. left_not_other queue version asked files (not_other queue) l;
+    of_version = λ queue files l. left_not_other queue version asked files (well queue).of_version l;
+    ends = ends_of;
     whole =
         let a = whole_of Append version asked appended append_done in
         let r = whole_of Rewrite version asked rewritten rewrite_done in
@@ -118,8 +145,8 @@ done_lasts left all content version base asked appended rewritten append_done re
           rewritten = r.left;
           append_held = a.held;
           rewrite_held = r.held;
-          append_rising = a.rising;
-          rewrite_rising = r.rising;
+          append_consecutive = a.consecutive;
+          rewrite_consecutive = r.consecutive;
           append_sound = ok.0;
           rewrite_sound = ok.1;
           apart = ok.2;
@@ -131,6 +158,15 @@ done_lasts left all content version base asked appended rewritten append_done re
   refl,
 )
   where
+    done_ends : (queue : LogQueue) (deeds : List Deed) → AreDone queue version (acts_on queue asked) deeds → FoundEndWithin queue version (acts_on queue asked)
+        → (files : List NumberedBytes) → IsLeftOf queue asked files → FilesEndWithin queue version files
+    done_ends queue deeds d found files l =
+        left_within queue version asked (in_files_from d.first (queue_deeds.synced deeds)) (in_files_from d.first (written deeds)) files d.put d.stays ((well queue).within found) l
+
+    ends_of : (queue : LogQueue) → FoundEndWithin queue version (acts_on queue asked) → (files : List NumberedBytes) → IsLeftOf queue asked files → FilesEndWithin queue version files
+    ends_of Append found files l = done_ends Append appended append_done found files l
+    ends_of Rewrite found files l = done_ends Rewrite rewritten rewrite_done found files l
+
     told_of : (queue : LogQueue) → AreTold queue (acts_on queue asked) content → (files cut : List NumberedBytes) → IsLeftOf queue asked files → AreCut queue version files cut → AreToldByFiles queue cut content
     told_of Append told files cut l c =
         let d = append_done in

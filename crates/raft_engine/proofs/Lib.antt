@@ -1,5 +1,6 @@
 mod RefusedLemmas
 mod FoundLemmas
+mod FileNumbers
 mod ReadyLemmas
 mod AskedLemmas
 mod OfVersionLemmas
@@ -67,3 +68,7 @@ mod RoundTripLemmas
 mod FaultLemmas
 mod MovingFaultLemmas
 pub mod OverLemmas
+mod MomentLemmas
+mod EntryLemmas
+mod LifeLemmas
+mod WellPutLemmas

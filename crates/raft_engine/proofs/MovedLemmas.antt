@@ -46,7 +46,7 @@ use Rattle.raft_engine.proofs.LowPairs.{safe_low}
 use Rattle.raft_engine.proofs.MovesAgain.{again_batch_taken, move_again}
 use Rattle.raft_engine.proofs.MovingPuts.{batch_taken, contents_told, is_moving, placed_moving}
 use Rattle.raft_engine_laws.proofs.InRows.{rows_alone}
-use Rattle.raft_engine.proofs.OfVersionLemmas.{stays}
+use Rattle.raft_engine.proofs.WellPutLemmas.{read_well}
 use Rattle.raft_engine.proofs.StoredLemmas.{goes_on}
 
 -- ---- no marker
@@ -103,7 +103,7 @@ module _
         append_done = record {
           done = done Append version (acts_on Append asked) s.appended place bytes s.append_done.done;
           put = record { put = s.append_done.put.put; whole = s.append_done.put.whole };
-          of_version = (stays Append version (acts_on Append asked)).read place bytes s.append_done.of_version;
+          well = read_well Append version (acts_on Append asked) place bytes s.append_done.well;
         };
         rewrite_done = s.rewrite_done;
         rows = s.rows;
@@ -118,7 +118,7 @@ module _
         rewrite_done = record {
           done = done Rewrite version (acts_on Rewrite asked) s.rewritten place bytes s.rewrite_done.done;
           put = record { put = s.rewrite_done.put.put; whole = s.rewrite_done.put.whole };
-          of_version = (stays Rewrite version (acts_on Rewrite asked)).read place bytes s.rewrite_done.of_version;
+          well = read_well Rewrite version (acts_on Rewrite asked) place bytes s.rewrite_done.well;
         };
         rows = s.rows;
         safe = λ content told. s.safe content (keep asked (ask Rewrite (Read place bytes)) content tt told);

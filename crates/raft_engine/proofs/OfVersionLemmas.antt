@@ -3,13 +3,12 @@ use Rattle.std.proofs.Common.{◌≡◌, ◌⊎◌, inl, inr, ℕ, zero, suc, �
 use Rattle.std.proofs.lemmas.Bool.{cases_lt}
 use Rattle.std.proofs.lemmas.List.{length-append, take-append-drop, take-append-le, take_at}
 use Rattle.raft_base.specs.declared.pipe_log.LogQueue.{LogQueue}
-use Rattle.raft_base.specs.declared.pipe_log.LogQueue.TheVariants.{Append, Rewrite}
 use Rattle.raft_base.specs.declared.pipe_log.Version.{Version}
 use Rattle.raft_records.specs.FilePart.{IsBatchAt, Part}
 use Rattle.raft_records.proofs.Names.{part_signature}
 use Rattle.raft_records.proofs.PartLemmas.{batch_inside}
 use Rattle.raft_history.specs.Batches.{Event}
-use Rattle.raft_files.specs.Asks.{Act, Ask, Begin, Cut, Delete, Found, NumberedBytes, Put, Read, Sync, acts_on}
+use Rattle.raft_files.specs.Asks.{Act, Begin, Cut, Delete, Found, NumberedBytes, Put, Read, Sync}
 use Rattle.raft_files.specs.Disk.{IsFrontPut, MayStand, begun, put_behind}
 use Rattle.raft_files.proofs.LastLemmas.{last_of}
 use Rattle.raft_replay.specs.Segments.{HoldsFrom}
@@ -152,12 +151,6 @@ last_of_rest queue version (suc gone) (f ∷ standing) o =
 -- where nothing was asked
 pub nothing_other : (queue : LogQueue) (version : Version) → NoneIsOther queue version []
 nothing_other queue version standing stands o = none_last queue version o.closed o.last (sym stands ∙ o.split)
-
--- the same of both queues
-pub both_not_other : (version : Version) (asks : List Ask) → NoneIsOther Append version (acts_on Append asks) → NoneIsOther Rewrite version (acts_on Rewrite asks)
-    → (queue : LogQueue) → NoneIsOther queue version (acts_on queue asks)
-both_not_other version asks append rewrite Append = append
-both_not_other version asks append rewrite Rewrite = rewrite
 
 pub left_not_other : WhatIsLeftIsNotOther
 left_not_other queue version asks files none l o = none l.standing l.stands (last_of_rest queue version l.gone l.standing (subst (IsLastOfOther queue version) l.left o))

@@ -14,12 +14,14 @@ use Rattle.raft_files.specs.Asks.{Ask, NumberedBytes}
 use Rattle.raft_files.specs.Disk.{cut_last}
 use Rattle.raft_files.proofs.LastLemmas.{last_of}
 use Rattle.raft_recover.specs.Files.{FilesCannotBeRead, FilesHold, bytes_of_files}
+use Rattle.raft_engine_fronts.specs.Done.{numbers}
 use Rattle.raft_engine_fronts.specs.TornTails.{FilesHoldTorn}
 use Rattle.raft_engine_laws.specs.GroupsInRows.{AreGroupsInRows}
 use Rattle.raft_engine.specs.FoundFiles.{AreAccepted, IsCut, IsFirstBegun, IsFoundFault, IsReady, IsUntorn}
 use Rattle.raft_engine.specs.Markers.{NoneIsHeld, NoneIsInRows}
 use Rattle.raft_engine.specs.ReadContexts.{AreUnmergedAs}
 use Rattle.raft_engine.specs.Restarts.{OpeningsOverSucceed, OpeningsSucceed}
+use Rattle.raft_engine.proofs.FileNumbers.{not_together}
 use Rattle.raft_engine.proofs.UnreadLemmas.{stops_unread}
 use Rattle.raft_engine.specs.Unopened.{AreUnrecoveredAs, IsOpeningRefusal, IsReadingFault, IsRecoveryFault, IsTooLongAs, Refusal}
 
@@ -41,7 +43,7 @@ memory_or errors.Memory = inl refl
 
 -- files that can be made ready aren't refused
 no_fault : (queue : LogQueue) (version : Version) (files : List NumberedBytes) (e : Error) → AreAccepted queue version files → ¬ (IsFoundFault queue version files e)
-no_fault queue version files e a (inl u) = u.0 a.rising
+no_fault queue version files e a (inl n) = not_together (numbers files) n.last n.next n.together a.consecutive (elim n.why [ inl back ↦ inl back.0 | inr gap ↦ inr gap.0 ])
 no_fault queue version files e a (inr (inl d)) = a.undamaged (record { closed = d.closed; last = d.last; split = d.split; damaged = d.damaged.damaged })
 no_fault queue version files e a (inr (inr o)) = a.of_version (record { closed = o.closed; last = o.last; split = o.split; other = o.other.other })
 

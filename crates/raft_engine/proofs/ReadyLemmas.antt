@@ -1,5 +1,5 @@
 -- Found files that are ready once what is missing of them was asked.
-use Rattle.std.proofs.Common.{◌≡◌, ◌⊎◌, Result, Ok, Err, IfOk, OnOk, ℕ, Some, List, [], ◌∷◌, ◌++◌, length, inl, inr, refl, sym, ap, ◌∙◌, subst, append_assoc}
+use Rattle.std.proofs.Common.{◌≡◌, ◌⊎◌, Result, Ok, Err, IfOk, OnOk, ℕ, List, [], ◌∷◌, ◌++◌, length, inl, inr, refl, sym, ap, ◌∙◌, subst, append_assoc}
 use Rattle.raft_base.specs.declared.errors.Error.{Error}
 use Rattle.raft_base.specs.declared.pipe_log.LogQueue.{LogQueue}
 use Rattle.raft_base.specs.declared.pipe_log.LogQueue.TheVariants.{Append, Rewrite}
@@ -8,26 +8,28 @@ use Rattle.raft_records.specs.LogBatch.{Batch}
 use Rattle.raft_files.specs.Asks.{Ask, NumberedBytes}
 use Rattle.raft_files.specs.Disk.{cut_last}
 use Rattle.raft_recover.specs.Files.{whole_file}
-use Rattle.raft_engine_fronts.specs.Done.{AreRisingFrom, numbers}
+use Rattle.raft_engine_fronts.specs.Done.{AreConsecutive, numbers}
 use Rattle.raft_engine_fronts.specs.TornTails.{StopsAt}
-use Rattle.raft_engine.specs.FoundFiles.{AreAccepted, AreReadyBy, IsDamaged, IsDamagedAs, IsFoundFault, IsOfOther, IsOtherAs, IsTornFrom}
+use Rattle.raft_engine.specs.CutTails.{IsTailOf, IsTailTold, tail_of}
+use Rattle.raft_engine.specs.FoundFiles.{AreAccepted, AreReadyBy, IsDamaged, IsDamagedAs, IsFoundFault, IsOfOther, IsOtherAs}
 use Rattle.raft_engine.specs.OpeningAsks.{asks_that_tell, missing_asks, opening_asks}
 use Rattle.raft_engine.specs.StoredFound.{AreReady, found_asks}
 use Rattle.raft_engine.specs.declared.missing.Missing.{Missing}
 use Rattle.raft_engine.specs.declared.missing.Missing.TheVariants.{Nothing, FirstFile, Cut}
+use Rattle.raft_engine.specs.declared.recovered.CutTail.{CutTail}
 use Rattle.raft_engine.proofs.FoundLemmas.{one_last}
 
 pub no_last : {A : Type 0} (closed : List A) (last : A) → [] ≡ closed ++ last ∷ [] → ⊥
 no_last [] last e = absurd cc
 no_last (c ∷ closed) last e = absurd cc
 
-module _ (queue : LogQueue) (version : Version) (files : List NumberedBytes) (rising : AreRisingFrom 0 (numbers files)) where
+module _ (queue : LogQueue) (version : Version) (files : List NumberedBytes) (consecutive : AreConsecutive (numbers files)) where
   -- ---- no file
 
   module _ (none : files ≡ []) where
     pub first_accepted : AreAccepted queue version files
     first_accepted = record {
-      rising = rising;
+      consecutive = consecutive;
       undamaged = λ d. no_last d.closed d.last (sym none ∙ d.split);
       of_version = λ o. no_last o.closed o.last (sym none ∙ o.split);
     }
@@ -37,6 +39,11 @@ module _ (queue : LogQueue) (version : Version) (files : List NumberedBytes) (ri
       accepted = first_accepted;
       ready = inl (record { none = none; asked = ap (λ (m : Missing). missing_asks queue m ++ asks) is; first = first });
     }
+
+    pub first_told : (r : Result Missing Error) → IfOk r (λ missing. missing ≡ FirstFile) → IfOk r (λ missing. IsTailTold queue version files (tail_of missing))
+    first_told (Err e) is = tt
+    first_told (Ok missing) is =
+        subst (λ (m : Missing). IsTailTold queue version files (tail_of m)) (sym is) (λ closed last e. absurd (no_last closed last (sym none ∙ e)))
 
     pub first_so : (r : Result Missing Error) (left : List NumberedBytes) → IfOk r (λ missing. missing ≡ FirstFile) → OnOk r (left ≡ (1, []) ∷ [])
         → IfOk r (λ missing. AreReadyBy queue version (missing_asks queue missing) files left) × OnOk r (AreAccepted queue version files)
@@ -51,7 +58,7 @@ module _ (queue : LogQueue) (version : Version) (files : List NumberedBytes) (ri
 
     pub last_accepted : ¬ (IsDamaged (whole_file queue version last)) → ¬ (IsOfOther (whole_file queue version last)) → AreAccepted queue version files
     last_accepted undamaged of_version = record {
-      rising = rising;
+      consecutive = consecutive;
       undamaged = λ d. undamaged (subst (λ (f : NumberedBytes). IsDamaged (whole_file queue version f)) (is_last d.closed d.last d.split) d.damaged);
       of_version = λ o. of_version (subst (λ (f : NumberedBytes). IsOfOther (whole_file queue version f)) (is_last o.closed o.last o.split) o.other);
     }
@@ -70,20 +77,31 @@ module _ (queue : LogQueue) (version : Version) (files : List NumberedBytes) (ri
       }));
     }
 
-    pub cut_ready : AreAccepted queue version files → (at : ℕ) (missing : Missing) (left : List NumberedBytes) → IsTornFrom (whole_file queue version last) (Some at) → missing ≡ Cut at → left ≡ cut_last at files
+    pub cut_ready : AreAccepted queue version files → (tail : CutTail) (missing : Missing) (left : List NumberedBytes) → IsTailOf (whole_file queue version last) tail → missing ≡ Cut tail → left ≡ cut_last tail.offset files
         → AreReadyBy queue version (missing_asks queue missing) files left
-    cut_ready accepted at missing left torn is cut asks = record {
+    cut_ready accepted tail missing left told is cut asks = record {
       accepted = accepted;
       ready = inr (inr (record {
-        at = at;
+        at = tail.offset;
         closed = closed;
         last = last;
         split = split;
-        torn = torn;
+        torn = told.torn;
         asked = ap (λ (m : Missing). missing_asks queue m ++ asks) is;
         cut = cut;
       }));
     }
+
+    -- ---- what is told of it
+
+    pub untorn_told : (missing : Missing) → missing ≡ Nothing → StopsAt (whole_file queue version last) (length last.1) → IsTailTold queue version files (tail_of missing)
+    untorn_told missing is stops =
+        subst (λ (m : Missing). IsTailTold queue version files (tail_of m)) (sym is)
+        (λ closed' last' e. subst (λ (f : NumberedBytes). StopsAt (whole_file queue version f) (length f.1)) (sym (is_last closed' last' e)) stops)
+
+    pub cut_told : (tail : CutTail) (missing : Missing) → missing ≡ Cut tail → IsTailOf (whole_file queue version last) tail → IsTailTold queue version files (tail_of missing)
+    cut_told tail missing is told =
+        subst (λ (m : Missing). IsTailTold queue version files (tail_of m)) (sym is) (record { closed = closed; last = last; split = split; is = told })
 
 -- ---- both queues
 

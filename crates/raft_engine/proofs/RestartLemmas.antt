@@ -18,15 +18,15 @@ use Rattle.raft_replay.specs.Segments.{SegmentsHold}
 use Rattle.raft_recover.specs.Files.{FilesHold, bytes_of_files, whole_file}
 use Rattle.raft_recover.specs.Recovery.{AreBothRecovered}
 use Rattle.raft_engine_laws.specs.Records.{Records, HaveRecords, live}
-use Rattle.raft_engine_fronts.specs.Done.{AreRisingFrom, numbers}
+use Rattle.raft_engine_fronts.specs.Done.{AreConsecutive, numbers}
 use Rattle.raft_engine_fronts.specs.Fronts.{IsFrontWith}
-use Rattle.raft_engine_fronts.specs.TornTails.{FilesHoldTorn, IsFollowedAt, StopsAt}
+use Rattle.raft_engine_fronts.specs.TornTails.{FilesHoldTorn, IsDamagedAt, StopsAt}
 use Rattle.raft_engine.specs.CutFiles.{AreCut}
 use Rattle.raft_engine.specs.FoundFiles.{IsCut, IsFirstBegun, IsLastOfOther, IsReady, IsUntorn}
 use Rattle.raft_engine.specs.KeptEngine.{KeptEngine}
 use Rattle.raft_engine.specs.Lasting.{AreFoundIn, IsLasting, IsLastingAfter}
 use Rattle.raft_engine.specs.Opened.{IsOpened}
-use Rattle.raft_engine.specs.Restarts.{AreFromBefore, AreOpenable, AreSegmentsOf, HaveSame, IsFoundByRestarts, IsKeptByRestarts, RestartsFind}
+use Rattle.raft_engine.specs.Restarts.{AreFromBefore, AreOpenable, AreSegmentsOf, HaveSame, IsFoundByRestarts, IsKeptByRestarts, IsKeptUnordered, RestartsFind}
 use Rattle.raft_engine.proofs.OpensLemmas.{AreSoundFiles, openings_over_succeed, openings_succeed}
 
 -- a front of all batches with the synced ones is all of them, if all are synced
@@ -55,8 +55,8 @@ module _
     (one : OneReading)
     (cut : (queue : LogQueue) (version : Version) (closed : List NumberedBytes) (last : NumberedBytes) (h : List Event) (at : ℕ)
     → FilesHoldTorn queue version (closed ++ last ∷ []) h → StopsAt (whole_file queue version last) at → FilesHold queue version (cut_last at (closed ++ last ∷ [])) h)
-    (unfollowed : (queue : LogQueue) (version : Version) (closed : List NumberedBytes) (last : NumberedBytes) (h : List Event) (at : ℕ)
-    → FilesHoldTorn queue version (closed ++ last ∷ []) h → StopsAt (whole_file queue version last) at → ¬ (IsFollowedAt (whole_file queue version last) at))
+    (undamaged : (queue : LogQueue) (version : Version) (closed : List NumberedBytes) (last : NumberedBytes) (h : List Event) (at : ℕ)
+    → FilesHoldTorn queue version (closed ++ last ∷ []) h → StopsAt (whole_file queue version last) at → ¬ (IsDamagedAt (whole_file queue version last) at))
     (few_records : (queue : LogQueue) (version : Version) (files : List NumberedBytes) (h : List Event) → FilesHold queue version files h → bytes_of_files files < 2 ^ 63 → IsSmall h) where
   opened_has : (content : EntryIndex → List ℕ) (version : Version) (append rewrite : List NumberedBytes) (records : ℕ → Records) → AreFoundIn content version append rewrite records
       → (engine : KeptEngine) → IsOpened version append rewrite engine → HaveRecords content engine.accessor.tables records
@@ -133,12 +133,12 @@ module _
           subst (λ (fs : List NumberedBytes). FilesHold queue version fs h) (sym (c.cut ∙ ap (cut_last c.at) c.split))
           (cut queue version c.closed c.last h c.at (subst (λ (fs : List NumberedBytes). FilesHoldTorn queue version fs h) c.split held) c.torn.0)
 
-  one_openable : (queue : LogQueue) (version : Version) (files : List NumberedBytes) (h : List Event) → AreRisingFrom 0 (numbers files) → ¬ (IsLastOfOther queue version files)
+  one_openable : (queue : LogQueue) (version : Version) (files : List NumberedBytes) (h : List Event) → AreConsecutive (numbers files) → ¬ (IsLastOfOther queue version files)
       → FilesHoldTorn queue version files h → IsSoundIn queue h → AreOpenable queue version files
-  one_openable queue version files h rising of_version held sound = record {
+  one_openable queue version files h consecutive of_version held sound = record {
     accepted = record {
-      rising = rising;
-      undamaged = λ d. unfollowed queue version d.closed d.last h d.damaged.at (subst (λ (fs : List NumberedBytes). FilesHoldTorn queue version fs h) d.split held) d.damaged.stops d.damaged.followed;
+      consecutive = consecutive;
+      undamaged = λ d. undamaged queue version d.closed d.last h d.damaged.at (subst (λ (fs : List NumberedBytes). FilesHoldTorn queue version fs h) d.split held) d.damaged.stops d.damaged.damaged;
       of_version = of_version;
     };
     readable = λ asks later ready is few bad.
@@ -158,8 +158,8 @@ module _
       → IsLeftOf Append asks append → IsLeftOf Rewrite asks rewrite → AreSoundFiles version append rewrite
   sound_files content version base asks l append rewrite a r =
       let f = (l.left append rewrite a r).2 in record {
-        append_accepted = (one_openable Append version append f.appended f.append_rising (l.of_version Append append a) f.append_held f.append_sound).accepted;
-        rewrite_accepted = (one_openable Rewrite version rewrite f.rewritten f.rewrite_rising (l.of_version Rewrite rewrite r) f.rewrite_held f.rewrite_sound).accepted;
+        append_accepted = (one_openable Append version append f.appended f.append_consecutive (l.of_version Append append a) f.append_held f.append_sound).accepted;
+        rewrite_accepted = (one_openable Rewrite version rewrite f.rewritten f.rewrite_consecutive (l.of_version Rewrite rewrite r) f.rewrite_held f.rewrite_sound).accepted;
         appended = f.appended;
         rewritten = f.rewritten;
         append_sound = f.append_sound;
@@ -180,10 +180,13 @@ module _
           s.1,
           restarts_find content version append rewrite (live content base s.0) (λ tables. HaveRecords content tables (live content base s.0)) (λ tables have. have) s.2,
         );
+    opened_any = λ append rewrite a r engine o.
+        let s = l.left_any append rewrite a r o.read.appended o.read.rewritten o.read.append_held o.read.rewrite_held in
+        (s.0, s.1, opened_has content version append rewrite (live content base s.0) s.2 engine o);
     accepted = λ append rewrite a r.
         let f = (l.left append rewrite a r).2 in (
-          one_openable Append version append f.appended f.append_rising (l.of_version Append append a) f.append_held f.append_sound,
-          one_openable Rewrite version rewrite f.rewritten f.rewrite_rising (l.of_version Rewrite rewrite r) f.rewrite_held f.rewrite_sound,
+          one_openable Append version append f.appended f.append_consecutive (l.of_version Append append a) f.append_held f.append_sound,
+          one_openable Rewrite version rewrite f.rewritten f.rewrite_consecutive (l.of_version Rewrite rewrite r) f.rewrite_held f.rewrite_sound,
           λ asked later ready is. record { batches = f.rewritten; held = ready_held Rewrite version asked later rewrite ready f.rewritten is f.rewrite_held; rows = f.rows },
         );
     opens = λ append rewrite a r. openings_succeed held_once few_records version append rewrite (sound_files content version base asks l append rewrite a r);
@@ -226,3 +229,13 @@ kept_by_restarts find before content engine l =
           find_so engine.version (files_of Append engine.asks) (files_of Rewrite engine.asks) (λ tables. HaveRecords content tables (live content l.base l.now.batches)) (HaveSame content engine.accessor.tables)
           (λ tables have. record { records = live content l.base l.now.batches; have = l.has intact; others_have = have }) f.whole;
     }
+
+-- the same on a disk that writes in any order
+pub kept_unordered : ((content : EntryIndex → List ℕ) (version : Version) (base : ℕ → Records) (asks : List Ask) (l : IsLastingAfter content version base asks)
+    → IsFoundByRestarts content version base asks l.synced l.batches)
+    → (content : EntryIndex → List ℕ) (engine : KeptEngine) → IsLasting content engine → IsKeptUnordered content engine
+kept_unordered find content engine l = record {
+  lasting = l;
+  now = (find content engine.version l.base engine.asks l.now).opened_any;
+  ever = λ later earlier split begun. (find content engine.version l.base earlier (l.ever later earlier split begun)).opened_any;
+}

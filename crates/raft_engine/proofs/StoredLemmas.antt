@@ -1,5 +1,5 @@
 -- What each ask makes of what is stored of an engine.
-use Rattle.std.proofs.Common.{◌≡◌, inl, inr, ℕ, ◌+◌, ◌<◌, true, List, [], ◌∷◌, ◌++◌, Some, length, map, refl, sym, ap, subst, append-nil}
+use Rattle.std.proofs.Common.{◌≡◌, suc, inl, inr, ℕ, ◌+◌, true, List, [], ◌∷◌, ◌++◌, Some, length, map, refl, sym, ap, subst, append-nil}
 use Rattle.std.specs.FinMap as finite
 use Rattle.raft_base.specs.declared.compression_type.CompressionType.{CompressionType}
 use Rattle.raft_base.specs.declared.compression_type.CompressionType.TheVariants as compressions
@@ -38,8 +38,8 @@ use Rattle.raft_engine.specs.Stored.{AreAllDone, AreEverLasting, AreKeptStored, 
 use Rattle.raft_engine.specs.StoredAsks.{DeletionsAreStored, FirstFilesAreStored, IsWritableBatch, NewFilesAreStored, SyncsAreStored, ToldBatchesAreStored, WhatIsDoneLasts, WrittenBatchesAreStored}
 use Rattle.raft_engine.proofs.DoneLemmas.{deeds_synced}
 use Rattle.raft_engine_laws.proofs.InRows.{rows_alone}
-use Rattle.raft_engine.proofs.OfVersionLemmas.{both_not_other}
 use Rattle.raft_engine.proofs.UntoldLemmas.{placed_away, placed_steps}
+use Rattle.raft_engine.proofs.WellPutLemmas.{both_well}
 
 -- steps that say the same as untold ones, and others that are none, say the same
 all_told : (r : ℕ) (told untold : List RegionStep) → told ≡ untold → SayTheSame (steps_on r told ++ steps_on r []) (steps_on r untold)
@@ -67,7 +67,7 @@ module _
       (content : EntryIndex → List ℕ) → AreBothTold asked content → (lasting : IsLastingAfter content version (base content) asked) × (lasting.batches ≡ written s.appended)
   lasting_stored version asked base untold tables s content told =
       lasts content version (base content) asked s.appended s.rewritten s.append_done.done.done s.rewrite_done.done.done s.append_done.put.put
-      (both_not_other version asked s.append_done.of_version s.rewrite_done.of_version) s.rows
+      (both_well version asked s.append_done.well s.rewrite_done.well) s.rows
       (lose content (base content) s.appended s.rewritten (steps_of_items untold) tables (s.safe content told))
 
   stored_lasts : (version : Version) (asked : List Ask) (base : Bases) (untold : List Item) (tables : Tables) → AreStored version asked base untold tables
@@ -156,25 +156,25 @@ module _
   -- ---- a new file
 
   pub begin_stored : ((queue : LogQueue) (version : Version) (acts : List Act) (deeds : List Deed) (closed : List NumberedBytes) (last : NumberedBytes) (seq : ℕ)
-      → AreSynced acts → begun acts ≡ closed ++ last ∷ [] → last.0 < seq → AreAllDone queue version acts deeds → AreAllDone queue version (Begin seq ∷ acts) deeds)
+      → AreSynced acts → begun acts ≡ closed ++ last ∷ [] → seq ≡ suc last.0 → AreAllDone queue version acts deeds → AreAllDone queue version (Begin seq ∷ acts) deeds)
       → NewFilesAreStored
-  begin_stored done Append version asked base untold tables seq bytes next synced last less k =
+  begin_stored done Append version asked base untold tables seq bytes next synced last follows k =
       let s = k.now in
       goes_on version (ask Append (Begin next)) asked base untold tables tt k.first k.ever (record {
         appended = s.appended;
         rewritten = s.rewritten;
-        append_done = done Append version (acts_on Append asked) s.appended last.closed (seq, bytes) next synced last.files less s.append_done;
+        append_done = done Append version (acts_on Append asked) s.appended last.closed (seq, bytes) next synced last.files follows s.append_done;
         rewrite_done = s.rewrite_done;
         rows = s.rows;
         safe = λ content told. s.safe content (keep asked (ask Append (Begin next)) content tt told);
       })
-  begin_stored done Rewrite version asked base untold tables seq bytes next synced last less k =
+  begin_stored done Rewrite version asked base untold tables seq bytes next synced last follows k =
       let s = k.now in
       goes_on version (ask Rewrite (Begin next)) asked base untold tables tt k.first k.ever (record {
         appended = s.appended;
         rewritten = s.rewritten;
         append_done = s.append_done;
-        rewrite_done = done Rewrite version (acts_on Rewrite asked) s.rewritten last.closed (seq, bytes) next synced last.files less s.rewrite_done;
+        rewrite_done = done Rewrite version (acts_on Rewrite asked) s.rewritten last.closed (seq, bytes) next synced last.files follows s.rewrite_done;
         rows = s.rows;
         safe = λ content told. s.safe content (keep asked (ask Rewrite (Begin next)) content tt told);
       })

@@ -12,11 +12,11 @@ use Rattle.raft_replay.specs.Segments.{AreHeldInTurn}
 use Rattle.raft_recover.specs.Files.{FilesHold}
 use Rattle.raft_engine_laws.specs.Stops.{Deed, IsLeft, deleted, in_files_from, synced, written}
 use Rattle.raft_engine_laws.proofs.StopLemmas.{all_gone, from_none, synced_low, whole_stands}
-use Rattle.raft_engine_fronts.specs.Done.{AreDone, AreRisingFrom, numbers}
+use Rattle.raft_engine_fronts.specs.Done.{AreConsecutive, AreDone, AreRisingFrom, numbers}
 use Rattle.raft_engine_fronts.specs.TornTails.{FilesHoldTorn}
 use Rattle.raft_engine_fronts.proofs.EventLemmas.{files_high, files_low, from_both, from_twice}
 use Rattle.raft_engine_fronts.proofs.FrontLemmas.{all_held}
-use Rattle.raft_engine_fronts.proofs.NumberLemmas.{below_drop, below_take, rising_low}
+use Rattle.raft_engine_fronts.proofs.NumberLemmas.{below_drop, below_take, consecutive_drop}
 use Rattle.raft_engine_fronts.proofs.TornLemmas.{more_torn}
 
 -- the oldest files, and those behind them
@@ -40,7 +40,7 @@ pub record HoldWhole (queue : LogQueue) (version : Version) (asked : List Ask) (
   pub left : List Event
   pub is_left : IsLeft deeds (written deeds) left
   pub held : FilesHoldTorn queue version (files_of queue asked) left
-  pub rising : AreRisingFrom 0 (numbers (files_of queue asked))
+  pub consecutive : AreConsecutive (numbers (files_of queue asked))
 
 module _ (queue : LogQueue) (version : Version) (asked : List Ask) (deeds : List Deed) (d : AreDone queue version (acts_on queue asked) deeds) where
   abbrev acts : List Act
@@ -86,5 +86,5 @@ module _ (queue : LogQueue) (version : Version) (asked : List Ask) (deeds : List
           | inl some ↦ held_some (omega (arith, stays, some))
           | inr none ↦ held_none (omega (arith, none))
         ];
-    rising = rising_low 0 (deleted deeds) (numbers (files_of queue asked)) (omega arith) rising;
+    consecutive = subst AreConsecutive (drop-map (λ (f : NumberedBytes). f.0) (deletions acts) (begun acts)) (consecutive_drop (deletions acts) (numbers (begun acts)) d.consecutive);
   }

@@ -1,5 +1,6 @@
 -- Files that are found when an engine is opened: where their torn tails begin, and when they are damaged or of the other version.
-use Rattle.std.specs.Prelude.{◌≡◌, ◌⊎◌, ℕ, ◌<◌, List, [], ◌∷◌, ◌++◌, length, codes, Option, Some, None}
+use Rattle.std.specs.Prelude.{◌≡◌, ◌⊎◌, ℕ, suc, ◌<◌, ◌≤◌, List, [], ◌∷◌, ◌++◌, length, codes, Option, Some, None}
+use Rattle.std.specs.Fmt.{decimal}
 use Rattle.raft_base.specs.Corruption.{IsCorruption}
 use Rattle.raft_base.specs.declared.errors.Error.{Error}
 use Rattle.raft_base.specs.declared.pipe_log.FileId.{FileId}
@@ -10,26 +11,38 @@ use Rattle.raft_records.specs.FilePart.{Part, IsBatchAt}
 use Rattle.raft_records.specs.Item.{Item}
 use Rattle.raft_files.specs.Asks.{Ask, Begin, Cut, NumberedBytes, ask}
 use Rattle.raft_files.specs.Disk.{cut_last}
-use Rattle.raft_replay.specs.Stops.{IsUnreadableAt, place_text}
+use Rattle.raft_replay.specs.Stops.{IsUnreadableAt, place_text, queue_text}
 use Rattle.raft_recover.specs.Files.{whole_file}
-use Rattle.raft_engine_fronts.specs.Done.{AreRisingFrom, numbers}
-use Rattle.raft_engine_fronts.specs.TornTails.{IsFollowedAt, StopsAt}
+use Rattle.raft_engine_fronts.specs.Done.{AreConsecutive, numbers}
+use Rattle.raft_engine_fronts.specs.TornTails.{IsDamagedAt, StopsAt}
+use Rattle.raft_tail.specs.Tails.{IsNextElsewhere, IsNextSound}
 
--- a part is damaged: before its end a reader stops, and behind the bytes that can't be read a batch stands
+-- a part is damaged: before its end a reader stops, and damage begins there
 pub record IsDamaged (part : Part) : Type 0 where
   pub at : ℕ
   pub stops : StopsAt part at
   pub before_end : at < length part.bytes
-  pub followed : IsFollowedAt part at
+  pub damaged : IsDamagedAt part at
 
--- the refusal of a file that is damaged at this byte: its text begins with the file and the offset
-abbrev pub IsDamageText : FileId → ℕ → Error → Type 0
-IsDamageText id at e = IsCorruption (place_text id at ++ codes "a batch stands behind one that can't be read") e
+-- the refusal of a file for a batch that can be read at this offset, behind one that can't be
+abbrev pub followed_text : FileId → ℕ → ℕ → List ℕ
+followed_text id at sound = place_text id at ++ (codes "no batch can be read there, but one stands behind it, at offset " ++ decimal sound)
+
+-- the refusal of a file for a batch at this offset that is signed for another one
+abbrev pub elsewhere_text : FileId → ℕ → ℕ → ℕ → List ℕ
+elsewhere_text id at offset seq =
+    place_text id at ++ (codes "no batch can be read there, but at offset " ++ (decimal offset ++ (codes " one stands that is signed for file " ++ decimal seq)))
+
+-- the refusal of a part that is damaged at this byte: its text begins with the file and the offset, and names the first sound batch behind it; or else the first one at or behind it that is signed for another file
+abbrev pub IsDamageText : Part → ℕ → Error → Type 0
+IsDamageText part at e =
+    ((sound : ℕ) × IsNextSound part at (Some sound) × IsCorruption (followed_text part.id at sound) e)
+    ⊎ (IsNextSound part at None × (found : ℕ × ℕ) × IsNextElsewhere part at (Some found) × IsCorruption (elsewhere_text part.id at found.0 found.1) e)
 
 -- a part that begins its file is damaged, and the refusal says where
 pub record IsDamagedAs (part : Part) (e : Error) : Type 0 where
   pub damaged : IsDamaged part
-  pub text : IsDamageText part.id damaged.at e
+  pub text : IsDamageText part damaged.at e
 
 -- the other version
 abbrev pub other_version : Version → Version
@@ -58,10 +71,10 @@ pub record IsOtherAs (part : Part) (e : Error) : Type 0 where
   pub other : IsOfOther part
   pub text : IsOtherText part.id 0 e
 
--- a part ends with its batches; or a reader stops before its end, from where on it is to be cut, since no batch stands behind
+-- a part ends with its batches; or a reader stops before its end, from where on it is to be cut, since no damage begins there
 abbrev pub IsTornFrom : Part → Option ℕ → Type 0
 IsTornFrom part None = StopsAt part (length part.bytes)
-IsTornFrom part (Some at) = StopsAt part at × (at < length part.bytes) × ¬ (IsFollowedAt part at)
+IsTornFrom part (Some at) = StopsAt part at × (at < length part.bytes) × ¬ (IsDamagedAt part at)
 
 -- the last file of a queue, if there is one, ends with its batches, and nothing is asked
 pub record IsUntorn (queue : LogQueue) (version : Version) (asks later : List Ask) (files left : List NumberedBytes) : Type 0 where
@@ -111,19 +124,39 @@ pub record IsLastOtherAs (queue : LogQueue) (version : Version) (files : List Nu
   pub split : files ≡ closed ++ last ∷ []
   pub other : IsOtherAs (whole_file queue version last) e
 
--- the numbers of files don't rise, and the refusal says so
-abbrev pub AreUnrisingAs : List NumberedBytes → Error → Type 0
-AreUnrisingAs files e = ¬ (AreRisingFrom 0 (numbers files)) × IsCorruption (codes "a file number isn't above the one before it") e
+-- up to a number these are consecutive, and this next one stands behind it
+pub record StandTogether (ns : List ℕ) (last next : ℕ) : Type 0 where
+  pub before : List ℕ
+  pub behind : List ℕ
+  pub split : ns ≡ before ++ last ∷ next ∷ behind
+  pub consecutive : AreConsecutive (before ++ last ∷ [])
 
--- the found files of a queue can be made ready: their numbers rise, and the last one is neither damaged nor of the other version
+-- the text about a file that is missing between two
+abbrev pub missing_text : LogQueue → ℕ → ℕ → List ℕ
+missing_text queue last next =
+    queue_text queue ++ (codes " file " ++ (decimal (suc last) ++ (codes ": it is missing, files " ++ (decimal last ++ (codes " and " ++ (decimal next ++ codes " are there"))))))
+
+-- the number of a file doesn't follow that of the file before it: it isn't above that one, or it is by more than one, and the refusal names the first file that is missing
+abbrev pub IsApartAs : LogQueue → ℕ → ℕ → Error → Type 0
+IsApartAs queue last next e =
+    ((next ≤ last) × IsCorruption (codes "a file number isn't above the one before it") e) ⊎ ((suc last < next) × IsCorruption (missing_text queue last next) e)
+
+-- the numbers of files are consecutive up to one that the next doesn't follow, and the refusal says so
+pub record AreApartAs (queue : LogQueue) (files : List NumberedBytes) (e : Error) : Type 0 where
+  pub last : ℕ
+  pub next : ℕ
+  pub together : StandTogether (numbers files) last next
+  pub why : IsApartAs queue last next e
+
+-- the found files of a queue can be made ready: their numbers are consecutive, and the last one is neither damaged nor of the other version
 pub record AreAccepted (queue : LogQueue) (version : Version) (files : List NumberedBytes) : Type 0 where
-  pub rising : AreRisingFrom 0 (numbers files)
+  pub consecutive : AreConsecutive (numbers files)
   pub undamaged : ¬ (IsLastDamaged queue version files)
   pub of_version : ¬ (IsLastOfOther queue version files)
 
 -- why they can't be
 abbrev pub IsFoundFault : LogQueue → Version → List NumberedBytes → Error → Type 0
-IsFoundFault queue version files e = AreUnrisingAs files e ⊎ IsLastDamagedAs queue version files e ⊎ IsLastOtherAs queue version files e
+IsFoundFault queue version files e = AreApartAs queue files e ⊎ IsLastDamagedAs queue version files e ⊎ IsLastOtherAs queue version files e
 
 -- a queue has no file, and its first one is begun
 pub record IsFirstBegun (queue : LogQueue) (asks later : List Ask) (files left : List NumberedBytes) : Type 0 where

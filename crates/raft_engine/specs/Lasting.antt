@@ -1,5 +1,5 @@
 -- What lasts of an engine, whenever the machine stops.
-use Rattle.std.specs.Prelude.{◌≡◌, ◌≢◌, ◌⊎◌, ℕ, true, List, [], ◌∷◌, ◌++◌}
+use Rattle.std.specs.Prelude.{◌≡◌, ◌≢◌, ◌⊎◌, ℕ, ◌-◌, ◌≤◌, length, true, List, [], ◌∷◌, ◌++◌}
 use Rattle.raft_base.specs.declared.entry_index.EntryIndex.{EntryIndex}
 use Rattle.raft_base.specs.declared.pipe_log.LogQueue.{LogQueue}
 use Rattle.raft_base.specs.declared.pipe_log.LogQueue.TheVariants.{Append, Rewrite}
@@ -9,25 +9,27 @@ use Rattle.raft_history.specs.BothQueues.{IsReadingOfBoth}
 use Rattle.raft_history.specs.Histories.{Apart, IsSoundIn}
 use Rattle.raft_history.specs.RegionSteps.{Tables}
 use Rattle.raft_files.specs.Asks.{Act, Ask, Begin, Cut, Delete, Found, NumberedBytes, Put, Read, Sync, acts_on, ask}
-use Rattle.raft_files.specs.Disk.{IsLeftOf, begun, files_of}
+use Rattle.raft_files.specs.Disk.{IsLeftOf, begun, deletions, files_of}
 use Rattle.raft_engine_laws.specs.GroupsInRows.{AreGroupsInRows}
 use Rattle.raft_engine_laws.specs.Records.{Records, HaveRecords, live}
+use Rattle.raft_engine_fronts.specs.AnyTails.{IsUnforgedLeftOf}
 use Rattle.raft_engine_fronts.specs.Contents.{AreTold, AreToldByFiles}
-use Rattle.raft_engine_fronts.specs.Done.{AreRisingFrom, numbers}
-use Rattle.raft_engine_fronts.specs.Fronts.{IsFrontWith}
+use Rattle.raft_engine_fronts.specs.Done.{AreConsecutive, numbers}
+use Rattle.raft_engine_fronts.specs.EntryPlaces.{FilesEndWithin, FoundEndWithin}
+use Rattle.raft_engine_fronts.specs.Fronts.{ArePut, IsFrontWith}
 use Rattle.raft_engine_fronts.specs.TornTails.{FilesHoldTorn}
 use Rattle.raft_engine.specs.CutFiles.{AreCut}
 use Rattle.raft_engine.specs.FoundFiles.{IsLastOfOther}
 use Rattle.raft_engine.specs.KeptEngine.{KeptEngine}
 
--- in these files of both queues, whose numbers rise, stand batches that can be read, but for a torn tail of each queue, in the rewrite queue each group in a row, and every reading of both queues gives tables with these records
+-- in these files of both queues, whose numbers are consecutive, stand batches that can be read, but for a torn tail of each queue, in the rewrite queue each group in a row, and every reading of both queues gives tables with these records
 pub record AreFoundIn (content : EntryIndex → List ℕ) (version : Version) (append rewrite : List NumberedBytes) (records : ℕ → Records) : Type 0 where
   pub appended : List Event
   pub rewritten : List Event
   pub append_held : FilesHoldTorn Append version append appended
   pub rewrite_held : FilesHoldTorn Rewrite version rewrite rewritten
-  pub append_rising : AreRisingFrom 0 (numbers append)
-  pub rewrite_rising : AreRisingFrom 0 (numbers rewrite)
+  pub append_consecutive : AreConsecutive (numbers append)
+  pub rewrite_consecutive : AreConsecutive (numbers rewrite)
   pub append_sound : IsSoundIn Append appended
   pub rewrite_sound : IsSoundIn Rewrite rewritten
   pub apart : Apart rewritten
@@ -38,6 +40,15 @@ pub record AreFoundIn (content : EntryIndex → List ℕ) (version : Version) (a
 abbrev pub IsFrontFound : (EntryIndex → List ℕ) → Version → (ℕ → Records) → List Ask → List Event → List Event → Type 0
 IsFrontFound content version base asks synced batches =
     (append rewrite : List NumberedBytes) → IsLeftOf Append asks append → IsLeftOf Rewrite asks rewrite
+    → (standing : List Event) × IsFrontWith synced batches standing × AreFoundIn content version append rewrite (live content base standing)
+
+-- The same of a disk that writes in any order, so that any bytes stand behind the synced ones, but none that can be read and
+-- weren't written: whatever is read of the files that are left has the records of a front of these batches, with the synced ones at
+-- least. Files of which nothing is read, as one that is damaged, tell nothing.
+abbrev pub IsPrefixReadOfAny : (EntryIndex → List ℕ) → Version → (ℕ → Records) → List Ask → List Event → List Event → Type 0
+IsPrefixReadOfAny content version base asks synced batches =
+    (append rewrite : List NumberedBytes) → IsUnforgedLeftOf Append version asks append → IsUnforgedLeftOf Rewrite version asks rewrite
+    → (appended rewritten : List Event) → FilesHoldTorn Append version append appended → FilesHoldTorn Rewrite version rewrite rewritten
     → (standing : List Event) × IsFrontWith synced batches standing × AreFoundIn content version append rewrite (live content base standing)
 
 -- what was asked of a queue before its last sync; a file is begun only where all is synced, and what is found is
@@ -61,19 +72,25 @@ AreSynced (Read place bytes ∷ earlier) = AreSynced earlier
 
 -- What lasts once all this was asked, where these records were there before the batches that are known. The batches that
 -- were written are those that the append files hold if nothing is lost, in deleted files too, and the synced ones those
--- that they held at the last sync: all where nothing was put since. If the machine stops now, the files that are left
+-- that they held at the last sync: all where nothing was put since. They are those that what was asked puts there, and the last
+-- append file is never deleted. If the machine stops now, the files that are left
 -- hold the records of a front of the batches, with the synced ones at least; and if nothing is lost, those of all batches.
 -- Contents that were told by what was asked of a queue are those that its files have, once they are cut where reading stops.
--- The last file of those that are left isn't of the other version.
+-- The last file of those that are left isn't of the other version; and the entries of their batches end within their blocks, where
+-- those of the found files do.
 pub record IsLastingAfter (content : EntryIndex → List ℕ) (version : Version) (base : ℕ → Records) (asks : List Ask) : Type 0 where
   pub batches : List Event
   pub synced : List Event
   pub batches_held : FilesHoldTorn Append version (begun (acts_on Append asks)) batches
   pub synced_held : FilesHoldTorn Append version (begun (before_sync (acts_on Append asks))) synced
+  pub put : ArePut Append version (acts_on Append asks) synced batches
+  pub stays : deletions (acts_on Append asks) ≤ length (begun (acts_on Append asks)) - 1
   pub left : IsFrontFound content version base asks synced batches
+  pub left_any : IsPrefixReadOfAny content version base asks synced batches
   pub told : (queue : LogQueue) → AreTold queue (acts_on queue asks) content → (files cut : List NumberedBytes) → IsLeftOf queue asks files → AreCut queue version files cut
       → AreToldByFiles queue cut content
   pub of_version : (queue : LogQueue) (files : List NumberedBytes) → IsLeftOf queue asks files → ¬ (IsLastOfOther queue version files)
+  pub ends : (queue : LogQueue) → FoundEndWithin queue version (acts_on queue asks) → (files : List NumberedBytes) → IsLeftOf queue asks files → FilesEndWithin queue version files
   pub whole : AreFoundIn content version (files_of Append asks) (files_of Rewrite asks) (live content base batches)
   pub all : AreSynced (acts_on Append asks) → synced ≡ batches
 

@@ -43,6 +43,7 @@ pub mod BlockReads
 -- restarts
 pub mod Restarts
 pub mod OpeningAsks
+pub mod CutTails
 pub mod ReadFound
 pub mod FoundRecords
 pub mod Markers
@@ -50,6 +51,10 @@ pub mod GroupChecks
 pub mod Unopened
 pub mod ReadContexts
 pub mod OfVersion
+pub mod WellPut
 -- what was written is what is recovered
 pub mod ReadBack
 pub mod RoundTrip
+-- what was synced stays so
+pub mod Moments
+pub mod Lives

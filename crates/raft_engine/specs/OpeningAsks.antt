@@ -19,7 +19,7 @@ use Rattle.raft_engine.specs.declared.missing.Missing.TheVariants.{Nothing, Firs
 abbrev pub missing_asks : LogQueue → Missing → List Ask
 missing_asks queue Nothing = []
 missing_asks queue FirstFile = ask queue (Begin 1) ∷ []
-missing_asks queue (Cut len) = ask queue (asks.Cut len) ∷ []
+missing_asks queue (Cut tail) = ask queue (asks.Cut tail.offset) ∷ []
 
 -- with which errors calls of files may fail that ask this, behind all that was asked so far
 abbrev pub Failures : Type 1

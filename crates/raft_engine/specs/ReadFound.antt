@@ -8,6 +8,7 @@ use Rattle.raft_records.specs.LogBatch.{Batch, encoded, encoded_length}
 use Rattle.raft_history.specs.Batches.{Event}
 use Rattle.raft_accessor.specs.Accessor.{Accessor}
 use Rattle.raft_files.specs.Asks.{Ask, NumberedBytes}
+use Rattle.raft_engine.specs.CutTails.{IsTailTold, tail_of}
 use Rattle.raft_engine.specs.FoundFiles.{AreReadyBy}
 use Rattle.raft_engine.specs.Markers.{NoneIsHeld}
 use Rattle.raft_engine.specs.Opening.{AreRecovered, IsToldAtOpening}
@@ -41,6 +42,8 @@ pub record AreReadFound (version : Version) (append rewrite : List NumberedBytes
   pub writable : told.items ≢ [] → IsWritableBatch told
   pub made : r.told ≡ record told { stage = encoded }
   pub to_be_told : IsToBeTold r
+  pub append_told : IsTailTold Append version append (tail_of r.append_missing)
+  pub rewrite_told : IsTailTold Rewrite version rewrite (tail_of r.rewrite_missing)
 
 -- the found files of both queues are ready once what is missing was asked, and are these files then, with what is known of them
 pub record AreReadyFiles (version : Version) (append rewrite append_left rewrite_left : List NumberedBytes) (r : Ready) : Type 0 where
@@ -49,6 +52,8 @@ pub record AreReadyFiles (version : Version) (append rewrite append_left rewrite
   pub append_of : AreOf append_left r.append
   pub rewrite_of : AreOf rewrite_left r.rewrite
   pub room : r.rewrite.len < 2 ^ 63
+  pub append_told : IsTailTold Append version append (tail_of r.append_missing)
+  pub rewrite_told : IsTailTold Rewrite version rewrite (tail_of r.rewrite_missing)
 
 -- the batches of the append files can't be read, or what the rewrite queue is to be told of them has 2^56 bytes or more
 abbrev pub IsUntellable : (List Event → Type 0) → Accessor → Error → Type 0

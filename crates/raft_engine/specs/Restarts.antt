@@ -2,6 +2,7 @@
 use Rattle.std.specs.Prelude.{◌≡◌, ◌⊎◌, ◌↔◌, ℕ, ◌+◌, ◌<◌, ◌≤◌, ◌^◌, true, List, [], ◌∷◌, ◌++◌, Some, Vec, length}
 use Rattle.std.specs.FinMap as finite
 use Rattle.std.specs.Global.{Global}
+use Rattle.std.specs.List.{AllByRecursion}
 use Rattle.raft_base.specs.declared.entry_index.EntryIndex.{EntryIndex}
 use Rattle.raft_base.specs.declared.errors.Error.{Error}
 use Rattle.raft_base.specs.declared.errors.Error.TheVariants as errors
@@ -23,13 +24,15 @@ use Rattle.raft_replay.specs.Segments.{CannotBeRead, SegmentsHold}
 use Rattle.raft_recover.specs.Files.{FilesCannotBeRead, FilesHold, bytes_of_files}
 use Rattle.raft_recover.specs.Recovery.{AreBothRecovered}
 use Rattle.raft_engine_laws.specs.Records.{Records, HaveRecords, live}
+use Rattle.raft_engine_fronts.specs.AnyTails.{IsUnforgedLeftOf}
 use Rattle.raft_engine_fronts.specs.Contents.{AreBothTold, AreTold, AreToldByFiles}
+use Rattle.raft_engine_fronts.specs.EntryPlaces.{FilesEndWithin}
 use Rattle.raft_engine_fronts.specs.Fronts.{IsFrontWith}
 use Rattle.raft_engine_fronts.specs.TornTails.{FilesHoldTorn}
 use Rattle.raft_engine.specs.BatchBytes.{event_at}
 use Rattle.raft_engine.specs.CutFiles.{AreCut}
 use Rattle.raft_engine.specs.FoundFiles.{AreAccepted, IsReady}
-use Rattle.raft_engine.specs.KeptEngine.{KeptEngine}
+use Rattle.raft_engine.specs.KeptEngine.{KeptEngine, table_in}
 use Rattle.raft_engine.specs.Lasting.{AreSynced, HaveBothBegun, IsBegunOrFound, IsLasting, IsLastingAfter}
 use Rattle.raft_engine.specs.Opened.{IsOpened}
 use Rattle.raft_engine.specs.Opening.{AreInRows}
@@ -80,6 +83,15 @@ pub record RestartsFind (version : Version) (append rewrite : List NumberedBytes
   pub recovered : (appended rewritten : List (Vec Part Global)) → AreSegmentsOf Append version append appended → AreSegmentsOf Rewrite version rewrite rewritten
       → (accessor : Accessor) → AreBothRecovered (SegmentsHold rewritten) (SegmentsHold appended) accessor → AreSo accessor.tables
 
+-- On a disk that writes in any order, so that any bytes stand behind the synced ones: an engine that is opened over whatever such a
+-- disk leaves, of which nothing can be read that wasn't written, has the records of a prefix of these batches, with the synced
+-- ones at least, and of what there was before them. Such an opening may be refused, which says nothing of the records.
+abbrev pub OpenedHaveSynced : (EntryIndex → List ℕ) → Version → (ℕ → Records) → List Ask → List Event → List Event → Type 0
+OpenedHaveSynced content version base asks synced batches =
+    (append rewrite : List NumberedBytes) → IsUnforgedLeftOf Append version asks append → IsUnforgedLeftOf Rewrite version asks rewrite
+    → (engine : KeptEngine) → IsOpened version append rewrite engine
+    → (standing : List Event) × IsFrontWith synced batches standing × HaveRecords content engine.accessor.tables (live content base standing)
+
 -- What restarts find in the files that the machine leaves if it stops once all this was asked: in whatever is left, all of them
 -- the records of the same front of these batches, with the synced ones at least, and of what there was before them; and nothing
 -- that is refused, so that it can be opened; if nothing is lost, the records of all batches. Contents that were told by what was asked of a queue are those
@@ -87,6 +99,7 @@ pub record RestartsFind (version : Version) (append rewrite : List NumberedBytes
 pub record IsFoundByRestarts (content : EntryIndex → List ℕ) (version : Version) (base : ℕ → Records) (asks : List Ask) (synced batches : List Event) : Type 0 where
   pub left : (append rewrite : List NumberedBytes) → IsLeftOf Append asks append → IsLeftOf Rewrite asks rewrite
       → (standing : List Event) × IsFrontWith synced batches standing × RestartsFind version append rewrite (λ tables. HaveRecords content tables (live content base standing))
+  pub opened_any : OpenedHaveSynced content version base asks synced batches
   pub accepted : (append rewrite : List NumberedBytes) → IsLeftOf Append asks append → IsLeftOf Rewrite asks rewrite
       → AreOpenable Append version append × AreOpenable Rewrite version rewrite × HaveGroupsInRows version rewrite
   pub opens : (append rewrite : List NumberedBytes) → IsLeftOf Append asks append → IsLeftOf Rewrite asks rewrite → OpeningsSucceed version append rewrite
@@ -124,6 +137,15 @@ FoundContentsStay =
     → (engine : KeptEngine) → IsOpened version append rewrite engine → (other : EntryIndex → List ℕ) → AreBothTold engine.asks other
     → (e : EntryIndex) → StandsInCut Append version append e ⊎ StandsInCut Rewrite version rewrite e → other e ≡ content e
 
+-- So are, where the entries of all batches that were found end within their blocks, the contents of each entry that the opened engine has.
+abbrev pub FoundEntriesStay : Type 0
+FoundEntriesStay =
+    (content : EntryIndex → List ℕ) (version : Version) (base : ℕ → Records) (asks : List Ask) → IsLastingAfter content version base asks → AreBothTold asks content
+    → (append rewrite : List NumberedBytes) → IsLeftOf Append asks append → IsLeftOf Rewrite asks rewrite
+    → FilesEndWithin Append version append → FilesEndWithin Rewrite version rewrite
+    → (engine : KeptEngine) → IsOpened version append rewrite engine → (other : EntryIndex → List ℕ) → AreBothTold engine.asks other
+    → (region : ℕ) → AllByRecursion (λ (e : EntryIndex). other e ≡ content e) (table_in engine region).entries
+
 -- when a write with a sync returns, its batch is the last of the synced ones, behind all that were written before it
 abbrev pub SyncedBatchesLast : Type 0
 SyncedBatchesLast =
@@ -151,3 +173,11 @@ pub record IsKeptByRestarts (content : EntryIndex → List ℕ) (engine : KeptEn
       → (append rewrite : List NumberedBytes) → IsLeftOf Append engine.asks append → IsLeftOf Rewrite engine.asks rewrite
       → RestartsFind engine.version append rewrite (HaveSame content engine.accessor.tables)
   pub same_whole : engine.intact ≡ true → RestartsFind engine.version (files_of Append engine.asks) (files_of Rewrite engine.asks) (HaveSame content engine.accessor.tables)
+
+-- What an engine that is opened has on a disk that writes in any order, whenever the machine stops: now, and after each ask before,
+-- once files were begun or found in both queues.
+pub record IsKeptUnordered (content : EntryIndex → List ℕ) (engine : KeptEngine) : Type 0 where
+  pub lasting : IsLasting content engine
+  pub now : OpenedHaveSynced content engine.version lasting.base engine.asks lasting.now.synced lasting.now.batches
+  pub ever : (later earlier : List Ask) (split : engine.asks ≡ later ++ earlier) (begun : HaveBothBegun earlier)
+      → OpenedHaveSynced content engine.version lasting.base earlier (lasting.ever later earlier split begun).synced (lasting.ever later earlier split begun).batches

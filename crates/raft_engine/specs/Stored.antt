@@ -14,17 +14,17 @@ use Rattle.raft_engine_fronts.specs.Contents.{AreBothTold}
 use Rattle.raft_engine_fronts.specs.Done.{AreDoneWhole}
 use Rattle.raft_engine_fronts.specs.Fronts.{ArePutWhole}
 use Rattle.raft_engine.specs.Lasting.{HaveBothBegun, IsBegunOrFound, IsLastingAfter}
-use Rattle.raft_engine.specs.OfVersion.{NoneIsOther}
+use Rattle.raft_engine.specs.WellPut.{AreWellPut}
 
 -- the records that there were before the batches that are known, by the contents of entries
 abbrev pub Bases : Type 0
 Bases = (EntryIndex → List ℕ) → ℕ → Records
 
--- what was asked of the files of a queue does these deeds; all batches that were written were put there, those of deleted files too, and no stop leaves a last file of the other version
+-- what was asked of the files of a queue does these deeds; all batches that were written were put there, those of deleted files too, and all is well put
 pub record AreAllDone (queue : LogQueue) (version : Version) (acts : List Act) (deeds : List Deed) : Type 0 where
   pub done : AreDoneWhole queue version acts deeds
   pub put : ArePutWhole queue version acts (synced deeds) (written deeds)
-  pub of_version : NoneIsOther queue version acts
+  pub well : AreWellPut queue version acts
 
 -- what was asked of the files does deeds that are safe for all contents that are told by it: these tables have the records of all batches that were written, and the rewrite queue isn't told these items; each group of it stands in a row
 pub record AreStored (version : Version) (asks : List Ask) (base : Bases) (untold : List Item) (tables : Tables) : Type 0 where

@@ -1,5 +1,5 @@
 -- What each ask makes of what is stored.
-use Rattle.std.specs.Prelude.{◌≡◌, ◌≢◌, ℕ, ◌+◌, ◌<◌, ◌^◌, List, [], ◌∷◌, ◌++◌, Some, length}
+use Rattle.std.specs.Prelude.{◌≡◌, suc, ◌≢◌, ℕ, ◌+◌, ◌<◌, ◌^◌, List, [], ◌∷◌, ◌++◌, Some, length}
 use Rattle.std.specs.FinMap as finite
 use Rattle.raft_base.specs.declared.entry_index.EntryIndex.{EntryIndex}
 use Rattle.raft_base.specs.declared.pipe_log.LogQueue.{LogQueue}
@@ -22,16 +22,16 @@ use Rattle.raft_engine_fronts.specs.Fronts.{ArePut}
 use Rattle.raft_engine.specs.BatchBytes.{bytes_for, placed_at}
 use Rattle.raft_engine.specs.KeptEngine.{IsLastFile}
 use Rattle.raft_engine.specs.Lasting.{AreSynced, IsLastingAfter}
-use Rattle.raft_engine.specs.OfVersion.{NoneIsOther}
 use Rattle.raft_engine.specs.Stored.{AreKeptStored, Bases}
+use Rattle.raft_engine.specs.WellPut.{AreWellPut}
 
--- where what is done to both queues loses nothing in a stop, each group of the rewrite queue stands in a row, and no stop leaves a last file of the other version, the batches that were written last
+-- where what is done to both queues loses nothing in a stop, each group of the rewrite queue stands in a row, and all is well put, the batches that were written last
 abbrev pub WhatIsDoneLasts : Type 0
 WhatIsDoneLasts =
     (content : EntryIndex → List ℕ) (version : Version) (base : ℕ → Records) (asks : List Ask) (appended rewritten : List Deed)
     → AreDone Append version (acts_on Append asks) appended → AreDone Rewrite version (acts_on Rewrite asks) rewritten
     → ArePut Append version (acts_on Append asks) (synced appended) (written appended)
-    → ((queue : LogQueue) → NoneIsOther queue version (acts_on queue asks))
+    → ((queue : LogQueue) → AreWellPut queue version (acts_on queue asks))
     → AreGroupsInRows (written rewritten) → LoseNothing content base appended rewritten → (lasting : IsLastingAfter content version base asks) × (lasting.batches ≡ written appended)
 
 -- the first file of each queue is stored as no tables
@@ -49,7 +49,7 @@ SyncsAreStored =
 abbrev pub NewFilesAreStored : Type 0
 NewFilesAreStored =
     (queue : LogQueue) (version : Version) (asks : List Ask) (base : Bases) (untold : List Item) (tables : Tables) (seq : ℕ) (bytes : List ℕ) (next : ℕ)
-    → AreSynced (acts_on queue asks) → IsLastFile queue asks seq bytes → seq < next
+    → AreSynced (acts_on queue asks) → IsLastFile queue asks seq bytes → next ≡ suc seq
     → AreKeptStored version asks base untold tables → AreKeptStored version (ask queue (Begin next) ∷ asks) base untold tables
 
 -- a batch whose bytes can be put behind those of a file

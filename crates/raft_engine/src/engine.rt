@@ -13,6 +13,7 @@ ghost use Rattle.raft_base.specs.Runs.{end_of};
 ghost use Rattle.raft_table.specs.TableEntries.{start_of};
 ghost use Rattle.raft_engine_fronts.specs.Contents.{AreBothTold};
 ghost use Rattle.raft_engine.specs.KeptEngine.{table_in};
+ghost use Rattle.raft_engine.specs.CutTails.{IsRecoveredOf};
 ghost use Rattle.raft_engine.specs.Faults.{Breaks, IsFirstFault, IsPurgeFault, IsRotationFault, IsSyncFault, IsWritingFault};
 ghost use Rattle.raft_engine.specs.Lasting.{IsLasting};
 ghost use Rattle.raft_files.specs.HeldFiles.{file_shown};
@@ -29,9 +30,10 @@ use crate::put::{put, sync_if};
 use crate::queue_files::QueueFiles;
 use crate::read_back::batches_are_read_back;
 use crate::reading::{Reading, read_found};
+use crate::recovered::Recovered;
 use crate::stored::{asks_are_stored, what_is_done_lasts};
 use crate::stored_found::found_files_are_stored;
-use crate::unopened::Unopened;
+use crate::unopened::{Opened, Unopened};
 use crate::untold::taken_away;
 use raft_accessor::MemTableAccessor;
 use raft_accessor::accessor::accepted_items_lack_room_alone;
@@ -132,8 +134,9 @@ impl<F: EngineFiles> Engine<F> {
     /// # Errors
     ///
     /// The files are handed back. Nothing was asked of them where they are refused: `Corruption` where the number of a file
-    /// isn't above that of the file before it; where a queue's last file is damaged (a batch that can be read stands behind one
-    /// that can't be, where the header of that one says that it ends) or of the other version (its first batch can be read in
+    /// isn't one above that of the file before it, with the name of the first file that is missing; where a queue's last file
+    /// is damaged (where its reading stops, what is left isn't part of one batch, and a batch that can be read stands behind,
+    /// or one that is signed for another file: both places are named) or of the other version (its first batch can be read in
     /// that one alone). Where a batch can't be read, or can't follow those before it, the refusal is that of `recover_both`: a
     /// `Corruption` with the file and the offset in front of its text, `Codec` or `Io`. `InvalidArgument` where a batch of the
     /// rewrite files goes on with an atomic group, or ends it, and doesn't stand right behind one that begins the group or goes
@@ -161,6 +164,39 @@ impl<F: EngineFiles> Engine<F> {
         ensures err { IfErr result (λ unopened. IsUnopened (AreUnrecoveredAs version workers) F.may_fail version
             (map file_shown append.items) (map file_shown rewrite.items) (F.asked unopened.files) unopened.error) }
     {
+        match Engine::open_telling(rt, alloc, version, files, append, rewrite, workers) {
+            Ok(opened) => Ok(opened.engine),
+            Err(unopened) => Err(unopened),
+        }
+    }
+
+    /// Opens the files that a stop of the machine left, as [`Engine::open`] does, and tells what was cut off from them: of each
+    /// queue's last file the torn tail, with the reason why no batch can be read there.
+    ///
+    /// # Errors
+    ///
+    /// Those of [`Engine::open`].
+    pub fn open_telling<R: Threads + Sync>(
+        rt: &R,
+        alloc: Global,
+        version: Version,
+        files: F,
+        append: Vec<(FileSeq, Vec<u8>)>,
+        rewrite: Vec<(FileSeq, Vec<u8>)>,
+        workers: usize,
+    ) -> std::result::Result<Opened<F>, Unopened<F>>
+    where
+        requires { F.asked files
+            ≡ found_asks (map file_shown append.items) (map file_shown rewrite.items) }
+        ensures ok { IfOk result (λ opened. IsOpened version (map file_shown append.items)
+            (map file_shown rewrite.items) opened.engine) }
+        ensures recovered { IfOk result (λ opened. IsRecoveredOf version (map file_shown append.items)
+            (map file_shown rewrite.items) opened.recovered) }
+        ensures accepted { OnOk result (AreBothAccepted version (map file_shown append.items)
+            (map file_shown rewrite.items)) }
+        ensures err { IfErr result (λ unopened. IsUnopened (AreUnrecoveredAs version workers) F.may_fail version
+            (map file_shown append.items) (map file_shown rewrite.items) (F.asked unopened.files) unopened.error) }
+    {
         match read_found(rt, alloc, version, append, rewrite, workers) {
             Ok(reading) => Engine::of_reading(alloc, version, files, reading),
             Err(error) => Err(Unopened { files, error }),
@@ -178,12 +214,15 @@ impl<F: EngineFiles> Engine<F> {
         version: Version,
         files: F,
         reading: Reading,
-    ) -> std::result::Result<Engine<F>, Unopened<F>>
+    ) -> std::result::Result<Opened<F>, Unopened<F>>
         requires to_be_told { IsToBeTold reading }
         requires found { (append : List NumberedBytes) × (rewrite : List NumberedBytes)
             × (F.asked files ≡ found_asks append rewrite) × AreReadFound version append rewrite reading }
         ensures ok { (append rewrite : List NumberedBytes) → F.asked files ≡ found_asks append rewrite
-            → AreReadFound version append rewrite reading → IfOk result (IsOpened version append rewrite) }
+            → AreReadFound version append rewrite reading
+            → IfOk result (λ opened. IsOpened version append rewrite opened.engine) }
+        ensures recovered { (append rewrite : List NumberedBytes) → AreReadFound version append rewrite reading
+            → IfOk result (λ opened. IsRecoveredOf version append rewrite opened.recovered) }
         ensures err { (append rewrite : List NumberedBytes) → F.asked files ≡ found_asks append rewrite
             → AreReadFound version append rewrite reading
             → IfErr result (λ unopened. IsHalfOpened F.may_fail version append rewrite
@@ -194,7 +233,11 @@ impl<F: EngineFiles> Engine<F> {
         match complete(&mut files, version, &mut reading) {
             Ok(()) => {
                 reading.rewrite.len += reading.told_len as u64;
-                Ok(Engine {
+                let recovered = Recovered {
+                    append: reading.append_missing.tail(),
+                    rewrite: reading.rewrite_missing.tail(),
+                };
+                let engine = Engine {
                     files,
                     version,
                     append: reading.append,
@@ -202,7 +245,8 @@ impl<F: EngineFiles> Engine<F> {
                     untold: LogBatch::default(alloc),
                     accessor: reading.accessor,
                     intact: true,
-                })
+                };
+                Ok(Opened { engine, recovered })
             }
             Err(error) => Err(Unopened { files, error }),
         }

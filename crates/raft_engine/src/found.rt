@@ -1,23 +1,27 @@
 //! The files that are found when an engine is opened.
 
-ghost use Rattle.std.specs.Prelude.{◌≡◌, ◌≢◌, ◌∷◌, ◌⊎◌, ◌↔◌, ◌≤◌, ◌<◌, [], length, map, IfOk, IfErr, IsTrue, OnOk};
+ghost use Rattle.std.specs.Prelude.{◌≡◌, ◌≢◌, suc, ◌∷◌, ◌⊎◌, ◌↔◌, ◌≤◌, ◌<◌, [], length, map, IfOk, IfErr, IsTrue, OnOk};
 ghost use Rattle.raft_files.specs.HeldFiles.{file_shown};
-ghost use Rattle.raft_engine_fronts.specs.Done.{AreRisingFrom, numbers};
+ghost use Rattle.raft_base.specs.Corruption.{IsCorruption};
+ghost use Rattle.raft_engine_fronts.specs.Done.{AreConsecutive, numbers};
 ghost use Rattle.raft_files.specs.Disk.{cut_last};
 ghost use Rattle.raft_recover.specs.Files.{whole_file};
-ghost use Rattle.raft_engine.specs.FoundFiles.{AreAccepted, AreReadyBy, BeginsInOther, IsDamaged, IsDamagedAs, IsFoundFault, IsOfOther, IsOtherAs, IsTornFrom, other_version};
+ghost use Rattle.raft_engine.specs.CutTails.{IsTailTold, IsTornAs, tail_of};
+ghost use Rattle.raft_engine.specs.FoundFiles.{AreAccepted, AreApartAs, AreReadyBy, BeginsInOther, IsApartAs, IsDamageText, IsDamaged, IsDamagedAs, IsFoundFault, IsOfOther, IsOtherAs, elsewhere_text, followed_text, missing_text, other_version};
 ghost use Rattle.raft_engine.specs.OpeningAsks.{missing_asks};
-ghost use Rattle.raft_engine_fronts.specs.TornTails.{IsFollowedAt};
+ghost use Rattle.raft_engine_fronts.specs.TornTails.{IsDamagedAt};
 
 use crate::limits::FIRST_SEQ;
 use crate::missing::Missing;
+use crate::recovered::CutTail;
 use raft_base::{Error, FileId, FileSeq, LogFileContext, LogQueue, Result, Version};
-use raft_records::laws::log_batches_are_read_again;
-use raft_records::{FilePart, LogBatch, next_batch, next_in, readable_front};
-use raft_replay::segment::corruption_at;
+use raft_records::{FilePart, next_in, readable_front};
+use raft_replay::segment::{corruption_at, queue_name};
+use raft_tail::{is_broken_off, next_sound, signed_elsewhere};
+use std::alloc::Global;
 
-/// Why a file is refused whose torn batch is followed by another one.
-const DAMAGED: &str = "a batch stands behind one that can't be read";
+/// Why files are refused whose numbers don't rise.
+const NOT_ABOVE: &str = "a file number isn't above the one before it";
 
 /// Why a file is refused whose first batch can be read in the other version alone.
 const OF_OTHER_VERSION: &str = "a batch of the other version stands there";
@@ -27,9 +31,9 @@ const OF_OTHER_VERSION: &str = "a batch of the other version stands there";
 ///
 /// # Errors
 ///
-/// `Corruption` where the number of a file isn't above that of the file before it; where the last file is damaged: a batch
-/// that can be read stands behind one that can't be, where the header of that one says that it ends; and where the last
-/// file is of the other version: its first batch can be read in that one alone. `Memory`.
+/// `Corruption` where the number of a file isn't one above that of the file before it; where the last file is damaged: where
+/// its reading stops, what is left isn't part of one batch, and a batch that can be read stands behind, or one that is signed
+/// for another file; and where the last file is of the other version: its first batch can be read in that one alone. `Memory`.
 pub fn made_ready(
     queue: LogQueue,
     version: Version,
@@ -37,21 +41,22 @@ pub fn made_ready(
 ) -> Result<Missing>
     ensures ok { IfOk result (λ missing. AreReadyBy queue version (missing_asks queue missing)
         (map file_shown found.old.items) (map file_shown found.new.items)) }
+    ensures told { IfOk result (λ missing. IsTailTold queue version (map file_shown found.old.items) (tail_of missing)) }
     ensures some { OnOk result (0 < length found.new.items) }
     ensures accepted { OnOk result (AreAccepted queue version (map file_shown found.old.items)) }
     ensures fault { IfErr result (λ e. e ≢ Error.Memory
         → IsFoundFault queue version (map file_shown found.old.items) e) }
 {
-    let alloc = *found.allocator();
-    if !are_rising(found) {
-        return Err(Error::corruption(alloc, "a file number isn't above the one before it"));
-    }
+    check_numbers(queue, found)?;
     let Some(last) = found.last() else {
         return begin_first(found);
     };
     match torn_tail(queue, version, last)? {
         None => Ok(Missing::Nothing),
-        Some(at) => Ok(cut_last(found, at)),
+        Some(tail) => {
+            cut_last(found, tail.offset as usize);
+            Ok(Missing::Cut(tail))
+        }
     }
 }
 
@@ -72,42 +77,82 @@ fn begin_first(found: &mut Vec<(FileSeq, Vec<u8>)>) -> Result<Missing>
     Ok(Missing::FirstFile)
 }
 
-/// Tests whether the number of each file is above that of the file before it.
-fn are_rising(files: &Vec<(FileSeq, Vec<u8>)>) -> bool
-    ensures { IsTrue result ↔ AreRisingFrom 0 (numbers (map file_shown files.now.items)) }
+/// Refuses the files of a queue where the number of one isn't one above that of the file before it.
+///
+/// # Errors
+///
+/// `Corruption`, which names the first missing file where one is missing between two; `Memory`.
+fn check_numbers(queue: LogQueue, files: &Vec<(FileSeq, Vec<u8>)>) -> Result<()>
+    ensures ok { OnOk result (AreConsecutive (numbers (map file_shown files.now.items))) }
+    ensures refused { IfErr result (λ e. e ≢ Error.Memory
+        → AreApartAs queue (map file_shown files.now.items) e) }
 {
     let Some((first, rest)) = files.split_first() else {
-        return true;
+        return Ok(());
     };
     let mut last = first.0;
     for (seq, _) in rest {
-        if *seq <= last {
-            return false;
-        }
+        check_next(*files.allocator(), queue, last, *seq)?;
         last = *seq;
     }
-    true
+    Ok(())
+}
+
+/// Refuses the number of a file that isn't one above that of the file before it.
+///
+/// # Errors
+///
+/// `Corruption`, `Memory`.
+fn check_next(alloc: Global, queue: LogQueue, last: FileSeq, next: FileSeq) -> Result<()>
+    ensures ok { OnOk result (next ≡ suc last) }
+    ensures refused { IfErr result (λ e. e ≢ Error.Memory → IsApartAs queue last next e) }
+{
+    if next <= last {
+        return Err(Error::corruption(alloc, NOT_ABOVE));
+    }
+    if next - last > 1 {
+        return Err(missing_file(alloc, queue, last, next));
+    }
+    Ok(())
+}
+
+/// Returns the refusal of a queue in which at least one file is missing between two.
+fn missing_file(alloc: Global, queue: LogQueue, last: FileSeq, next: FileSeq) -> Error
+    requires { suc last < next }
+    ensures { IsCorruption (missing_text queue last next) result }
+{
+    let name = queue_name(queue);
+    let missing = last + 1;
+    let text = format!(in alloc;
+        "{name} file {missing}: it is missing, files {last} and {next} are there"
+    );
+    match text {
+        Ok(text) => Error::Corruption(text),
+        Err(_) => Error::Memory,
+    }
 }
 
 /// Cuts the bytes of the last file, which is missing of the file itself.
-fn cut_last(found: &mut Vec<(FileSeq, Vec<u8>)>, at: usize) -> Missing
-    ensures missing { result ≡ Missing.Cut at }
+fn cut_last(found: &mut Vec<(FileSeq, Vec<u8>)>, at: usize)
     ensures cut { map file_shown found.new.items ≡ cut_last at (map file_shown found.old.items) }
     ensures count { length found.new.items ≡ length found.old.items }
 {
     if let Some(last) = found.last_mut() {
         last.1.truncate(at);
     }
-    Missing::Cut(at)
 }
 
-/// Returns where the torn tail of a file begins, if it has one.
+/// Returns the torn tail of a file, if it has one.
 ///
 /// # Errors
 ///
 /// `Corruption` where the file is damaged or of the other version, `Memory`.
-fn torn_tail(queue: LogQueue, version: Version, file: &(FileSeq, Vec<u8>)) -> Result<Option<usize>>
-    ensures ok { IfOk result (IsTornFrom (whole_file queue version (file_shown file.now))) }
+fn torn_tail(
+    queue: LogQueue,
+    version: Version,
+    file: &(FileSeq, Vec<u8>),
+) -> Result<Option<CutTail>>
+    ensures ok { IfOk result (IsTornAs (whole_file queue version (file_shown file.now))) }
     ensures undamaged { OnOk result (¬ (IsDamaged (whole_file queue version (file_shown file.now)))) }
     ensures of_version { OnOk result (¬ (IsOfOther (whole_file queue version (file_shown file.now)))) }
     ensures refused { IfErr result (λ e. e ≢ Error.Memory
@@ -119,57 +164,84 @@ fn torn_tail(queue: LogQueue, version: Version, file: &(FileSeq, Vec<u8>)) -> Re
     torn_from(&part)
 }
 
-/// Returns where a file is to be cut, if it doesn't end with its batches.
+/// Returns what is to be cut off from a file, if it doesn't end with its batches.
 ///
 /// # Errors
 ///
 /// `Corruption` where it is damaged or of the other version, `Memory`.
-fn torn_from(file: &FilePart) -> Result<Option<usize>>
-    ensures ok { IfOk result (IsTornFrom file.now) }
+fn torn_from(file: &FilePart) -> Result<Option<CutTail>>
+    ensures ok { IfOk result (IsTornAs file.now) }
     ensures undamaged { OnOk result (¬ (IsDamaged file.now)) }
     ensures of_version { OnOk result (¬ (IsOfOther file.now)) }
     ensures refused { IfErr result (λ e. e ≢ Error.Memory
         → IsDamagedAs file.now e ⊎ IsOtherAs file.now e) }
 {
     let (at, stopped) = readable_front(file);
-    let Some(reason) = stopped else {
+    let Some(error) = stopped else {
         return Ok(None);
     };
-    unless_memory(reason)?;
-    if is_followed(file, at)? {
-        return Err(corruption_at(file.allocator(), file.id(), at as u64, DAMAGED));
-    }
+    unless_memory(&error)?;
+    check_undamaged(file, at)?;
     if at == 0 && begins_in_other(file)? {
         return Err(corruption_at(file.allocator(), file.id(), 0, OF_OTHER_VERSION));
     }
-    Ok(Some(at))
+    Ok(Some(CutTail {
+        file: file.id().seq,
+        offset: at as u64,
+        len: (file.bytes().len() - at) as u64,
+        error,
+    }))
 }
 
-/// Tests whether a batch that can be read stands where the header at a byte of a file says that its batch ends.
+/// Refuses a file in which damage begins where its reading stops: what stands from there on isn't all that is left of one
+/// batch, as a crash leaves it, and a batch that can be read stands behind it, or one that is signed for another file.
 ///
 /// # Errors
 ///
-/// `Memory`.
-fn is_followed(file: &FilePart, at: usize) -> Result<bool>
-    requires { at ≤ length file.now.bytes }
-    ensures ok { IfOk result (λ followed. IsTrue followed ↔ IsFollowedAt file.now at) }
-    ensures memory { IfErr result (λ e. e ≡ Error.Memory) }
+/// `Corruption`, which names both places; `Memory`.
+fn check_undamaged(file: &FilePart, at: usize) -> Result<()>
+    requires { at < length file.now.bytes }
+    ensures ok { OnOk result (¬ (IsDamagedAt file.now at)) }
+    ensures refused { IfErr result (λ e. e ≢ Error.Memory
+        → IsDamagedAt file.now at × IsDamageText file.now at e) }
 {
-    log_batches_are_read_again();
-    let (_, mut rest) = file.bytes().split_at(at);
-    let Ok((_, _, len)) = LogBatch::decode_header(file.allocator(), &mut rest) else {
-        return Ok(false);
-    };
-    let behind = at.saturating_add(len);
-    if behind >= file.bytes().len() {
-        return Ok(false);
+    if is_broken_off(file, at)? {
+        return Ok(());
     }
-    match next_batch(file, behind) {
-        Ok(_) => Ok(true),
-        Err(error) => {
-            unless_memory(error)?;
-            Ok(false)
-        }
+    if let Some(sound) = next_sound(file, at)? {
+        return Err(followed(file, at, sound));
+    }
+    if let Some((offset, seq)) = signed_elsewhere(file, at)? {
+        return Err(of_elsewhere(file, at, offset, seq));
+    }
+    Ok(())
+}
+
+/// Returns the refusal of a file for a batch that can be read behind one that can't be.
+fn followed(file: &FilePart, at: usize, sound: usize) -> Error
+    ensures { IsCorruption (followed_text file.now.id at sound) result }
+{
+    let alloc = file.allocator();
+    let reason = format!(in alloc;
+        "no batch can be read there, but one stands behind it, at offset {sound}"
+    );
+    match reason {
+        Ok(reason) => corruption_at(alloc, file.id(), at as u64, reason.as_str()),
+        Err(_) => Error::Memory,
+    }
+}
+
+/// Returns the refusal of a file for a batch that is signed for another one.
+fn of_elsewhere(file: &FilePart, at: usize, offset: usize, seq: FileSeq) -> Error
+    ensures { IsCorruption (elsewhere_text file.now.id at offset seq) result }
+{
+    let alloc = file.allocator();
+    let reason = format!(in alloc;
+        "no batch can be read there, but at offset {offset} one stands that is signed for file {seq}"
+    );
+    match reason {
+        Ok(reason) => corruption_at(alloc, file.id(), at as u64, reason.as_str()),
+        Err(_) => Error::Memory,
     }
 }
 
@@ -186,7 +258,7 @@ fn begins_in_other(file: &FilePart) -> Result<bool>
     match next_in(file.allocator(), &context, file.offset(), file.bytes(), 0) {
         Ok(next) => Ok(next.is_some()),
         Err(error) => {
-            unless_memory(error)?;
+            unless_memory(&error)?;
             Ok(false)
         }
     }
@@ -207,8 +279,8 @@ fn other(version: Version) -> Version
 /// # Errors
 ///
 /// `Memory`.
-fn unless_memory(error: Error) -> Result<()>
-    ensures ok { OnOk result (error ≢ Error.Memory) }
+fn unless_memory(error: &Error) -> Result<()>
+    ensures ok { OnOk result (error.now ≢ Error.Memory) }
     ensures memory { IfErr result (λ e. e ≡ Error.Memory) }
 {
     if matches!(error, Error::Memory) {

@@ -9,7 +9,11 @@ mod group_moves;
 mod group_puts;
 mod groups;
 mod limits;
+#[doc(hidden)]
+pub mod lives;
 mod missing;
+#[doc(hidden)]
+pub mod moments;
 mod moved;
 pub mod of_version;
 mod opened;
@@ -19,6 +23,7 @@ mod put;
 mod queue_files;
 mod read_back;
 mod reading;
+mod recovered;
 mod removals;
 pub mod restarts;
 #[doc(hidden)]
@@ -30,4 +35,5 @@ mod unopened;
 mod untold;
 
 pub use engine::Engine;
-pub use unopened::Unopened;
+pub use recovered::{CutTail, Recovered};
+pub use unopened::{Opened, Unopened};

@@ -8,7 +8,7 @@ ghost use Rattle.raft_engine_laws.specs.Records.{Records};
 ghost use Rattle.raft_engine_fronts.specs.Contents.{AreBothTold};
 ghost use Rattle.raft_engine.specs.KeptEngine.{KeptEngine};
 ghost use Rattle.raft_engine.specs.Lasting.{IsLasting, IsLastingAfter};
-ghost use Rattle.raft_engine.specs.Restarts.{AreFromBefore, FoundContentsStay, IsFoundByRestarts, IsKeptByRestarts, SyncedBatchesLast};
+ghost use Rattle.raft_engine.specs.Restarts.{AreFromBefore, FoundContentsStay, FoundEntriesStay, IsFoundByRestarts, IsKeptByRestarts, IsKeptUnordered, SyncedBatchesLast};
 
 use crate::engine::Engine;
 use crate::stored_found::found_files_are_stored;
@@ -49,6 +49,14 @@ pub fn found_contents_stay()
     told_contents_last();
 }
 
+/// States that the contents of all entries that an opened engine has are those of the engine that was stopped, where the entries of
+/// the batches that were found end within their blocks.
+pub fn found_entries_stay()
+    ensures { FoundEntriesStay }
+{
+    found_contents_stay();
+}
+
 /// States that a batch that was written with a sync is synced once that returns: of the batches that a stop leaves at least it
 /// is then the last one, behind all that were written before it. This is a law: it computes nothing.
 pub fn synced_batches_last()
@@ -72,5 +80,17 @@ impl<F: EngineFiles> Engine<F> {
         self.nothing_synced_is_lost();
         restarts_find_what_lasts();
         records_before_are_those_found();
+    }
+
+    /// States what is found again on a disk that writes pages and the lengths of files in any order, so that any bytes may stand
+    /// behind the synced ones when the machine stops or stopped: an engine that is opened over the files that are left, of which
+    /// nothing can be read that wasn't written, has the records of all batches that were synced by then, and of a prefix of
+    /// those since, and no others. On such a disk `open` may refuse what is left, as damaged. This is a law: it computes nothing.
+    pub fn what_is_left_unordered_is_opened(&self)
+        ensures { (content : EntryIndex → List ℕ) → AreBothTold self.now.asks content
+            → IsKeptUnordered content self.now }
+    {
+        self.nothing_synced_is_lost();
+        restarts_find_what_lasts();
     }
 }

@@ -3,6 +3,7 @@
 ghost use Rattle.raft_base.specs.declared.pipe_log.LogQueue.TheVariants.{Append, Rewrite};
 ghost use Rattle.raft_engine.specs.StoredAsks.{DeletionsAreStored, FirstFilesAreStored, NewFilesAreStored, SyncsAreStored, ToldBatchesAreStored, WhatIsDoneLasts, WrittenBatchesAreStored};
 
+use raft_engine_fronts::any_tails::unforged_files_hold_what_may_be_left;
 use raft_engine_fronts::contents::told_contents_last;
 use raft_engine_fronts::done::{asks_do_deeds, files_that_are_left_hold_what_may_be_left};
 use raft_engine_fronts::fronts::{asks_put_batches, files_that_stand_hold_a_front};
@@ -22,6 +23,7 @@ pub fn what_is_done_lasts()
     ensures { WhatIsDoneLasts }
 {
     files_that_are_left_hold_what_may_be_left();
+    unforged_files_hold_what_may_be_left();
     files_that_stand_hold_a_front();
 }
 

@@ -1,7 +1,18 @@
-//! Found files that weren't opened.
+//! Found files that were opened, or weren't.
 
+use crate::engine::Engine;
+use crate::recovered::Recovered;
 use raft_base::Error;
 use raft_files::EngineFiles;
+
+/// An engine that was opened over found files, and what was cut off from these.
+#[derive(Drop)]
+pub struct Opened<F: EngineFiles> {
+    /// The engine.
+    pub engine: Engine<F>,
+    /// What was cut off.
+    pub recovered: Recovered,
+}
 
 /// Found files that [`Engine::open`](crate::Engine::open) refused, and why. `?` turns it into the `error` where an `Error` is
 /// returned, and lets go of the files.

@@ -11,7 +11,6 @@ use Rattle.raft_history.specs.Histories.{last_from}
 use Rattle.raft_files.specs.Asks as asks
 use Rattle.raft_files.specs.Asks.{Act, Put, Begin, Cut, Found, Read}
 use Rattle.raft_files.specs.Disk.{NumberedBytes, put_behind, cut_last, begun, deletions, synced_deletions}
-use Rattle.raft_files.specs.Places.{IsNext}
 use Rattle.raft_files.proofs.HeldLemmas.{length_on_last}
 use Rattle.raft_replay.specs.WrittenParts.{written_event}
 use Rattle.raft_recover.specs.Files.{FilesHold, whole_file}
@@ -20,9 +19,9 @@ use Rattle.raft_engine_laws.proofs.StopLemmas.{from_none, from_more, synced_low}
 use Rattle.raft_engine_fronts.specs.Fronts.{ArePut, ArePutWhole}
 use Rattle.raft_engine_fronts.specs.TornTails.{FilesHoldTorn, StopsAt}
 use Rattle.raft_engine_fronts.proofs.TornLemmas.{whole_torn}
-use Rattle.raft_engine_fronts.specs.Done.{numbers, AreRisingFrom, AreBelow, AreDone, AreDoneWhole, WrittenBatchIsDone, LastFileIsNext}
+use Rattle.raft_engine_fronts.specs.Done.{numbers, AreRisingFrom, AreConsecutive, Follows, AreBelow, AreDone, AreDoneWhole, WrittenBatchIsDone, LastFileIsNext}
 use Rattle.raft_engine_fronts.proofs.StepLemmas as steps
-use Rattle.raft_engine_fronts.proofs.NumberLemmas.{numbers_on_last, numbers_more, rising_last, rising_more, below_more, below_none, below_oldest, below_next, below_last}
+use Rattle.raft_engine_fronts.proofs.NumberLemmas.{numbers_on_last, numbers_more, rising_last, rising_more, consecutive_more, follows_next, below_more, below_none, below_oldest, below_next, below_last}
 use Rattle.raft_engine_fronts.proofs.EventLemmas.{all_synced, last_low, low_all, files_up_to}
 
 few_synced : (acts : List Act) → synced_deletions acts ≤ deletions acts
@@ -43,6 +42,7 @@ module _ (queue : LogQueue) (version : Version) where
       begins = omega arith;
       put = (from_none 0, from_none 0);
       rising = tt;
+      consecutive = tt;
       stays = omega arith;
       gone = tt;
       synced_gone = tt;
@@ -64,6 +64,7 @@ module _ (queue : LogQueue) (version : Version) where
             begins = let k = d.begins in let low = synced_low deeds in omega (arith, k, low);
             put = steps.synced_all queue version acts (in_files_from d.first (synced deeds)) (in_files_from d.first (written deeds)) d.put;
             rising = d.rising;
+            consecutive = d.consecutive;
             stays = d.stays;
             gone = d.gone;
             synced_gone = d.gone;
@@ -71,8 +72,8 @@ module _ (queue : LogQueue) (version : Version) where
           whole = w.whole;
         }
 
-    pub begun_done : (seq : ℕ) → AreDoneWhole queue version acts deeds → IsSynced deeds → IsNext seq (begun acts) → deleted deeds ≤ seq → AreDoneWhole queue version (Begin seq ∷ acts) deeds
-    begun_done seq w i next up =
+    pub begun_done : (seq : ℕ) → AreDoneWhole queue version acts deeds → IsSynced deeds → Follows seq (begun acts) → deleted deeds ≤ seq → AreDoneWhole queue version (Begin seq ∷ acts) deeds
+    begun_done seq w i follows up =
         let d = w.done in
         let begins = d.begins in
         let low = synced_low deeds in
@@ -87,7 +88,8 @@ module _ (queue : LogQueue) (version : Version) where
             first = d.first;
             begins = d.begins;
             put = subst (λ (g : List Event). ArePut queue version (Begin seq ∷ acts) (in_files_from d.first g) (in_files_from d.first (written deeds))) (sym (all_synced deeds i)) put.put;
-            rising = subst (AreRisingFrom d.first) same (rising_more d.first seq (begun acts) d.rising next (omega (arith, begins, low, up)));
+            rising = subst (AreRisingFrom d.first) same (rising_more d.first seq (begun acts) d.rising (follows_next seq (begun acts) follows) (omega (arith, begins, low, up)));
+            consecutive = subst AreConsecutive same (consecutive_more seq (begun acts) d.consecutive follows);
             stays = omega (arith, stays, longer);
             gone = subst (AreBelow (deleted deeds) (deletions acts)) same (below_more (deleted deeds) (deletions acts) seq (numbers (begun acts)) d.gone (omega (arith, stays, long)) up);
             synced_gone = subst (AreBelow (synced_deleted deeds) (synced_deletions acts)) same
@@ -114,6 +116,7 @@ module _ (queue : LogQueue) (version : Version) where
             begins = d.begins;
             put = d.put;
             rising = d.rising;
+            consecutive = d.consecutive;
             stays = omega (arith, long, at);
             gone = subst (λ (m : ℕ). AreBelow m (suc (deletions acts)) (numbers (begun acts))) most
                 (subst (λ (c : ℕ). AreBelow n (suc c) (numbers (begun acts))) (sym count) (subst (AreBelow n (suc (length (numbers gone)))) (sym split) more));
@@ -123,24 +126,25 @@ module _ (queue : LogQueue) (version : Version) where
         }
 
     module _ (files : List NumberedBytes) (standing : List Event) (n : ℕ) where
-      pub found_done : FilesHoldTorn queue version files (in_files_from n standing) → AreRisingFrom n (numbers files) → AreDone queue version (Found files ∷ acts) (Stop standing n ∷ deeds)
-      found_done held rising = record {
+      pub found_done : FilesHoldTorn queue version files (in_files_from n standing) → AreRisingFrom n (numbers files) → AreConsecutive (numbers files) → AreDone queue version (Found files ∷ acts) (Stop standing n ∷ deeds)
+      found_done held rising consecutive = record {
         first = n;
         begins = omega arith;
         put = (refl, held);
         rising = rising;
+        consecutive = consecutive;
         stays = omega arith;
         gone = below_none n (numbers files) rising;
         synced_gone = below_none n (numbers files) rising;
       }
 
-      pub found_whole : FilesHold queue version files (in_files_from n standing) → AreRisingFrom n (numbers files) → AreDoneWhole queue version (Found files ∷ acts) (Stop standing n ∷ deeds)
+      pub found_whole : FilesHold queue version files (in_files_from n standing) → AreRisingFrom n (numbers files) → AreConsecutive (numbers files) → AreDoneWhole queue version (Found files ∷ acts) (Stop standing n ∷ deeds)
       unfolding found_done
-      found_whole held rising = record { done = found_done (whole_torn queue version files (in_files_from n standing) held) rising; whole = held }
+      found_whole held rising consecutive = record { done = found_done (whole_torn queue version files (in_files_from n standing) held) rising consecutive; whole = held }
 
     module _ (place : FileBlockHandle) (bytes : List ℕ) where
       pub read_done : AreDone queue version acts deeds → AreDone queue version (Read place bytes ∷ acts) deeds
-      read_done d = record { first = d.first; begins = d.begins; put = d.put; rising = d.rising; stays = d.stays; gone = d.gone; synced_gone = d.synced_gone }
+      read_done d = record { first = d.first; begins = d.begins; put = d.put; rising = d.rising; consecutive = d.consecutive; stays = d.stays; gone = d.gone; synced_gone = d.synced_gone }
 
       pub read_whole : AreDoneWhole queue version acts deeds → AreDoneWhole queue version (Read place bytes ∷ acts) deeds
       unfolding read_done
@@ -159,6 +163,7 @@ module _ (queue : LogQueue) (version : Version) where
             begins = d.begins;
             put = put.put;
             rising = subst (AreRisingFrom d.first) same d.rising;
+            consecutive = subst AreConsecutive same d.consecutive;
             stays = omega (arith, stays, long);
             gone = subst (AreBelow (deleted deeds) (deletions acts)) same d.gone;
             synced_gone = subst (AreBelow (synced_deleted deeds) (synced_deletions acts)) same d.synced_gone;
@@ -223,6 +228,7 @@ written_done queue version acts deeds closed last handle items entry_bytes batch
         begins = d.begins;
         put = subst (λ (h : List Event). ArePut queue version (Put bytes ∷ acts) (in_files_from d.first (synced deeds)) h) all put.put;
         rising = subst (AreRisingFrom d.first) same d.rising;
+        consecutive = subst AreConsecutive same d.consecutive;
         stays = omega (arith, stays, long);
         gone = subst (AreBelow (deleted deeds) (deletions acts)) same d.gone;
         synced_gone = subst (AreBelow (synced_deleted deeds) (synced_deletions acts)) same d.synced_gone;

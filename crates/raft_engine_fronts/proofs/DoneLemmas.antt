@@ -11,10 +11,10 @@ use Rattle.raft_files.specs.Disk.{NumberedBytes, begun, deletions, synced_deleti
 use Rattle.raft_engine_laws.specs.Stops.{Deed, written, synced, deleted, synced_deleted, in_files_from}
 use Rattle.raft_engine_laws.proofs.StopLemmas.{from_none, whole_stands, synced_low, all_gone}
 use Rattle.raft_engine_fronts.specs.TornTails.{FilesHoldTorn}
-use Rattle.raft_engine_fronts.specs.Done.{numbers, AreRisingFrom, AreBelow, AreDone, HoldLeft}
+use Rattle.raft_engine_fronts.specs.Done.{numbers, AreRisingFrom, AreConsecutive, AreBelow, AreDone, HoldLeft}
 use Rattle.raft_engine_fronts.proofs.FrontLemmas.{all_held}
 use Rattle.raft_engine_fronts.proofs.RestLemmas.{RestBehind, rest_behind}
-use Rattle.raft_engine_fronts.proofs.NumberLemmas.{first_stand, rising_front, below_front, below_drop, below_take, IsBetween, between}
+use Rattle.raft_engine_fronts.proofs.NumberLemmas.{first_stand, rising_front, consecutive_front, consecutive_drop, below_front, below_drop, below_take, IsBetween, between}
 use Rattle.raft_engine_fronts.proofs.EventLemmas.{from_both, from_twice, files_low, files_high, StandFrom, front_stands}
 
 module _ (queue : LogQueue) (version : Version) (asked : List Ask) (deeds : List Deed) (files : List NumberedBytes)
@@ -43,6 +43,12 @@ module _ (queue : LogQueue) (version : Version) (asked : List Ask) (deeds : List
         (below_front b.number l.gone (numbers l.standing) f.0 (subst (AreBelow b.number l.gone) f.1 b.below))
         (rising_front d.first (numbers l.standing) f.0 (subst (AreRisingFrom d.first) f.1 d.rising)))
 
+    consecutive : AreConsecutive (numbers files)
+    consecutive =
+        let f = first_stand acts l.standing l.stands in
+        subst AreConsecutive (drop-map (λ (f : NumberedBytes). f.0) l.gone l.standing ∙ ap numbers (sym l.left))
+        (consecutive_drop l.gone (numbers l.standing) (consecutive_front (numbers l.standing) f.0 (subst AreConsecutive f.1 d.consecutive)))
+
     left : r.rest ≡ in_files_from b.number s.standing
     left =
         let up : d.first ≤ b.number = let i = d.begins in let j = b.at_least in omega (arith, i, j) in
@@ -57,6 +63,7 @@ module _ (queue : LogQueue) (version : Version) (asked : List Ask) (deeds : List
       left = r.rest;
       is_left = record { stands = s.stands; gone = b.number; may_go = record { at_least = b.at_least; at_most = b.at_most }; left = left };
       rising = rising;
+      consecutive = consecutive;
       held = r.held;
     }
 
@@ -88,6 +95,7 @@ module _ (queue : LogQueue) (version : Version) (asked : List Ask) (deeds : List
             sym (sym (from_twice d.first (deleted deeds) (written deeds) up) ∙ ap (in_files_from (deleted deeds)) no_batches ∙ from_none (deleted deeds));
       };
       rising = subst (λ (fs : List NumberedBytes). AreRisingFrom (deleted deeds) (numbers fs)) (sym no_files) tt;
+      consecutive = subst (λ (fs : List NumberedBytes). AreConsecutive (numbers fs)) (sym no_files) tt;
       held = subst (λ (fs : List NumberedBytes). FilesHoldTorn queue version fs []) (sym no_files) refl;
     }
 

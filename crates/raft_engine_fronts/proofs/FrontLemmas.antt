@@ -4,7 +4,7 @@ use Rattle.std.proofs.lemmas.Bool.{cases_lt}
 use Rattle.std.proofs.lemmas.List.{length-take-le, take-append-drop, take-append-le, drop-append-le, drop-take, take_at, take-take}
 use Rattle.raft_base.specs.declared.pipe_log.LogQueue.{LogQueue}
 use Rattle.raft_base.specs.declared.pipe_log.Version.{Version}
-use Rattle.raft_records.specs.FilePart.{Part, IsBatchAt}
+use Rattle.raft_records.specs.FilePart.{Part, IsBatchAt, StandBetween}
 use Rattle.raft_records.proofs.Names.{part_signature}
 use Rattle.raft_records.proofs.PartLemmas.{batch_inside}
 use Rattle.raft_history.specs.Batches.{Event}
@@ -16,11 +16,11 @@ use Rattle.raft_replay.specs.Segments.{HoldsFrom}
 use Rattle.raft_replay.specs.Stops.{IsUnreadableAt}
 use Rattle.raft_replay.proofs.MachineOrderLemmas.{each_join, each_single}
 use Rattle.raft_recover.specs.Files.{FilesHold, whole_file}
-use Rattle.raft_engine_fronts.specs.TornTails.{IsFollowedAt, HoldsTornFrom, FilesHoldTorn}
-use Rattle.raft_engine_fronts.specs.Fronts.{AreBatchesPut, ArePut, ArePutWhole, IsFrontWith, HoldFrontWith}
+use Rattle.raft_tail.specs.Tails.{IsBrokenOff}
+use Rattle.raft_engine_fronts.specs.TornTails.{FilesHoldTorn}
+use Rattle.raft_engine_fronts.specs.Fronts.{AreBatchesPut, ArePut, ArePutFrom, ArePutWhole, IsBrokenWhereItEnds, IsFrontWith, HoldFrontWith}
 use Rattle.raft_engine_fronts.proofs.BatchPartLemmas.{front_unreadable, shorter_unreadable}
-use Rattle.raft_engine_fronts.proofs.FollowLemmas.{named_end}
-use Rattle.raft_engine_fronts.proofs.TornLemmas.{with_all, stands_as, held_inside, one_file, whole_torn, torn_more}
+use Rattle.raft_engine_fronts.proofs.TornLemmas.{with_all, stands_as, held_inside, items_of, stand_up_to, one_file, whole_torn, torn_more}
 
 -- a front of batches that something holds
 pub record FrontOf (Holds : List Event → Type 0) (h : List Event) : Type 0 where
@@ -28,6 +28,13 @@ pub record FrontOf (Holds : List Event → Type 0) (h : List Event) : Type 0 whe
   pub lost : List Event
   pub split : h ≡ front ++ lost
   pub held : Holds front
+
+-- from a byte of a part on these batches stand, up to a byte from which on no batch can be read
+record HoldsUpTo (part : Part) (from : ℕ) (h : List Event) : Type 0 where
+  pub at : ℕ
+  pub inside : at ≤ length part.bytes
+  pub held : HoldsFrom (bytes_before part at) from h
+  pub torn : IsUnreadableAt part at
 
 -- ---- bytes
 
@@ -40,32 +47,9 @@ module _ (part : Part) (n : ℕ) (few : n ≤ length part.bytes) where
   behind_split i le =
       ap (drop i) (sym (take-append-drop n part.bytes)) ∙ drop-append-le i (take n part.bytes) (drop n part.bytes) (let e = n_long in omega (arith, e, le))
 
-  -- what follows there follows in the whole part too
-  followed_more : (at : ℕ) → at ≤ n → IsFollowedAt (bytes_before part n) at → IsFollowedAt part at
-  followed_more at le f =
-      let long = n_long in
-      let inside = batch_inside (bytes_before part n) (at + f.len) f.items f.next f.stands in
-      let same : take f.next part.bytes ≡ take f.next (take n part.bytes) = sym (take-take f.next n part.bytes (omega (arith, inside.1, long))) in
-      record {
-        offset = f.offset;
-        len = f.len;
-        header = record {
-          compression = f.header.compression;
-          rest = f.header.rest ++ drop n part.bytes;
-          header = record {
-            front = f.header.header.front;
-            spells = f.header.header.spells;
-            split = behind_split at le ∙ ap (λ (t : List ℕ). t ++ drop n part.bytes) f.header.header.split ∙ append_assoc f.header.header.front f.header.rest (drop n part.bytes);
-          };
-        };
-        items = f.items;
-        next = f.next;
-        stands = stands_as (bytes_before part n) part.bytes (at + f.len) f.next f.items f.stands same;
-      }
-
   -- where no more batches are held
-  none_more : (at i : ℕ) → at ≤ length part.bytes → i ≡ length (take at part.bytes) → IsUnreadableAt part at → ¬ (IsFollowedAt part at) → i ≤ n → HoldsTornFrom (bytes_before part n) i []
-  none_more at i inside ends torn alone le =
+  none_more : (at i : ℕ) → at ≤ length part.bytes → i ≡ length (take at part.bytes) → IsUnreadableAt part at → i ≤ n → HoldsUpTo (bytes_before part n) i []
+  none_more at i inside ends torn le =
       let m = length-take-le at part.bytes inside in
       let long = n_long in
       let before : at ≤ n = omega (arith, m, ends, le) in
@@ -74,11 +58,10 @@ module _ (part : Part) (n : ℕ) (few : n ≤ length part.bytes) where
         inside = omega (arith, before, long);
         held = ends ∙ m ∙ sym (length-take-le at (take n part.bytes) (omega (arith, before, long)));
         torn = front_unreadable (drop at (take n part.bytes)) (drop n part.bytes) (drop at part.bytes) (part_signature part) (behind_split at before) torn;
-        unfollowed = λ f. alone (followed_more at before f);
       }
 
   -- where a batch ends behind the bytes
-  torn_batch : (i next : ℕ) (e : Event) → IsBatchAt part i e.items next → i ≤ n → n < next → HoldsTornFrom (bytes_before part n) i []
+  torn_batch : (i next : ℕ) (e : Event) → IsBatchAt part i e.items next → i ≤ n → n < next → HoldsUpTo (bytes_before part n) i []
   torn_batch i next e b le past =
       let long = n_long in
       let ends = b.ends in
@@ -94,15 +77,11 @@ module _ (part : Part) (n : ℕ) (few : n ≤ length part.bytes) where
         held = sym (length-take-le i (take n part.bytes) (omega (arith, le, long)));
         torn = shorter_unreadable b.bytes (drop i (take n part.bytes)) (drop (n - i) b.bytes) (part_signature part) (part_signature part) b.read (b.between, b.laid_out) split
             (omega (arith, short, ends, past, le));
-        unfollowed = λ f.
-            let named = named_end part i next e.items (drop i (take n part.bytes)) (drop n part.bytes) f.offset f.len b (behind_split i le) f.header in
-            let m = batch_inside (bytes_before part n) (i + f.len) f.items f.next f.stands in
-            absurd (omega (arith, named, m.0, m.1, long, past));
       }
 
   -- a batch in front of those that are held
   batch_more : (at i next : ℕ) (e : Event) (h : List Event) → e.file ≡ part.id → IsBatchAt (bytes_before part at) i e.items next → next ≤ at
-      → HoldsTornFrom (bytes_before part n) next h → HoldsTornFrom (bytes_before part n) i (e ∷ h)
+      → HoldsUpTo (bytes_before part n) next h → HoldsUpTo (bytes_before part n) i (e ∷ h)
   batch_more at i next e h file b before t =
       let m = held_inside (bytes_before (bytes_before part n) t.at) next h t.held in
       let long = length-take-le t.at (take n part.bytes) t.inside in
@@ -115,14 +94,13 @@ module _ (part : Part) (n : ℕ) (few : n ≤ length part.bytes) where
         inside = t.inside;
         held = (file, (next, stands_as (bytes_before part at) (take t.at (take n part.bytes)) i next e.items b same, t.held));
         torn = t.torn;
-        unfollowed = t.unfollowed;
       }
 
   -- the bytes up to this one hold a front of the batches
-  front_held : (at i : ℕ) (h : List Event) → at ≤ length part.bytes → HoldsFrom (bytes_before part at) i h → IsUnreadableAt part at → ¬ (IsFollowedAt part at) → i ≤ n
-      → FrontOf (λ f. HoldsTornFrom (bytes_before part n) i f) h
-  front_held at i [] inside ends torn alone le = record { front = []; lost = []; split = refl; held = none_more at i inside ends torn alone le }
-  front_held at i (e ∷ h) inside held torn alone le =
+  front_held : (at i : ℕ) (h : List Event) → at ≤ length part.bytes → HoldsFrom (bytes_before part at) i h → IsUnreadableAt part at → i ≤ n
+      → FrontOf (λ f. HoldsUpTo (bytes_before part n) i f) h
+  front_held at i [] inside ends torn le = record { front = []; lost = []; split = refl; held = none_more at i inside ends torn le }
+  front_held at i (e ∷ h) inside held torn le =
       elim (cases_lt n held.1.0) [
         | inl past ↦ record {
           front = [];
@@ -130,7 +108,7 @@ module _ (part : Part) (n : ℕ) (few : n ≤ length part.bytes) where
           split = refl;
           held = torn_batch i held.1.0 e (stands_as (bytes_before part at) part.bytes i held.1.0 e.items held.1.1 (sym (take-take held.1.0 at part.bytes ends))) le past;
         }
-        | inr within ↦ let r = front_held at held.1.0 h inside held.1.2 torn alone within in record {
+        | inr within ↦ let r = front_held at held.1.0 h inside held.1.2 torn within in record {
           front = e ∷ r.front;
           lost = r.lost;
           split = ap (λ (t : List Event). e ∷ t) r.split;
@@ -143,6 +121,25 @@ module _ (part : Part) (n : ℕ) (few : n ≤ length part.bytes) where
           let m = batch_inside (bytes_before part at) i e.items held.1.0 held.1.1 in
           let long = length-take-le at part.bytes inside in
           omega (arith, m.1, long)
+
+-- where they end the part is torn, where each of its ends is
+put_up_to : (part : Part) (n from : ℕ) (h : List Event) → n ≤ length part.bytes → IsBrokenWhereItEnds part from → HoldsUpTo (bytes_before part n) from h → ArePutFrom (bytes_before part n) from h
+put_up_to part n from h few broken t = record {
+  held = record {
+    at = t.at;
+    inside = t.inside;
+    held = t.held;
+    torn = t.torn;
+    undamaged = λ d. d.whole (broken n t.at (items_of h) few (stand_up_to (bytes_before part n) t.at from h t.inside t.held) t.torn);
+  };
+  broken = λ m at batches less stand torn.
+      let long = length-take-le n part.bytes few in
+      let low : m ≤ n = omega (arith, less, long) in
+      let same : take m (take n part.bytes) ≡ take m part.bytes = take-take m n part.bytes low in
+      subst (λ (xs : List ℕ). IsBrokenOff (with_all part xs) at) (sym same)
+      (broken m at batches (omega (arith, low, few)) (subst (λ (xs : List ℕ). StandBetween (with_all part xs) from at batches) same stand)
+      (subst (λ (xs : List ℕ). IsUnreadableAt (with_all part xs) at) same torn));
+}
 
 -- what is held of the bytes in front, and then from there on
 joined : (part : Part) (xs : List ℕ) (i : ℕ) (g h : List Event) → take (length xs) part.bytes ≡ xs → HoldsFrom (with_all part xs) i g → HoldsFrom part (length xs) h → HoldsFrom part i (g ++ h)
@@ -166,15 +163,16 @@ module _ (queue : LogQueue) (version : Version) where
       let long = ap length all ∙ length-append (file.1 ++ front) rest in
       let begins = length-append file.1 front in
       let same : take n (file.1 ++ bytes) ≡ file.1 ++ front = ap (take n) all ∙ take_at (file.1 ++ front) rest n refl in
-      let r = front_held part n (omega (arith, long)) t.at (length file.1) more t.inside t.held t.torn t.unfollowed (omega (arith, begins)) in
-      record { front = r.front; lost = r.lost; split = r.split; held = subst (λ (xs : List ℕ). HoldsTornFrom (with_all part xs) (length file.1) r.front) same r.held }
+      let r = front_held part n (omega (arith, long)) t.held.at (length file.1) more t.held.inside t.held.held t.held.torn (omega (arith, begins)) in
+      record { front = r.front; lost = r.lost; split = r.split; held = subst (λ (xs : List ℕ). ArePutFrom (with_all part xs) (length file.1) r.front) same (put_up_to part n (length file.1) r.front (omega (arith, long)) t.broken r.held) }
   put_front (file ∷ next ∷ files) bytes front rest more split t = put_front (next ∷ files) bytes front rest more split t
 
   -- with the bytes that were put, files hold the batches besides
   pub put_held : (files : List NumberedBytes) (bytes : List ℕ) (old more : List Event) → FilesHold queue version files old → AreBatchesPut queue version bytes files more
       → FilesHoldTorn queue version (put_behind bytes files) (old ++ more)
   put_held [] bytes old more none nothing = ap (λ (h : List Event). h ++ more) none ∙ nothing
-  put_held (file ∷ []) bytes old more a t =
+  put_held (file ∷ []) bytes old more a p =
+      let t = p.held in
       let part = whole_file queue version (file.0, file.1 ++ bytes) in
       let begins = held_inside (bytes_before part t.at) (length file.1) more t.held in
       let long = length-take-le t.at (file.1 ++ bytes) t.inside in
@@ -184,7 +182,7 @@ module _ (queue : LogQueue) (version : Version) where
         inside = t.inside;
         held = joined (bytes_before part t.at) file.1 0 old more same (one_file queue version file old a) t.held;
         torn = t.torn;
-        unfollowed = t.unfollowed;
+        undamaged = t.undamaged;
       }
   put_held (file ∷ next ∷ files) bytes old more a t =
       let n = length_on_last (λ (b : List ℕ). b ++ bytes) (next ∷ files) in
@@ -223,7 +221,7 @@ module _ (queue : LogQueue) (version : Version) where
   same_all synced h e = record { more = []; lost = []; least = sym e ∙ sym (append-nil synced); split = sym (append-nil h) }
 
   -- all batches are those that were synced, and more
-  all_front : (acts : List Act) (synced h : List Event) → ArePut queue version acts synced h → IsFrontWith synced h h
+  pub all_front : (acts : List Act) (synced h : List Event) → ArePut queue version acts synced h → IsFrontWith synced h h
   all_front [] synced h p = same_all synced h (p.0 ∙ sym p.1)
   all_front (Put bytes ∷ acts) synced h p =
       let r = all_front acts synced p.old p.before in

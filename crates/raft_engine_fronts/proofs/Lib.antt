@@ -1,10 +1,11 @@
 pub mod BatchPartLemmas
-pub mod FollowLemmas
+pub mod DamageLemmas
 pub mod TornLemmas
 pub mod FrontLemmas
 pub mod RestLemmas
 pub mod WrittenLemmas
 pub mod StepLemmas
+pub mod GoingOnLemmas
 pub mod FileLemmas
 pub mod NumberLemmas
 pub mod EventLemmas
@@ -14,3 +15,10 @@ pub mod RecordLemmas
 pub mod PlaceLemmas
 pub mod ToldLemmas
 pub mod ReadLemmas
+pub mod AnyTailLemmas
+pub mod AnyRestLemmas
+pub mod AnyDoneLemmas
+pub mod UnforgedLemmas
+pub mod EntryPlaceLemmas
+pub mod EndLemmas
+pub mod TableEntryLemmas

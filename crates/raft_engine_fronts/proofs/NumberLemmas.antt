@@ -6,7 +6,7 @@ use Rattle.std.specs.List.{AllByRecursion}
 use Rattle.raft_files.specs.Asks.{Act, Put, Begin, Sync, Delete, Cut, Found, Read}
 use Rattle.raft_files.specs.Disk.{NumberedBytes, on_last, put_behind, cut_last, begun, MayStand}
 use Rattle.raft_files.specs.Places.{IsNext}
-use Rattle.raft_engine_fronts.specs.Done.{numbers, AreRisingFrom, AreBelow}
+use Rattle.raft_engine_fronts.specs.Done.{numbers, AreRisingFrom, AreConsecutive, Follows, AreBelow}
 
 -- ---- the numbers of files that stand
 
@@ -69,6 +69,40 @@ pub rising_more : (n seq : ℕ) (files : List NumberedBytes) → AreRisingFrom n
 rising_more n seq [] r next l = (l, tt)
 rising_more n seq (f ∷ []) r next l = (r.0, ((let k : f.0 < seq = next in omega (arith, k)), tt))
 rising_more n seq (f ∷ g ∷ files) r next l = (r.0, rising_more (suc f.0) seq (g ∷ files) r.1 next (next_above n seq f (g ∷ files) r next))
+
+-- ---- consecutive numbers
+
+rises_behind : (m : ℕ) (ms : List ℕ) → AreConsecutive (m ∷ ms) → AreRisingFrom (suc m) ms
+rises_behind m [] c = tt
+rises_behind m (n ∷ ms) c = ((let next : n ≡ suc m = c.0 in omega (arith, next)), rises_behind n ms c.1)
+
+pub consecutive_rise : (ms : List ℕ) → AreConsecutive ms → AreRisingFrom 0 ms
+consecutive_rise [] c = tt
+consecutive_rise (m ∷ ms) c = (omega arith, rises_behind m ms c)
+
+pub consecutive_front : (ms rest : List ℕ) → AreConsecutive (ms ++ rest) → AreConsecutive ms
+consecutive_front [] rest c = tt
+consecutive_front (m ∷ []) rest c = tt
+consecutive_front (m ∷ n ∷ ms) rest c = (c.0, consecutive_front (n ∷ ms) rest c.1)
+
+consecutive_rest : (m : ℕ) (ms : List ℕ) → AreConsecutive (m ∷ ms) → AreConsecutive ms
+consecutive_rest m [] c = tt
+consecutive_rest m (n ∷ ms) c = c.1
+
+pub consecutive_drop : (count : ℕ) (ms : List ℕ) → AreConsecutive ms → AreConsecutive (drop count ms)
+consecutive_drop zero ms c = c
+consecutive_drop (suc count) [] c = tt
+consecutive_drop (suc count) (m ∷ ms) c = consecutive_drop count ms (consecutive_rest m ms c)
+
+pub consecutive_more : (seq : ℕ) (files : List NumberedBytes) → AreConsecutive (numbers files) → Follows seq files → AreConsecutive (numbers files ++ seq ∷ [])
+consecutive_more seq [] c follows = tt
+consecutive_more seq (f ∷ []) c follows = (follows, tt)
+consecutive_more seq (f ∷ g ∷ files) c follows = (c.0, consecutive_more seq (g ∷ files) c.1 follows)
+
+pub follows_next : (seq : ℕ) (files : List NumberedBytes) → Follows seq files → IsNext seq files
+follows_next seq [] follows = tt
+follows_next seq (f ∷ []) follows = let next : seq ≡ suc f.0 = follows in omega (arith, next)
+follows_next seq (f ∷ g ∷ files) follows = follows_next seq (g ∷ files) follows
 
 -- ---- those below a number
 

@@ -18,7 +18,7 @@ use Rattle.raft_engine_fronts.proofs.FrontLemmas.{all_held, front_left}
 
 -- ---- the oldest files are the same
 
-take_on_last : (change : List ℕ → List ℕ) (n : ℕ) (files : List NumberedBytes) → n < length files → take n (on_last change files) ≡ take n files
+pub take_on_last : (change : List ℕ → List ℕ) (n : ℕ) (files : List NumberedBytes) → n < length files → take n (on_last change files) ≡ take n files
 take_on_last change n [] lt = absurd (omega (arith, lt))
 take_on_last change zero (f ∷ []) lt = refl
 take_on_last change zero (f ∷ g ∷ files) lt = refl
@@ -64,7 +64,7 @@ module _ (queue : LogQueue) (version : Version) where
       each_cut (λ (file : NumberedBytes) (g : List Event). HoldsFrom (whole_file queue version file) 0 g) (take n (begun acts)) (drop n (begun acts)) h all
 
   -- the oldest files, and those behind them
-  oldest_held : (n : ℕ) (files : List NumberedBytes) (h : List Event) → n < length files → FilesHoldTorn queue version files h
+  pub oldest_held : (n : ℕ) (files : List NumberedBytes) (h : List Event) → n < length files → FilesHoldTorn queue version files h
       → AreHeldInTurn (FilesHold queue version (take n files)) (FilesHoldTorn queue version (drop n files)) h
   oldest_held n [] h lt t = absurd (omega (arith, lt))
   oldest_held zero (f ∷ files) h lt t = record { first = []; rest = h; first_held = refl; rest_held = t; split = refl }

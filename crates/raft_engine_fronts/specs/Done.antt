@@ -31,6 +31,18 @@ abbrev pub AreRisingFrom : ℕ → List ℕ → Type 0
 AreRisingFrom n [] = Unit {0}
 AreRisingFrom n (m ∷ ms) = (n ≤ m) × AreRisingFrom (suc m) ms
 
+-- each number is one above that before it
+abbrev pub AreConsecutive : List ℕ → Type 0
+AreConsecutive [] = Unit {0}
+AreConsecutive (m ∷ []) = Unit {0}
+AreConsecutive (m ∷ n ∷ ms) = (n ≡ suc m) × AreConsecutive (n ∷ ms)
+
+-- a number is one above that of the last file, if there is one
+abbrev pub Follows : ℕ → List NumberedBytes → Type 0
+Follows seq [] = Unit {0}
+Follows seq (file ∷ []) = seq ≡ suc file.0
+Follows seq (file ∷ next ∷ files) = Follows seq (next ∷ files)
+
 -- of these rising numbers just the first ones, so many, are below a number
 abbrev pub AreBelow : ℕ → ℕ → List ℕ → Type 0
 AreBelow n count [] = Unit {0}
@@ -38,13 +50,14 @@ AreBelow n zero (m ∷ ms) = n ≤ m
 AreBelow n (suc count) (m ∷ ms) = (m < n) × AreBelow n count ms
 
 -- What was asked of the files of a queue does these deeds. It puts the batches that were written, without those of files
--- below a number, which were gone when the machine started. The files' numbers rise from that one on, the last file is
+-- below a number, which were gone when the machine started. The files' numbers are consecutive, and none is below that one; the last file is
 -- never deleted, and the deleted files are those below the number that the deeds name.
 pub record AreDone (queue : LogQueue) (version : Version) (acts : List Act) (deeds : List Deed) : Type 0 where
   pub first : ℕ
   pub begins : first ≤ synced_deleted deeds
   pub put : ArePut queue version acts (in_files_from first (synced deeds)) (in_files_from first (written deeds))
   pub rising : AreRisingFrom first (numbers (begun acts))
+  pub consecutive : AreConsecutive (numbers (begun acts))
   pub stays : deletions acts ≤ length (begun acts) - 1
   pub gone : AreBelow (deleted deeds) (deletions acts) (numbers (begun acts))
   pub synced_gone : AreBelow (synced_deleted deeds) (synced_deletions acts) (numbers (begun acts))
@@ -73,12 +86,13 @@ LastFileIsNext =
     → AreDoneWhole queue version acts deeds → begun acts ≡ closed ++ last ∷ [] → e.file ≡ record { queue = queue; seq = last.0 }
     → AreInFile e.file e.items → HaveStatus queue e.items → IsNextIn queue deeds e
 
--- the files hold batches that may be left of a queue, but for a torn tail, and none of them is below the number of the files that are gone
+-- the files hold batches that may be left of a queue, but for a torn tail; their numbers are consecutive, and none of them is below the number of the files that are gone
 pub record HoldLeft (queue : LogQueue) (version : Version) (deeds : List Deed) (files : List NumberedBytes) : Type 0 where
   pub standing : List Event
   pub left : List Event
   pub is_left : IsLeft deeds standing left
   pub rising : AreRisingFrom is_left.gone (numbers files)
+  pub consecutive : AreConsecutive (numbers files)
   pub held : FilesHoldTorn queue version files left
 
 -- what is left of the files of both queues holds batches that can be read, and whatever tables a reading of them gives have the records that the batches which stand of the append queue make, from those that there were before

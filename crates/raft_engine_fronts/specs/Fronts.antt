@@ -10,14 +10,29 @@ use Rattle.raft_records.specs.Range.{AreInRange}
 use Rattle.raft_history.specs.Batches.{Event}
 use Rattle.raft_files.specs.Asks.{Act, Put, Begin, Sync, Delete, Cut, Found, Read, Ask, acts_on}
 use Rattle.raft_files.specs.Disk.{NumberedBytes, cut_last, begun, deletions, synced_deletions}
+use Rattle.raft_records.specs.FilePart.{Part, StandBetween}
+use Rattle.raft_replay.specs.Cuts.{bytes_before}
+use Rattle.raft_replay.specs.Stops.{IsUnreadableAt}
 use Rattle.raft_replay.specs.WrittenParts.{written_event}
 use Rattle.raft_recover.specs.Files.{FilesHold, whole_file}
+use Rattle.raft_tail.specs.Tails.{IsBrokenOff}
 use Rattle.raft_engine_fronts.specs.TornTails.{HoldsTornFrom, FilesHoldTorn}
+
+-- wherever the bytes of a part end from this one on, what stands where their reading stops is all that is left of one batch
+abbrev pub IsBrokenWhereItEnds : Part → ℕ → Type 0
+IsBrokenWhereItEnds part from =
+    (n at : ℕ) (batches : List (List Item)) → n ≤ length part.bytes → StandBetween (bytes_before part n) from at batches → IsUnreadableAt (bytes_before part n) at
+    → IsBrokenOff (bytes_before part n) at
+
+-- from a byte of a part on these batches were put, and may end in a torn tail: wherever a stop ends them one is broken off
+pub record ArePutFrom (part : Part) (from : ℕ) (h : List Event) : Type 0 where
+  pub held : HoldsTornFrom part from h
+  pub broken : IsBrokenWhereItEnds part from
 
 -- these bytes, put behind those of the last file, are these batches, one after the other, and may end in a torn tail
 abbrev pub AreBatchesPut : LogQueue → Version → List ℕ → List NumberedBytes → List Event → Type 0
 AreBatchesPut queue version bytes [] more = more ≡ []
-AreBatchesPut queue version bytes (file ∷ []) more = HoldsTornFrom (whole_file queue version (file.0, file.1 ++ bytes)) (length file.1) more
+AreBatchesPut queue version bytes (file ∷ []) more = ArePutFrom (whole_file queue version (file.0, file.1 ++ bytes)) (length file.1) more
 AreBatchesPut queue version bytes (file ∷ next ∷ files) more = AreBatchesPut queue version bytes (next ∷ files) more
 
 -- files that held some batches, and no torn tail, get bytes that are more batches
@@ -82,3 +97,19 @@ pub record HoldRestOfFront (queue : LogQueue) (version : Version) (asked : List 
   pub rest : List Event
   pub is_front : IsFrontWith synced h (deleted ++ rest)
   pub held : FilesHoldTorn queue version files rest
+
+-- an act that finds no files: these are found when the machine starts
+abbrev pub GoesOn : Act → Type 0
+GoesOn (Found files) = ⊥
+GoesOn _ = Unit {0}
+
+-- these batches are the first ones of those
+abbrev pub AreFirstOf : List Event → List Event → Type 0
+AreFirstOf h all = (more : List Event) × (all ≡ h ++ more)
+
+-- what was put before an act, and what was synced, are the first of the batches behind it
+abbrev pub PutsGoOn : Type 0
+PutsGoOn =
+    (queue : LogQueue) (version : Version) (act : Act) (acts : List Act) (synced h : List Event) → GoesOn act → ArePut queue version (act ∷ acts) synced h
+    → (synced' h' : List Event) → ArePut queue version acts synced' h'
+    → AreFirstOf h' h × AreFirstOf synced' synced

@@ -6,3 +6,7 @@ pub mod Fronts
 pub mod Done
 -- the contents of entries
 pub mod Contents
+-- where the bytes of entries stand and end
+pub mod EntryPlaces
+-- what is read on disks that write in any order
+pub mod AnyTails

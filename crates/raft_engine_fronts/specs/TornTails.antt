@@ -1,35 +1,35 @@
--- Files of which the last one may end in a torn tail: bytes behind its batches of which no front is a batch, with no batch behind them.
-use Rattle.std.specs.Prelude.{◌≡◌, ◌≢◌, ◌⊎◌, ℕ, ◌+◌, ◌<◌, ◌≤◌, List, [], ◌∷◌, length, drop, Option, Some, IfSome, MatchOption}
+-- Files of which the last one may end in a torn tail: bytes behind its batches of which no front is a batch, and which aren't damage.
+use Rattle.std.specs.Prelude.{◌≡◌, ◌≢◌, ◌⊎◌, ℕ, ◌<◌, ◌≤◌, List, [], ◌∷◌, length, Option, Some, IfSome, MatchOption}
 use Rattle.raft_base.specs.declared.errors.Error.{Error}
 use Rattle.raft_base.specs.declared.errors.Error.TheVariants as errors
 use Rattle.raft_base.specs.declared.pipe_log.LogQueue.{LogQueue}
 use Rattle.raft_base.specs.declared.pipe_log.Version.{Version}
-use Rattle.raft_records.specs.FilePart.{Part, AreBatchesUpTo, HasHeader, IsBatchAt}
-use Rattle.raft_records.specs.Item.{Item}
+use Rattle.raft_records.specs.FilePart.{Part, AreBatchesUpTo}
 use Rattle.raft_history.specs.Batches.{Event}
 use Rattle.raft_files.specs.Disk.{NumberedBytes}
 use Rattle.raft_replay.specs.Cuts.{bytes_before}
 use Rattle.raft_replay.specs.Segments.{AreHeldInTurn, HoldsFrom}
 use Rattle.raft_replay.specs.Stops.{IsUnreadableAt}
 use Rattle.raft_recover.specs.Files.{whole_file}
+use Rattle.raft_tail.specs.Tails.{IsBrokenOff, IsElsewhere, IsSoundAt}
 
--- at this byte of a part a header of a batch stands, and where it says that its batch ends, a batch that can be read
-pub record IsFollowedAt (part : Part) (at : ℕ) : Type 0 where
-  pub offset : ℕ
-  pub len : ℕ
-  pub header : HasHeader (drop at part.bytes) offset len
-  pub items : List Item
-  pub next : ℕ
-  pub stands : IsBatchAt part (at + len) items next
+-- from this byte of a part on a batch begins somewhere that can be read, or one that is signed for another file
+abbrev pub HasBatchesFrom : Part → ℕ → Type 0
+HasBatchesFrom part at = (i : ℕ) × (at ≤ i) × (IsSoundAt part i ⊎ IsElsewhere part i)
+
+-- damage begins at this byte of a part: what stands from there to the end isn't all that is left of one batch, and there are batches in it
+pub record IsDamagedAt (part : Part) (at : ℕ) : Type 0 where
+  pub whole : ¬ (IsBrokenOff part at)
+  pub batches : HasBatchesFrom part at
 
 -- From a byte of a part on these batches stand, one after the other, up to a byte from which on no batch can be read, and
--- no batch stands where a header there says that its batch ends.
+-- which isn't damage.
 pub record HoldsTornFrom (part : Part) (from : ℕ) (h : List Event) : Type 0 where
   pub at : ℕ
   pub inside : at ≤ length part.bytes
   pub held : HoldsFrom (bytes_before part at) from h
   pub torn : IsUnreadableAt part at
-  pub unfollowed : ¬ (IsFollowedAt part at)
+  pub undamaged : ¬ (IsDamagedAt part at)
 
 -- the batches of files, in order, of which the last may end in a torn tail
 abbrev pub FilesHoldTorn : LogQueue → Version → List NumberedBytes → List Event → Type 0

@@ -10,13 +10,12 @@ ghost use Rattle.raft_history.specs.Batches.{Event};
 ghost use Rattle.raft_history.specs.RegionSteps.{RegionStep, Tables};
 ghost use Rattle.raft_files.specs.Asks.{Act, Ask, Begin, Cut, Delete, Found, Read, Sync, acts_on};
 ghost use Rattle.raft_files.specs.Disk.{NumberedBytes, begun, deletions, IsLeftOf};
-ghost use Rattle.raft_files.specs.Places.{IsNext};
 ghost use Rattle.raft_engine_laws.specs.Records.{Records};
 ghost use Rattle.raft_engine_laws.specs.Stops as queue_deeds;
 ghost use Rattle.raft_engine_laws.specs.Stops.{Deed, Stop, deleted, in_files_from, IsSafe, IsSynced, LoseNothing};
 ghost use Rattle.raft_recover.specs.Files.{FilesHold, whole_file};
-ghost use Rattle.raft_engine_fronts.specs.TornTails.{FilesHoldTorn, IsFollowedAt, StopsAt};
-ghost use Rattle.raft_engine_fronts.specs.Done.{AreDone, AreDoneWhole, AreRisingFrom, HoldLeft, HoldRecords, LastFileIsNext, WrittenBatchIsDone, numbers};
+ghost use Rattle.raft_engine_fronts.specs.TornTails.{FilesHoldTorn, IsDamagedAt, StopsAt};
+ghost use Rattle.raft_engine_fronts.specs.Done.{AreDone, AreDoneWhole, AreConsecutive, AreRisingFrom, Follows, HoldLeft, HoldRecords, LastFileIsNext, WrittenBatchIsDone, numbers};
 
 /// States what each ask does to a queue: a written batch that is put is written; a sync is one; a new file does nothing,
 /// if all is synced, and its number is above the last one's and not among those of deleted files; the deletion of a file
@@ -29,7 +28,7 @@ pub fn asks_do_deeds()
     ensures synced { (queue : LogQueue) (version : Version) (acts : List Act) (deeds : List Deed)
         → AreDoneWhole queue version acts deeds → AreDoneWhole queue version (Sync ∷ acts) (queue_deeds.Sync ∷ deeds) }
     ensures begun { (queue : LogQueue) (version : Version) (acts : List Act) (deeds : List Deed) (seq : ℕ)
-        → AreDoneWhole queue version acts deeds → IsSynced deeds → IsNext seq (begun acts) → deleted deeds ≤ seq
+        → AreDoneWhole queue version acts deeds → IsSynced deeds → Follows seq (begun acts) → deleted deeds ≤ seq
         → AreDoneWhole queue version (Begin seq ∷ acts) deeds }
     ensures deleted { (queue : LogQueue) (version : Version) (acts : List Act) (deeds : List Deed)
         (gone rest : List NumberedBytes) (oldest next : NumberedBytes) (n : ℕ) → AreDoneWhole queue version acts deeds
@@ -38,10 +37,12 @@ pub fn asks_do_deeds()
     ensures found { (queue : LogQueue) (version : Version) (acts : List Act) (deeds : List Deed)
         (files : List NumberedBytes) (standing : List Event) (n : ℕ)
         → FilesHoldTorn queue version files (in_files_from n standing) → AreRisingFrom n (numbers files)
+        → AreConsecutive (numbers files)
         → AreDone queue version (Found files ∷ acts) (Stop standing n ∷ deeds) }
     ensures found_whole { (queue : LogQueue) (version : Version) (acts : List Act) (deeds : List Deed)
         (files : List NumberedBytes) (standing : List Event) (n : ℕ)
         → FilesHold queue version files (in_files_from n standing) → AreRisingFrom n (numbers files)
+        → AreConsecutive (numbers files)
         → AreDoneWhole queue version (Found files ∷ acts) (Stop standing n ∷ deeds) }
     ensures cut { (queue : LogQueue) (version : Version) (acts : List Act) (deeds : List Deed)
         (closed : List NumberedBytes) (last : NumberedBytes) (at : ℕ) → AreDone queue version acts deeds
@@ -62,13 +63,13 @@ pub fn files_that_are_left_hold_what_may_be_left()
         → HoldLeft queue version deeds files }
 {}
 
-/// States that no stop damages files: where a reader stops in the last file of those that are left, no batch stands
-/// behind the torn tail. So who refuses files in which one does never refuses what a stop left.
+/// States that no stop damages files: where a reader stops in the last file of those that are left, no damage begins. So
+/// who refuses files in which one does never refuses what a stop left.
 pub fn no_stop_damages_files()
     ensures { (queue : LogQueue) (version : Version) (asked : List Ask) (deeds : List Deed)
         (closed : List NumberedBytes) (last : NumberedBytes) (at : ℕ)
         → AreDone queue version (acts_on queue asked) deeds → IsLeftOf queue asked (closed ++ last ∷ [])
-        → StopsAt (whole_file queue version last) at → ¬ (IsFollowedAt (whole_file queue version last) at) }
+        → StopsAt (whole_file queue version last) at → ¬ (IsDamagedAt (whole_file queue version last) at) }
 {}
 
 /// States that no stop loses records: if what is done to both queues is safe, or merely loses nothing, whatever is left

@@ -11,7 +11,7 @@ ghost use Rattle.raft_files.specs.Disk.{NumberedBytes, begun, deletions, files_o
 ghost use Rattle.raft_replay.specs.Segments.{AreHeldInTurn};
 ghost use Rattle.raft_recover.specs.Files.{FilesHold, whole_file};
 ghost use Rattle.raft_engine_fronts.specs.TornTails.{FilesHoldTorn, StopsAt};
-ghost use Rattle.raft_engine_fronts.specs.Fronts.{ArePut, ArePutWhole, HoldFrontWith, HoldRestOfFront, WrittenBatchIsPut};
+ghost use Rattle.raft_engine_fronts.specs.Fronts.{ArePut, ArePutWhole, HoldFrontWith, HoldRestOfFront, PutsGoOn, WrittenBatchIsPut};
 
 /// States what each ask makes of the batches that were put: before the first there is none; a written batch that is put
 /// is one more; a sync, a new file
@@ -80,4 +80,9 @@ pub fn batches_lie_in_their_files()
         (h : List Event) → FilesHold queue version files h
         → AllByRecursion (λ (file : NumberedBytes). n ≤ file.0) files
         → AllByRecursion (λ (e : Event). n ≤ e.file.seq) h }
+{}
+
+/// States that the batches that were put, and those that were synced, are a front of those behind each further act.
+pub fn puts_go_on()
+    ensures { PutsGoOn }
 {}

@@ -2,7 +2,9 @@
 //! tail at most.
 #![tactic(auto)]
 
+pub mod any_tails;
 pub mod contents;
 pub mod done;
+pub mod entry_places;
 pub mod fronts;
 pub mod torn_tails;

@@ -70,3 +70,9 @@ pub mod WriteWords
 pub mod WrittenRegion
 pub mod WrittenSteps
 pub mod WrittenTables
+pub mod MarksTold
+pub mod TakenTables
+pub mod ToldTables
+pub mod BackLemmas
+pub mod RowJoins
+pub mod OwnFronts

@@ -49,7 +49,7 @@ pub record LeavesOf (kept : List Step) (own rewritten es : List EntryIndex) : Ty
   pub told : unspoken (kept ++ Compact (start_of es) ∷ []) rewritten ≡ left
 
 -- entries at or above an index stay from it on; those below it go
-all_from : (i : ℕ) (es : List EntryIndex) → Each (λ n. i ≤ n) es → from i es ≡ es
+pub all_from : (i : ℕ) (es : List EntryIndex) → Each (λ n. i ≤ n) es → from i es ≡ es
 unfolding from
 all_from i [] h = refl
 all_from i (e ∷ es) h = let t : nat_le i e.index ≡ true = (let k : i ≤ e.index = h.0 in grind (arith, nat_tests)) in rw t (ap (λ l. e ∷ l) (all_from i es h.1))
@@ -60,7 +60,7 @@ none_from i [] h = refl
 none_from i (e ∷ es) h = let t : nat_le i e.index ≡ false = (let k : e.index < i = h.0 in grind (arith, nat_tests)) in rw t (none_from i es h.1)
 
 -- a filter of a run is at or above its first entry
-rise_above : (s : ℕ) (es : List EntryIndex) → RisesFrom s es → Each (λ n. s ≤ n) es
+pub rise_above : (s : ℕ) (es : List EntryIndex) → RisesFrom s es → Each (λ n. s ≤ n) es
 rise_above s [] h = tt
 rise_above s (e ∷ es) h = (let k : e.index ≡ s = h.0 in omega (arith, k), weaker es (rise_above (suc s) es h.1))
   where

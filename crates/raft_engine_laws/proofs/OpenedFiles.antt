@@ -1,5 +1,5 @@
 -- Any files that could be read: once the rewrite queue is told, the tables that were found are kept.
-use Rattle.std.proofs.Common.{◌≡◌, ℕ, List, [], ◌∷◌, ◌++◌, Option, Some, None, refl, sym, ap, subst, ◌∙◌}
+use Rattle.std.proofs.Common.{◌≡◌, ℕ, List, [], ◌∷◌, ◌++◌, Option, Some, None, inl, inr, refl, sym, ap, subst, ◌∙◌}
 use Rattle.std.specs.Option.{option_and_then}
 use Rattle.std.specs.FinMap as finite
 use Rattle.raft_base.specs.declared.entry_index.EntryIndex.{EntryIndex}
@@ -9,27 +9,38 @@ use Rattle.raft_table.specs.Overlay.{overlay}
 use Rattle.raft_table.specs.Steps.{Step, Compact, table_of, after}
 use Rattle.raft_table.specs.Table.{Table}
 use Rattle.raft_table.specs.TableEntries.{AreTableEntries, start_of}
+use Rattle.raft_table.proofs.MarkEntries.{same_some}
 use Rattle.raft_table.proofs.MarkLaws.{after-append}
 use Rattle.raft_table.proofs.MarkRuns.{no_table, table_after}
 use Rattle.raft_history.specs.Batches.{Event, batches}
 use Rattle.raft_history.specs.BothQueues.{IsReadingOfBoth}
 use Rattle.raft_history.specs.Effects.{steps_of}
 use Rattle.raft_history.specs.Histories.{IsSoundIn, HaveStatus, Apart}
-use Rattle.raft_history.specs.RegionSteps.{Tables, steps_on, steps_of_items, tables_after}
+use Rattle.raft_history.specs.RegionSteps.{RegionStep, Tables, steps_on, steps_of_items, tables_after}
 use Rattle.raft_history.proofs.ReadingLemmas.{reading_by_region}
 use Rattle.raft_history.proofs.SoundLemmas.{files-append, in_files-append, status-append, steps_good}
 use Rattle.raft_history.proofs.StepListLemmas.{own_none}
 use Rattle.raft_engine_laws.specs.Groups.{HasNoMarker}
 use Rattle.raft_engine_laws.specs.KeptRegions.{IsRegionKept}
 use Rattle.raft_engine_laws.specs.KeptTables.{AreKept}
+use Rattle.raft_engine_laws.specs.MarksTold.{MayBeToldLater, IsToldNowOrLater}
+use Rattle.raft_engine_laws.specs.MovedRecords.{AreMoved}
 use Rattle.raft_engine_laws.specs.NextBatches.{IsRewrittenNext}
-use Rattle.raft_engine_laws.specs.Speaking.{is_index_spoken}
-use Rattle.raft_engine_laws.specs.Telling.{AreRemovals, SayAllAtOpening}
+use Rattle.raft_engine_laws.specs.Speaking.{unspoken}
+use Rattle.raft_engine_laws.specs.Telling.{AreRemovals, SayEnoughAtOpening}
 use Rattle.raft_engine_laws.proofs.BothTables.{both_records}
-use Rattle.raft_engine_laws.proofs.OpenedTables.{opened_kept}
+use Rattle.raft_engine_laws.proofs.OpenedTables.{opened_kept, later_kept, again_nothing}
+use Rattle.raft_engine_laws.proofs.FoundTables.{kept_found}
 use Rattle.raft_engine_laws.proofs.QueueSteps.{read_places, read_files, read_pairs}
 use Rattle.raft_engine_laws.proofs.RewriteReadings.{plain_more, steps_taken, reading_of}
 use Rattle.raft_engine_laws.proofs.SameRecords.{HasRecordsOf, kept_records}
+
+-- entries that moved begin where they did
+pub moved_start : (content : EntryIndex → List ℕ) (es others : List EntryIndex) → AreMoved content es others → start_of others ≡ start_of es
+moved_start content [] [] h = refl
+moved_start content (k ∷ es) (e ∷ others) h = sym h.0.0.0
+moved_start content [] (e ∷ others) h = absurd h
+moved_start content (k ∷ es) [] h = absurd h
 
 module _ (content : EntryIndex → List ℕ) (append rewrite : List Event) (found : Tables) (cleaned : List ℕ) (sound_append : IsSoundIn Append append) (sound_rewrite : IsSoundIn Rewrite rewrite)
     (both : IsReadingOfBoth rewrite append found cleaned) (sound : (r : ℕ) → AreTableEntries (table_of r (finite.get found r)).entries) where
@@ -40,22 +51,49 @@ module _ (content : EntryIndex → List ℕ) (append rewrite : List Event) (foun
   records r = both_records append rewrite found cleaned both r
 
   -- a region, once it is told
-  region : (r : ℕ) (told : List Step) (put : Option Table) → AreRemovals told → SayAllAtOpening (kept r) told (table_of r (finite.get found r)) → after Rewrite r (finite.get both.rewritten r) told ≡ Some put
+  region : (r : ℕ) (told : List Step) (put : Option Table) → AreRemovals told → SayEnoughAtOpening (kept r) told (table_of r (finite.get both.rewritten r)) (table_of r (finite.get found r)) → after Rewrite r (finite.get both.rewritten r) told ≡ Some put
       → IsRegionKept content r (kept r) [] (table_of r put) (table_of r (finite.get found r))
   region r told put removals says puts =
       let same = (records r).entries in
       kept_records content r (kept r) [] (table_of r put) (overlay (kept r) (table_of r (finite.get both.appended r)) (table_of r (finite.get both.rewritten r))) (table_of r (finite.get found r)) (records r)
-      (opened_kept content r (kept r) (finite.get both.appended r) (finite.get both.rewritten r) put (steps_good r append sound_append.items) (both.append_read.tables_read r)
+      (opened_kept content r (kept r) (finite.get both.appended r) (finite.get both.rewritten r) (steps_good r append sound_append.items) (both.append_read.tables_read r)
       (table_after Rewrite r None (finite.get both.rewritten r) (steps_of r (batches rewrite)) (steps_good r rewrite sound_rewrite.items) (no_table r) (both.rewrite_read.tables_read r)).run
       (subst AreTableEntries same (sound r))
       (read_places Append r append (finite.get both.appended r) sound_append (both.append_read.tables_read r))
       (read_places Rewrite r rewrite (finite.get both.rewritten r) sound_rewrite (both.rewrite_read.tables_read r))
       (read_files Append r append (finite.get both.appended r) sound_append (both.append_read.tables_read r))
       (read_pairs Rewrite r rewrite (finite.get both.rewritten r) sound_rewrite (both.rewrite_read.tables_read r))
-      told removals (λ i. says.indexes i ∙ ap (λ l. is_index_spoken (kept r ++ Compact (start_of l) ∷ []) i) same) says.keys puts)
+      put told removals (record { entries = says.entries ∙ ap (λ l. unspoken (kept r ++ Compact (start_of l) ∷ []) (table_of r (finite.get both.rewritten r)).entries) same; pairs = says.pairs }) puts)
+
+  -- a region, before it is told
+  region_later : (r : ℕ) (untold : List Step) → MayBeToldLater (kept r) untold (table_of r (finite.get both.rewritten r)) (table_of r (finite.get found r))
+      → IsRegionKept content r (kept r) untold (table_of r (finite.get both.rewritten r)) (table_of r (finite.get found r))
+  region_later r untold later =
+      let same = (records r).entries in
+      kept_records content r (kept r) untold (table_of r (finite.get both.rewritten r)) (overlay (kept r) (table_of r (finite.get both.appended r)) (table_of r (finite.get both.rewritten r))) (table_of r (finite.get found r)) (records r)
+      (later_kept content r (kept r) (finite.get both.appended r) (finite.get both.rewritten r) (steps_good r append sound_append.items) (both.append_read.tables_read r)
+      (table_after Rewrite r None (finite.get both.rewritten r) (steps_of r (batches rewrite)) (steps_good r rewrite sound_rewrite.items) (no_table r) (both.rewrite_read.tables_read r)).run
+      (subst AreTableEntries same (sound r))
+      (read_places Append r append (finite.get both.appended r) sound_append (both.append_read.tables_read r))
+      (read_places Rewrite r rewrite (finite.get both.rewritten r) sound_rewrite (both.rewrite_read.tables_read r))
+      (read_files Append r append (finite.get both.appended r) sound_append (both.append_read.tables_read r))
+      (read_pairs Rewrite r rewrite (finite.get both.rewritten r) sound_rewrite (both.rewrite_read.tables_read r))
+      untold (record { joins = ap (λ l. unspoken (kept r ++ Compact (start_of l) ∷ []) (table_of r (finite.get both.rewritten r)).entries) (sym same) ∙ later.joins; entries = later.entries; covers = later.covers; pairs = later.pairs; pair_covers = later.pair_covers }))
+
+  -- where all may be told later
+  pub opened_later : Apart rewrite → (untold : List RegionStep) → ((r : ℕ) → MayBeToldLater (kept r) (steps_on r untold) (table_of r (finite.get both.rewritten r)) (table_of r (finite.get found r)))
+      → AreKept content append rewrite untold found
+  opened_later apart untold later = record {
+    append_sound = sound_append;
+    rewrite_sound = sound_rewrite;
+    apart = apart;
+    rewritten = both.rewritten;
+    read = both.rewrite_read;
+    each = λ r. region_later r (steps_on r untold) (later r);
+  }
 
   -- where there is nothing to tell
-  pub opened_untold : Apart rewrite → ((r : ℕ) → SayAllAtOpening (kept r) [] (table_of r (finite.get found r))) → AreKept content append rewrite [] found
+  pub opened_untold : Apart rewrite → ((r : ℕ) → SayEnoughAtOpening (kept r) [] (table_of r (finite.get both.rewritten r)) (table_of r (finite.get found r))) → AreKept content append rewrite [] found
   opened_untold apart none = record {
     append_sound = sound_append;
     rewrite_sound = sound_rewrite;
@@ -65,8 +103,7 @@ module _ (content : EntryIndex → List ℕ) (append rewrite : List Event) (foun
     each = λ r. subst (λ l. IsRegionKept content r (kept r) l (table_of r (finite.get both.rewritten r)) (table_of r (finite.get found r))) (sym (own_none r)) (region r [] (finite.get both.rewritten r) tt (none r) refl);
   }
 
-  module _ (e : Event) (next : IsRewrittenNext rewrite e) (plain : HasNoMarker e)
-      (removals : (r : ℕ) → AreRemovals (steps_on r (steps_of_items e.items))) (told : (r : ℕ) → SayAllAtOpening (kept r) (steps_on r (steps_of_items e.items)) (table_of r (finite.get found r))) where
+  module _ (e : Event) (next : IsRewrittenNext rewrite e) (plain : HasNoMarker e) where
     later : (n : Tables) × (tables_after Rewrite both.rewritten (steps_of_items e.items) ≡ Some n)
     later = steps_taken both.rewritten (steps_of_items e.items)
 
@@ -79,8 +116,9 @@ module _ (content : EntryIndex → List ℕ) (append rewrite : List Event) (foun
         ∙ after-append Rewrite r None (steps_of r (batches rewrite)) (steps_on r (steps_of_items e.items))
         ∙ ap (option_and_then (λ u. after Rewrite r u (steps_on r (steps_of_items e.items)))) (both.rewrite_read.tables_read r) ∙ put_by_region r
 
-    pub opened : AreKept content append (rewrite ++ e ∷ []) [] found
-    opened = record {
+    opened_with : (untold : List RegionStep) → ((r : ℕ) → IsRegionKept content r (kept r) (steps_on r untold) (table_of r (finite.get later.0 r)) (table_of r (finite.get found r)))
+        → AreKept content append (rewrite ++ e ∷ []) untold found
+    opened_with untold regions = record {
       append_sound = sound_append;
       rewrite_sound = record {
         files = files-append Rewrite 0 rewrite (e ∷ []) sound_rewrite.files (next.queue, next.follows, tt);
@@ -91,6 +129,43 @@ module _ (content : EntryIndex → List ℕ) (append rewrite : List Event) (foun
       apart = next.apart;
       rewritten = later.0;
       read = reading_of (rewrite ++ e ∷ []) later.0 read_more;
-      each = λ r. subst (λ l. IsRegionKept content r (kept r) l (table_of r (finite.get later.0 r)) (table_of r (finite.get found r)))
-          (sym (own_none r)) (region r (steps_on r (steps_of_items e.items)) (finite.get later.0 r) (removals r) (told r) (put_by_region r));
+      each = regions;
     }
+
+    -- some regions are told all now, and all may be told later of the others
+    pub opened_mixed : (untold : List RegionStep)
+        → ((r : ℕ) → IsToldNowOrLater (kept r) (steps_on r (steps_of_items e.items)) (steps_on r untold) (table_of r (finite.get both.rewritten r)) (table_of r (finite.get found r)))
+        → AreKept content append (rewrite ++ e ∷ []) untold found
+    opened_mixed untold each = opened_with untold (λ r. go r (each r))
+      where
+        go : (r : ℕ) → IsToldNowOrLater (kept r) (steps_on r (steps_of_items e.items)) (steps_on r untold) (table_of r (finite.get both.rewritten r)) (table_of r (finite.get found r))
+            → IsRegionKept content r (kept r) (steps_on r untold) (table_of r (finite.get later.0 r)) (table_of r (finite.get found r))
+        go r (inl now) = subst (λ l. IsRegionKept content r (kept r) l (table_of r (finite.get later.0 r)) (table_of r (finite.get found r)))
+            (sym now.none) (region r (steps_on r (steps_of_items e.items)) (finite.get later.0 r) now.removals now.says (put_by_region r))
+        go r (inr then) = subst (λ o. IsRegionKept content r (kept r) (steps_on r untold) (table_of r o) (table_of r (finite.get found r)))
+            (same_some _ _ (sym (ap (after Rewrite r (finite.get both.rewritten r)) then.0) ∙ put_by_region r))
+            (region_later r (steps_on r untold) then.1)
+
+    module _ (removals : (r : ℕ) → AreRemovals (steps_on r (steps_of_items e.items))) (told : (r : ℕ) → SayEnoughAtOpening (kept r) (steps_on r (steps_of_items e.items)) (table_of r (finite.get both.rewritten r)) (table_of r (finite.get found r))) where
+      pub opened : AreKept content append (rewrite ++ e ∷ []) [] found
+      opened = opened_with [] (λ r. subst (λ l. IsRegionKept content r (kept r) l (table_of r (finite.get later.0 r)) (table_of r (finite.get found r)))
+          (sym (own_none r)) (region r (steps_on r (steps_of_items e.items)) (finite.get later.0 r) (removals r) (told r) (put_by_region r)))
+
+      -- a reading once it is told tells nothing more
+      pub nothing_again : (others : Tables) (cleaned' : List ℕ) (too : IsReadingOfBoth (rewrite ++ e ∷ []) append others cleaned')
+          → (r : ℕ) → SayEnoughAtOpening (kept r) [] (table_of r (finite.get too.rewritten r)) (table_of r (finite.get others r))
+      nothing_again others cleaned' too r =
+          subst (λ o. SayEnoughAtOpening (kept r) [] (table_of r o) (table_of r (finite.get others r)))
+          (same_some _ _ (sym (read_more r) ∙ too.rewrite_read.tables_read r))
+          (again_nothing content r (kept r) (finite.get both.appended r) (finite.get both.rewritten r) (steps_good r append sound_append.items) (both.append_read.tables_read r)
+          (table_after Rewrite r None (finite.get both.rewritten r) (steps_of r (batches rewrite)) (steps_good r rewrite sound_rewrite.items) (no_table r) (both.rewrite_read.tables_read r)).run
+          (subst AreTableEntries (records r).entries (sound r))
+          (read_places Append r append (finite.get both.appended r) sound_append (both.append_read.tables_read r))
+          (read_places Rewrite r rewrite (finite.get both.rewritten r) sound_rewrite (both.rewrite_read.tables_read r))
+          (read_files Append r append (finite.get both.appended r) sound_append (both.append_read.tables_read r))
+          (read_pairs Rewrite r rewrite (finite.get both.rewritten r) sound_rewrite (both.rewrite_read.tables_read r))
+          (finite.get later.0 r) (steps_on r (steps_of_items e.items)) (removals r)
+          (record { entries = (told r).entries ∙ ap (λ l. unspoken (kept r ++ Compact (start_of l) ∷ []) (table_of r (finite.get both.rewritten r)).entries) (records r).entries; pairs = (told r).pairs })
+          (put_by_region r) (table_of r (finite.get others r))
+          (moved_start content (table_of r (finite.get found r)).entries (table_of r (finite.get others r)).entries ((kept_found content append (rewrite ++ e ∷ []) [] found others cleaned' opened too).entries r)
+          ∙ ap start_of (records r).entries))

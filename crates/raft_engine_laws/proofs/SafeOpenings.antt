@@ -7,32 +7,34 @@ use Rattle.raft_base.specs.declared.pipe_log.LogQueue.TheVariants.{Append, Rewri
 use Rattle.raft_base.specs.Runs.{IsRun}
 use Rattle.raft_table.specs.KeyValues.{Stored}
 use Rattle.raft_table.specs.Overlay.{overlay, overlaid_table}
-use Rattle.raft_table.specs.Steps.{Step, AreSteps, table_of}
+use Rattle.raft_table.specs.Steps.{Step, Compact, AreSteps, table_of}
 use Rattle.raft_table.specs.Table.{Table}
-use Rattle.raft_table.specs.TableEntries.{AreTableEntries}
+use Rattle.raft_table.specs.TableEntries.{AreTableEntries, start_of}
 use Rattle.raft_table.proofs.MarkEntries.{same_some}
 use Rattle.raft_table.proofs.MarkRuns.{no_table, table_after}
 use Rattle.raft_history.specs.Batches.{Event, batches}
 use Rattle.raft_history.specs.BothQueues.{IsReadingOfBoth}
 use Rattle.raft_history.specs.Effects.{steps_of, is_named}
 use Rattle.raft_history.specs.Histories.{FilesFrom, Apart, IsSoundIn}
-use Rattle.raft_history.specs.RegionSteps.{Tables, steps_on, steps_of_items}
+use Rattle.raft_history.specs.RegionSteps.{RegionStep, Tables, steps_on, steps_of_items}
 use Rattle.raft_history.proofs.SoundLemmas.{steps_good}
 use Rattle.raft_engine_laws.specs.Groups.{HasNoMarker}
 use Rattle.raft_engine_laws.specs.KeptTables.{AreKept}
+use Rattle.raft_engine_laws.specs.MarksTold.{MayBeToldLater, IsToldNowOrLater}
 use Rattle.raft_engine_laws.specs.NextBatches.{IsRewrittenNext}
 use Rattle.raft_engine_laws.specs.Records.{Records, entries_told, after_changes, live, HasRecords, HaveRecords}
 use Rattle.raft_engine_laws.specs.Stops.{Deed, Write, Sync, Stop, written, deleted, MayStand, in_files_from, IsLeft, IsNextIn, LoseNothing, IsSafe}
-use Rattle.raft_engine_laws.specs.Telling.{AreRemovals, SayAllAtOpening}
+use Rattle.raft_engine_laws.specs.Telling.{AreRemovals, SayAllAtOpening, SayEnoughAtOpening}
 use Rattle.raft_engine_laws.proofs.BaseRecords as before
 use Rattle.raft_engine_laws.proofs.BothTables.{both_records}
 use Rattle.raft_engine_laws.proofs.FoundTables.{kept_found}
 use Rattle.raft_engine_laws.proofs.GroupRows.{alone_apart}
-use Rattle.raft_engine_laws.proofs.OpenedFiles.{opened, opened_untold}
+use Rattle.raft_engine_laws.proofs.OpenedFiles.{opened, opened_untold, opened_later, opened_mixed}
 use Rattle.raft_engine_laws.proofs.RecordLemmas.{found_have}
 use Rattle.raft_engine_laws.proofs.Reopened.{all_steps}
 use Rattle.raft_engine_laws.proofs.SameRecords.{HasRecordsOf}
 use Rattle.raft_engine_laws.proofs.StopLemmas.{all_from}
+use Rattle.raft_engine_laws.proofs.UnspokenLemmas.{unspoken_same}
 
 -- where no file is deleted, all is left that stands
 all_left : (q : LogQueue) (deeds : List Deed) (h k : List Event) (n : ℕ) → FilesFrom q 0 h → deleted deeds ≡ 0 → n ≤ deleted deeds → k ≡ h → in_files_from n k ≡ h
@@ -89,10 +91,10 @@ module _ (append rewrite : List Event) (found : Tables) (cleaned : List ℕ) (so
       has = λ tables cleaned too r. subst (λ (o : Option Table). HasRecords content (table_of r o) (live content (base content) append r)) (sym (same_found tables cleaned too r)) (found_live r);
     }
 
-    as_kept : (w : List Event) → AreKept content append w [] found → GoesOn append w (live content (base content) append)
-    as_kept w h = record {
+    as_kept : (untold : List RegionStep) (w : List Event) → AreKept content append w untold found → GoesOn append w (live content (base content) append)
+    as_kept untold w h = record {
       readable = (h.append_sound, h.rewrite_sound, h.apart);
-      has = λ tables cleaned too. found_have content found tables (live content (base content) append) (kept_found content append w [] found tables cleaned h too) found_live;
+      has = λ tables cleaned too. found_have content found tables (live content (base content) append) (kept_found content append w untold found tables cleaned h too) found_live;
     }
 
     append_left : (standing a : List Event) → IsLeft (Stop append 0 ∷ []) standing a → a ≡ append
@@ -111,9 +113,9 @@ module _ (append rewrite : List Event) (found : Tables) (cleaned : List ℕ) (so
             (subst (λ l. GoesOn append w (live content (base content) l)) (sym x.stands) (goes others w y))
 
     -- tables that are kept, whatever is left, are safe
-    safe_by : (deeds : List Deed) (w : List Event) → AreKept content append w [] found → FilesFrom Rewrite 0 w → written deeds ≡ w → deleted deeds ≡ 0 → ((h : List Event) → MayStand deeds h → h ≡ w)
-        → IsSafe content (base content) (Stop append 0 ∷ []) deeds [] found
-    safe_by deeds w h files all none stands = record {
+    safe_by : (untold : List RegionStep) (deeds : List Deed) (w : List Event) → AreKept content append w untold found → FilesFrom Rewrite 0 w → written deeds ≡ w → deleted deeds ≡ 0 → ((h : List Event) → MayStand deeds h → h ≡ w)
+        → IsSafe content (base content) (Stop append 0 ∷ []) deeds untold found
+    safe_by untold deeds w h files all none stands = record {
       append_files = sound_append.files;
       rewrite_files = subst (FilesFrom Rewrite 0) (sym all) files;
       has = found_live;
@@ -121,15 +123,15 @@ module _ (append rewrite : List Event) (found : Tables) (cleaned : List ℕ) (so
           (all_left Append (Stop append 0 ∷ []) append append m sound_append.files refl g.at_most refl)
           (all_left Rewrite deeds w (written deeds) n files none k.at_most all);
       left = λ standing a others q x y. record {
-        untold = [];
+        untold = untold;
         tables = found;
         kept = to a q (append_left standing a x) (y.left ∙ all_left Rewrite deeds w others y.gone files none y.may_go.at_most (stands others y.stands));
         has = subst (λ l. HaveRecords content found (live content (base content) l)) (sym x.stands) found_live;
       };
     }
       where
-        to : (a q : List Event) → a ≡ append → q ≡ w → AreKept content a q [] found
-        to a q e f = subst (λ l. AreKept content l q [] found) (sym e) (subst (λ l. AreKept content append l [] found) (sym f) h)
+        to : (a q : List Event) → a ≡ append → q ≡ w → AreKept content a q untold found
+        to a q e f = subst (λ l. AreKept content l q untold found) (sym e) (subst (λ l. AreKept content append l untold found) (sym f) h)
 
     rewrite_left : (others w : List Event) → IsLeft (Stop rewrite 0 ∷ []) others w → w ≡ rewrite
     rewrite_left others w x = x.left ∙ all_left Rewrite (Stop rewrite 0 ∷ []) rewrite others x.gone sound_rewrite.files refl x.may_go.at_most x.stands
@@ -138,27 +140,57 @@ module _ (append rewrite : List Event) (found : Tables) (cleaned : List ℕ) (so
     at_first = loses (Stop rewrite 0 ∷ []) (λ others w x. subst (λ l. GoesOn append l (live content (base content) append)) (sym (rewrite_left others w x)) as_found)
 
     -- where there is nothing to tell
-    pub safe_at_once : ((r : ℕ) → SayAllAtOpening (kept r) [] (table_of r (finite.get found r))) → IsSafe content (base content) (Stop append 0 ∷ []) (Stop rewrite 0 ∷ []) [] found
-    safe_at_once none = safe_by (Stop rewrite 0 ∷ []) rewrite (opened_untold content append rewrite found cleaned sound_append sound_rewrite both sound apart none) sound_rewrite.files refl refl (λ h x. x)
+    pub safe_at_once : ((r : ℕ) → SayEnoughAtOpening (kept r) [] (table_of r (finite.get both.rewritten r)) (table_of r (finite.get found r))) → IsSafe content (base content) (Stop append 0 ∷ []) (Stop rewrite 0 ∷ []) [] found
+    safe_at_once none = safe_by [] (Stop rewrite 0 ∷ []) rewrite (opened_untold content append rewrite found cleaned sound_append sound_rewrite both sound apart none) sound_rewrite.files refl refl (λ h x. x)
 
-    module _ (e : Event) (next : IsNextIn Rewrite (Stop rewrite 0 ∷ []) e) (plain : HasNoMarker e)
-        (removals : (r : ℕ) → AreRemovals (steps_on r (steps_of_items e.items))) (told : (r : ℕ) → SayAllAtOpening (kept r) (steps_on r (steps_of_items e.items)) (table_of r (finite.get found r))) where
+    -- where all may be told later
+    pub safe_later : (untold : List RegionStep) → ((r : ℕ) → MayBeToldLater (kept r) (steps_on r untold) (table_of r (finite.get both.rewritten r)) (table_of r (finite.get found r)))
+        → IsSafe content (base content) (Stop append 0 ∷ []) (Stop rewrite 0 ∷ []) untold found
+    safe_later untold later = safe_by untold (Stop rewrite 0 ∷ []) rewrite (opened_later content append rewrite found cleaned sound_append sound_rewrite both sound apart untold later) sound_rewrite.files refl refl (λ h x. x)
+
+    module _ (e : Event) (next : IsNextIn Rewrite (Stop rewrite 0 ∷ []) e) (plain : HasNoMarker e) where
       next_is : IsRewrittenNext rewrite e
       next_is = record { queue = next.queue_is; follows = next.follows; in_file = next.in_file; status = next.status; apart = alone_apart rewrite e plain apart }
 
-      after_telling : AreKept content append (rewrite ++ e ∷ []) [] found
-      after_telling = opened content append rewrite found cleaned sound_append sound_rewrite both sound e next_is plain removals told
+      module _ (untold : List RegionStep) (after_telling : AreKept content append (rewrite ++ e ∷ []) untold found) where
+        -- once the rewrite queue is told and synced
+        safe_as : IsSafe content (base content) (Stop append 0 ∷ []) (Sync ∷ Write e ∷ Stop rewrite 0 ∷ []) untold found
+        safe_as = safe_by untold (Sync ∷ Write e ∷ Stop rewrite 0 ∷ []) (rewrite ++ e ∷ []) after_telling after_telling.rewrite_sound.files refl refl (λ h x. x)
 
-      -- once the rewrite queue is told and synced
-      pub safe_told : IsSafe content (base content) (Stop append 0 ∷ []) (Sync ∷ Write e ∷ Stop rewrite 0 ∷ []) [] found
-      safe_told = safe_by (Sync ∷ Write e ∷ Stop rewrite 0 ∷ []) (rewrite ++ e ∷ []) after_telling after_telling.rewrite_sound.files refl refl (λ h x. x)
+        -- and before that
+        while_as : LoseNothing content (base content) (Stop append 0 ∷ []) (Write e ∷ Stop rewrite 0 ∷ [])
+        while_as = loses (Write e ∷ Stop rewrite 0 ∷ []) (λ others w x. go others w x x.stands)
+          where
+            go : (others w : List Event) → (x : IsLeft (Write e ∷ Stop rewrite 0 ∷ []) others w) → (others ≡ rewrite) ⊎ (others ≡ rewrite ++ e ∷ []) → GoesOn append w (live content (base content) append)
+            go others w x (inl s) = subst (λ l. GoesOn append l (live content (base content) append)) (sym (x.left ∙ all_left Rewrite (Write e ∷ Stop rewrite 0 ∷ []) rewrite others x.gone sound_rewrite.files refl x.may_go.at_most s)) as_found
+            go others w x (inr s) = subst (λ l. GoesOn append l (live content (base content) append))
+                (sym (x.left ∙ all_left Rewrite (Write e ∷ Stop rewrite 0 ∷ []) (rewrite ++ e ∷ []) others x.gone after_telling.rewrite_sound.files refl
+                x.may_go.at_most s)) (as_kept untold (rewrite ++ e ∷ []) after_telling)
 
-      -- and before that
-      pub while_told : LoseNothing content (base content) (Stop append 0 ∷ []) (Write e ∷ Stop rewrite 0 ∷ [])
-      while_told = loses (Write e ∷ Stop rewrite 0 ∷ []) (λ others w x. go others w x x.stands)
-        where
-          go : (others w : List Event) → (x : IsLeft (Write e ∷ Stop rewrite 0 ∷ []) others w) → (others ≡ rewrite) ⊎ (others ≡ rewrite ++ e ∷ []) → GoesOn append w (live content (base content) append)
-          go others w x (inl s) = subst (λ l. GoesOn append l (live content (base content) append)) (sym (x.left ∙ all_left Rewrite (Write e ∷ Stop rewrite 0 ∷ []) rewrite others x.gone sound_rewrite.files refl x.may_go.at_most s)) as_found
-          go others w x (inr s) = subst (λ l. GoesOn append l (live content (base content) append))
-              (sym (x.left ∙ all_left Rewrite (Write e ∷ Stop rewrite 0 ∷ []) (rewrite ++ e ∷ []) others x.gone after_telling.rewrite_sound.files refl
-              x.may_go.at_most s)) (as_kept (rewrite ++ e ∷ []) after_telling)
+      module _ (untold : List RegionStep)
+          (each : (r : ℕ) → IsToldNowOrLater (kept r) (steps_on r (steps_of_items e.items)) (steps_on r untold) (table_of r (finite.get both.rewritten r)) (table_of r (finite.get found r))) where
+        mixed : AreKept content append (rewrite ++ e ∷ []) untold found
+        mixed = opened_mixed content append rewrite found cleaned sound_append sound_rewrite both sound e next_is plain untold each
+
+        pub safe_mixed : IsSafe content (base content) (Stop append 0 ∷ []) (Sync ∷ Write e ∷ Stop rewrite 0 ∷ []) untold found
+        safe_mixed = safe_as untold mixed
+
+        pub while_mixed : LoseNothing content (base content) (Stop append 0 ∷ []) (Write e ∷ Stop rewrite 0 ∷ [])
+        while_mixed = while_as untold mixed
+
+      module _ (removals : (r : ℕ) → AreRemovals (steps_on r (steps_of_items e.items))) (told : (r : ℕ) → SayEnoughAtOpening (kept r) (steps_on r (steps_of_items e.items)) (table_of r (finite.get both.rewritten r)) (table_of r (finite.get found r))) where
+        all_told : AreKept content append (rewrite ++ e ∷ []) [] found
+        all_told = opened content append rewrite found cleaned sound_append sound_rewrite both sound e next_is plain removals told
+
+        pub safe_told : IsSafe content (base content) (Stop append 0 ∷ []) (Sync ∷ Write e ∷ Stop rewrite 0 ∷ []) [] found
+        safe_told = safe_as [] all_told
+
+        pub while_told : LoseNothing content (base content) (Stop append 0 ∷ []) (Write e ∷ Stop rewrite 0 ∷ [])
+        while_told = while_as [] all_told
+
+-- what says all says enough of any rewritten table
+pub says_enough : (kept told : List Step) (rewritten found : Table) → SayAllAtOpening kept told found → SayEnoughAtOpening kept told rewritten found
+says_enough kept told rewritten found h = record {
+  entries = unspoken_same told (kept ++ Compact (start_of found.entries) ∷ []) rewritten.entries h.indexes;
+  pairs = λ key. ap (λ b. cond b None (finite.get rewritten.keys key)) (h.keys key);
+}

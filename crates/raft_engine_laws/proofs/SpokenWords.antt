@@ -34,7 +34,7 @@ pub unspoken_within : (ss : List Step) (es : List EntryIndex) → has_clean ss �
 unfolding unspoken entries_within
 unspoken_within ss es c = same_filter _ _ (λ e. spoken_words ss e.index c) es
 
-spoken_clean : (ss : List Step) (i : ℕ) → has_clean ss ≡ true → is_index_spoken ss i ≡ true
+pub spoken_clean : (ss : List Step) (i : ℕ) → has_clean ss ≡ true → is_index_spoken ss i ≡ true
 spoken_clean [] i c = absurd (false≢true c)
 spoken_clean (Clean ∷ ss) i c = refl
 spoken_clean (Run [] ∷ ss) i c = spoken_clean ss i c

@@ -21,3 +21,6 @@ pub mod Contents
 -- records, and what an engine does
 pub mod Records
 pub mod Stops
+-- what region marks tell
+pub mod MarksTold
+pub mod RowSummaries

@@ -12,7 +12,7 @@ use Rattle.raft_table.specs.Steps.{Step, Run, Compact, Truncate, Put, Del, Atomi
 use Rattle.raft_table.specs.Table.{Table}
 use Rattle.raft_table.specs.TableEntries.{start_of}
 use Rattle.raft_history.specs.RegionSteps.{RegionStep, Tables}
-use Rattle.raft_engine_laws.specs.Speaking.{is_index_spoken, unspoken, AreCovered, is_key_dropped}
+use Rattle.raft_engine_laws.specs.Speaking.{is_index_spoken, unspoken, AreCovered, is_key_dropped, pair_left}
 
 -- a step that takes away and puts nothing
 abbrev pub IsRemoval : Step → Type 0
@@ -41,6 +41,11 @@ pub record SayEnough (untold fewer : List Step) (es : List EntryIndex) : Type 0 
 pub record SayAllAtOpening (kept told : List Step) (found : Table) : Type 0 where
   pub indexes : (i : ℕ) → is_index_spoken told i ≡ is_index_spoken (kept ++ Compact (start_of found.entries) ∷ []) i
   pub keys : (key : List ℕ) → is_key_dropped told key ≡ is_key_dropped kept key
+
+-- what is told says enough of the rewritten table that was read alone: of its entries and pairs it takes away what the append files' steps on the region do, and what lies in front of the entries that were found
+pub record SayEnoughAtOpening (kept told : List Step) (rewritten found : Table) : Type 0 where
+  pub entries : unspoken told rewritten.entries ≡ unspoken (kept ++ Compact (start_of found.entries) ∷ []) rewritten.entries
+  pub pairs : (key : List ℕ) → pair_left told key (finite.get rewritten.keys key) ≡ pair_left kept key (finite.get rewritten.keys key)
 
 -- ---- what needn't be told
 

@@ -6,6 +6,7 @@ pub mod deletions;
 pub mod groups;
 pub mod kept;
 pub mod moving;
+pub mod openings;
 pub mod records;
 pub mod restarts;
 pub mod stops;

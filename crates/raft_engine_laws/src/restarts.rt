@@ -14,7 +14,7 @@ ghost use Rattle.raft_history.specs.RegionSteps.{RegionStep, Tables, steps_on, s
 ghost use Rattle.raft_engine_laws.specs.Groups.{HasNoMarker};
 ghost use Rattle.raft_engine_laws.specs.KeptTables.{AreKept};
 ghost use Rattle.raft_engine_laws.specs.NextBatches.{IsRewrittenNext};
-ghost use Rattle.raft_engine_laws.specs.Telling.{AreRemovals, SayAllAtOpening};
+ghost use Rattle.raft_engine_laws.specs.Telling.{AreRemovals, SayEnoughAtOpening};
 
 /// States that the tables which a recovery found of kept ones are kept by the same files, and that the rewrite queue
 /// hasn't been told then what stands in the append files.
@@ -30,10 +30,10 @@ pub fn found_tables_are_kept()
 pub fn opened_tables_are_kept()
     ensures { (content : EntryIndex → List ℕ) (append rewrite : List Event) (found : Tables)
         (cleaned : List ℕ) (e : Event) → IsSoundIn Append append → IsSoundIn Rewrite rewrite
-        → IsReadingOfBoth rewrite append found cleaned
+        → (both : IsReadingOfBoth rewrite append found cleaned)
         → ((r : ℕ) → AreTableEntries (table_of r (finite.get found r)).entries)
         → IsRewrittenNext rewrite e → HasNoMarker e
         → ((r : ℕ) → AreRemovals (steps_on r (steps_of_items e.items)))
-        → ((r : ℕ) → SayAllAtOpening (steps_of r (batches append)) (steps_on r (steps_of_items e.items)) (table_of r (finite.get found r)))
+        → ((r : ℕ) → SayEnoughAtOpening (steps_of r (batches append)) (steps_on r (steps_of_items e.items)) (table_of r (finite.get both.rewritten r)) (table_of r (finite.get found r)))
         → AreKept content append (rewrite ++ e ∷ []) [] found }
 {}

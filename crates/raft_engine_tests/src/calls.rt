@@ -4,7 +4,7 @@
 
 use crate::batches::{Part, batch_of};
 use raft_base::{FileSeq, LogQueue, Version};
-use raft_engine::{Engine, Unopened};
+use raft_engine::{Engine, Recovered, Unopened};
 use raft_files::{EngineFiles, MemoryFiles};
 use raft_memtable::MemTableAccessor;
 use raft_records::{Error, LogBatch, Result};
@@ -45,6 +45,28 @@ pub fn open_as<R: Threads + Sync>(
     let append = files.copies(LogQueue::Append)?;
     let rewrite = files.copies(LogQueue::Rewrite)?;
     Ok(Engine::open(rt, alloc, way.version, files, append, rewrite, way.workers))
+}
+
+/// Opens an engine over files, with two workers, and returns what was cut off from them.
+pub fn cut_of<R: Threads + Sync>(
+    rt: &R,
+    alloc: Global,
+    append: LogFiles,
+    rewrite: LogFiles,
+) -> Result<Recovered> {
+    let files = MemoryFiles::found(append, rewrite);
+    let append = files.copies(LogQueue::Append)?;
+    let rewrite = files.copies(LogQueue::Rewrite)?;
+    let opened = Engine::open_telling(
+        rt,
+        alloc,
+        RIGHT.version,
+        files,
+        append,
+        rewrite,
+        RIGHT.workers,
+    )?;
+    Ok(opened.recovered)
 }
 
 /// Opens an engine over files, with two workers.

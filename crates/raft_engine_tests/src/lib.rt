@@ -13,6 +13,8 @@ mod cases;
 #[cfg(test)]
 mod engine;
 #[cfg(test)]
+mod found;
+#[cfg(test)]
 mod groups;
 #[cfg(test)]
 mod moved_groups;

@@ -3,11 +3,11 @@
 use crate::batches::Part::{Entries, Put};
 use crate::batches::REGION;
 use crate::calls::{
-    LogFiles, Opened, RIGHT, Way, copies, holds, new_engine, open_as, with_flipped, write,
+    LogFiles, Opened, RIGHT, Way, copies, cut_of, holds, new_engine, open_as, with_flipped, write,
 };
 use crate::engine::text_of;
 use raft_base::{LogQueue, Version};
-use raft_engine::Engine;
+use raft_engine::{CutTail, Engine};
 use raft_files::MemoryFiles;
 use raft_records::{Error, Result};
 use std::alloc::Global;
@@ -106,6 +106,72 @@ fn damage_is_refused<R: Threads + Sync>(rt: &R, alloc: Global) -> Result<bool> {
         Some(files) => is_left(alloc, &files),
         None => Ok(false),
     }
+}
+
+/// Returns the length of a file.
+fn file_len(files: &LogFiles) -> u64 {
+    files.last().map_or(0, |file| file.1.len() as u64)
+}
+
+/// Returns the length of the file that has the first two batches of the torn one alone.
+fn whole_len(alloc: Global) -> Result<u64> {
+    let mut engine = new_engine(alloc)?;
+    write(alloc, &mut engine, &[Entries(1, 3)], true)?;
+    write(alloc, &mut engine, &[Put("v")], true)?;
+    let append = copies(&engine, LogQueue::Append)?;
+    Ok(file_len(&append))
+}
+
+/// Tests whether a tail begins behind so many bytes of the first file, and goes on to its end.
+fn is_tail(tail: Option<&CutTail>, whole: u64, len: u64) -> bool {
+    match tail {
+        Some(tail) => {
+            tail.file == 1 && tail.offset == whole && tail.len == len.saturating_sub(whole)
+        }
+        None => false,
+    }
+}
+
+/// Tests whether an opening tells the torn tail that it cuts off from the append queue, and none of the rewrite queue.
+fn tail_is_told<R: Threads + Sync>(rt: &R, alloc: Global) -> Result<bool> {
+    let append = torn(alloc)?;
+    let len = file_len(&append);
+    let cut = cut_of(rt, alloc, append, Vec::new(alloc))?;
+    Ok(is_tail(cut.append.as_ref(), whole_len(alloc)?, len) && cut.rewrite.is_none())
+}
+
+#[test]
+fn a_cut_is_told(rt: HostRuntime) {
+    assert!(rt; holds!(tail_is_told(&rt, rt.alloc())));
+}
+
+/// Makes the torn file with another number.
+fn renumbered(alloc: Global) -> Result<LogFiles> {
+    let mut append = torn(alloc)?;
+    if let Some(last) = append.last_mut() {
+        last.0 = 2;
+    }
+    Ok(append)
+}
+
+/// Tests whether append files are refused.
+fn are_refused<R: Threads + Sync>(rt: &R, alloc: Global, append: LogFiles) -> Result<bool> {
+    let left = refused(open_as(rt, alloc, RIGHT, append, Vec::new(alloc))?)?;
+    Ok(left.is_some())
+}
+
+/// Tests whether a file is refused whose first byte is changed, so that a header names more bytes than there are, and one that
+/// got another number: sound batches stand behind the first byte, or batches that are signed for the file of the old number.
+fn damage_is_told_from_torn_tails<R: Threads + Sync>(rt: &R, alloc: Global) -> Result<bool> {
+    Ok(
+        are_refused(rt, alloc, with_flipped(torn(alloc)?, 0))?
+            && are_refused(rt, alloc, renumbered(alloc)?)?,
+    )
+}
+
+#[test]
+fn damage_is_no_torn_tail(rt: HostRuntime) {
+    assert!(rt; holds!(damage_is_told_from_torn_tails(&rt, rt.alloc())));
 }
 
 fn all_are_refused<R: Threads + Sync>(rt: &R, alloc: Global) -> Result<bool> {

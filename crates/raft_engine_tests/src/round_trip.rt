@@ -305,9 +305,11 @@ fn a_number_that_is_not_above_the_last_one_is_refused(rt: HostRuntime) {
 }
 
 /// Numbers of append files without bytes, and whether an engine is opened over them.
-static NUMBERS: [(&[FileSeq], bool); 6] = [
+static NUMBERS: [(&[FileSeq], bool); 8] = [
     (&[0], true),
-    (&[1, 3], true),
+    (&[3, 4, 5], true),
+    (&[1, 3], false),
+    (&[1, 2, 4], false),
     (&[1, 1], false),
     (&[2, 1], false),
     (&[1, 2, 2], false),
@@ -330,7 +332,7 @@ fn opens_as<R: Threads + Sync>(
 }
 
 #[test]
-fn files_are_opened_whose_numbers_rise(rt: HostRuntime) {
+fn files_are_opened_whose_numbers_are_consecutive(rt: HostRuntime) {
     for (numbers, is_opened) in &NUMBERS {
         assert!(rt;
             holds!(opens_as(&rt, rt.alloc(), numbers, *is_opened)),

@@ -17,6 +17,15 @@ pub(crate) trait Disk: Files<File = File> + AllocGlobal + Clone + Drop {}
 
 impl<R: Files<File = File> + AllocGlobal + Clone + Drop> Disk for R {}
 
+/// The end of a log file, which was cut off.
+#[derive(Drop)]
+pub(crate) struct CutTail {
+    /// How many bytes it had.
+    pub(crate) len: usize,
+    /// The path of the file that keeps it: that of the log file, and the offset at which it began.
+    pub(crate) kept: String,
+}
+
 /// The files of a queue, all of them open, by their numbers.
 pub(crate) type OpenFiles = BTreeMap<FileSeq, File>;
 
@@ -29,6 +38,8 @@ pub(crate) struct Folder<'a, R: Disk> {
     entry: File,
     append: OpenFiles,
     rewrite: OpenFiles,
+    /// What was cut off.
+    cuts: Vec<CutTail>,
 }
 
 impl<'a, R: Disk> Folder<'a, R> {
@@ -51,6 +62,7 @@ impl<'a, R: Disk> Folder<'a, R> {
             entry,
             append: BTreeMap::new(alloc),
             rewrite: BTreeMap::new(alloc),
+            cuts: Vec::new(alloc),
         };
         folder.open_files()?;
         folder.sync_names()?;
@@ -150,14 +162,43 @@ impl<'a, R: Disk> Folder<'a, R> {
         Ok(())
     }
 
-    /// Cuts a queue's last file to `len` bytes, if it has more. What is cut off is gone from the disk then.
-    pub(crate) fn truncate(&self, queue: LogQueue, len: u64) -> Result<()> {
-        let file = self.last(queue)?;
-        if len < file.metadata()?.len() {
-            file.set_len(len)?;
-            file.sync_all()?;
+    /// Cuts a queue's last file to `len` bytes, if it has more. What is cut off is gone from the disk then, but for a file beside,
+    /// which keeps it. After an `Err` nothing is cut that isn't kept.
+    pub(crate) fn truncate(&mut self, queue: LogQueue, len: u64) -> Result<()> {
+        let Some((seq, file)) = self.files(queue).last_key_value() else {
+            return Err(self.refusal("the queue has no file"));
+        };
+        let old = file.metadata()?.len();
+        if len >= old {
+            return Ok(());
         }
+        let id = FileId::new(queue, *seq);
+        let tail = bytes_at(self.rt.alloc(), file, len, (old - len) as usize)?;
+        let kept = self.keep(id, len, &tail)?;
+        file.set_len(len)?;
+        file.sync_all()?;
+        let len = tail.len();
+        self.cuts.push(CutTail { len, kept })?;
         Ok(())
+    }
+
+    /// Puts the end of a log file, from an offset on, into a file beside it, behind what was kept of that place before, and returns
+    /// the path of that. It is on the disk then. No opening reads such a file.
+    fn keep(&self, id: FileId, offset: u64, tail: &[u8]) -> Result<String> {
+        let log = self.path_of(id)?;
+        let path = format!(in self.rt.alloc(); "{log}.{offset}.cut")?;
+        let mut how = OpenOptions::new();
+        how.create(true).append(true);
+        let mut file = how.open(self.rt, path.as_str())?;
+        file.write_all(tail)?;
+        file.sync_all()?;
+        self.entry.sync_all()?;
+        Ok(path)
+    }
+
+    /// Returns what was cut off.
+    pub(crate) fn cuts(&self) -> &[CutTail] {
+        &self.cuts
     }
 
     /// Returns the bytes at a place.

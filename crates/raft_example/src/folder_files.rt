@@ -5,7 +5,7 @@ ghost use Rattle.raft_base.specs.declared.pipe_log.LogQueue.TheVariants.{Append,
 ghost use Rattle.raft_files.specs.Asks.{Found, ask};
 ghost use Rattle.raft_files.specs.HeldFiles.{file_shown};
 
-use crate::folder::{Disk, Folder, OpenFiles};
+use crate::folder::{CutTail, Disk, Folder, OpenFiles};
 use raft_base::{Error, FileBlockHandle, FileId, FileSeq, LogQueue, Result};
 use raft_files::{Asked, EngineFiles};
 
@@ -62,6 +62,11 @@ impl<'a, R: Disk> FolderFiles<'a, R> {
     /// Returns the files of a queue.
     pub(crate) fn files(&self, queue: LogQueue) -> &OpenFiles {
         self.folder.files(queue)
+    }
+
+    /// Returns what was cut off the files.
+    pub(crate) fn cuts(&self) -> &[CutTail] {
+        self.folder.cuts()
     }
 
     /// Begins a call, which has failed until it ends.

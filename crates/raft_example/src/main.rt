@@ -59,11 +59,14 @@ fn run<R: Host>(rt: &R, folder: &str) -> Result<()> {
     show(rt, &open(rt, folder)?, "opened")
 }
 
-/// Opens the engine of a folder.
+/// Opens the engine of a folder, and prints what that cut off the files.
 fn open<'a, R: Host>(rt: &'a R, folder: &'a str) -> Result<FolderEngine<'a, R>> {
     let found = FolderFiles::open(rt, folder)?;
     let (files, append, rewrite) = (found.files, found.append, found.rewrite);
     let engine = Engine::open(rt, rt.alloc(), Version::V2, files, append, rewrite, WORKERS)?;
+    for cut in engine.files().cuts() {
+        println!(rt; "cut off: {} bytes, which {} keeps", cut.len, cut.kept)?;
+    }
     Ok(engine)
 }
 

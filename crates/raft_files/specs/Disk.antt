@@ -1,4 +1,8 @@
--- What is left of an engine's files when the machine stops: all that a reader has to believe of a disk.
+-- What is left of an engine's files when the machine stops: all that a reader has to believe of a disk. Two disks are said. One
+-- writes in order: of what wasn't synced a prefix stands (`MayStand`, `IsLeftOf`). The other writes pages, and the lengths of
+-- files, in any order: behind the synced bytes any bytes may stand, and so they may behind a cut that wasn't synced
+-- (`MayStandUnordered`, `IsLeftUnordered`). On both what was synced stands. On the first a cut that wasn't synced may be undone,
+-- but not where bytes stand that were put after it.
 use Rattle.std.specs.Prelude.{◌≡◌, ◌⊎◌, ℕ, suc, ◌≤◌, List, [], ◌∷◌, ◌++◌, take, drop}
 use Rattle.raft_base.specs.declared.pipe_log.LogQueue.{LogQueue}
 use Rattle.raft_files.specs.Asks.{Act, Put, Begin, Sync, Delete, Cut, Found, Read, Ask, acts_on}
@@ -47,6 +51,8 @@ synced_deletions (_ ∷ earlier) = synced_deletions earlier
 abbrev pub files_of : LogQueue → List Ask → List NumberedBytes
 files_of queue asked = drop (deletions (acts_on queue asked)) (begun (acts_on queue asked))
 
+-- ---- a disk that writes in order
+
 -- a front of these bytes stands behind those of the last file
 pub record IsFrontPut (bytes : List ℕ) (old new : List NumberedBytes) : Type 0 where
   pub front : List ℕ
@@ -69,6 +75,46 @@ MayStand (Read place bytes ∷ earlier) files = MayStand earlier files
 pub record IsLeftOf (queue : LogQueue) (asked : List Ask) (files : List NumberedBytes) : Type 0 where
   pub standing : List NumberedBytes
   pub stands : MayStand (acts_on queue asked) standing
+  pub gone : ℕ
+  pub at_least : synced_deletions (acts_on queue asked) ≤ gone
+  pub at_most : gone ≤ deletions (acts_on queue asked)
+  pub left : files ≡ drop gone standing
+
+-- ---- a disk that writes in any order
+
+-- the files that were found and begun, oldest first, with the bytes that were synced and not cut off since; a file that was begun since the last sync has none
+abbrev pub synced_files : List Act → List NumberedBytes
+synced_files [] = []
+synced_files (Put bytes ∷ earlier) = synced_files earlier
+synced_files (Begin seq ∷ earlier) = begun earlier ++ (seq, []) ∷ []
+synced_files (Sync ∷ earlier) = begun earlier
+synced_files (Delete ∷ earlier) = synced_files earlier
+synced_files (Cut len ∷ earlier) = cut_last len (synced_files earlier)
+synced_files (Found files ∷ earlier) = files
+synced_files (Read place bytes ∷ earlier) = synced_files earlier
+
+-- any bytes, of any number, stand behind those of the last file
+pub record IsAnyPut (old new : List NumberedBytes) : Type 0 where
+  pub rest : List ℕ
+  pub put : new ≡ put_behind rest old
+
+-- What may stand of the files that were found and begun, none of them deleted, where pages and lengths reach the disk in any
+-- order: what was found or synced. Once bytes were put in the last file, or cut off it, any bytes may stand behind its synced
+-- ones: zeros, older bytes, parts of what was put, more or fewer than were put. A new file is there or not.
+abbrev pub MayStandUnordered : List Act → List NumberedBytes → Type 0
+MayStandUnordered [] files = files ≡ []
+MayStandUnordered (Put bytes ∷ earlier) files = MayStandUnordered earlier files ⊎ IsAnyPut (synced_files earlier) files
+MayStandUnordered (Begin seq ∷ earlier) files = (files ≡ begun earlier) ⊎ (files ≡ begun earlier ++ (seq, []) ∷ [])
+MayStandUnordered (Sync ∷ earlier) files = files ≡ begun earlier
+MayStandUnordered (Delete ∷ earlier) files = MayStandUnordered earlier files
+MayStandUnordered (Cut len ∷ earlier) files = MayStandUnordered earlier files ⊎ IsAnyPut (cut_last len (synced_files earlier)) files
+MayStandUnordered (Found found ∷ earlier) files = files ≡ found
+MayStandUnordered (Read place bytes ∷ earlier) files = MayStandUnordered earlier files
+
+-- the files of a queue that such a disk may leave: what may stand so, without the oldest files, as in `IsLeftOf`
+pub record IsLeftUnordered (queue : LogQueue) (asked : List Ask) (files : List NumberedBytes) : Type 0 where
+  pub standing : List NumberedBytes
+  pub stands : MayStandUnordered (acts_on queue asked) standing
   pub gone : ℕ
   pub at_least : synced_deletions (acts_on queue asked) ≤ gone
   pub at_most : gone ≤ deletions (acts_on queue asked)

@@ -1,6 +1,7 @@
 //! Bytes that were lent before they are read.
 
 ghost use Rattle.std.specs.Prelude.{◌≡◌, IfErr, IfOk, length};
+ghost use Rattle.std.specs.BTreeMap.{IsEmpty};
 ghost use Rattle.raft_orders.specs.Refusals.{IsUnread};
 
 use raft_base::{Error, FileBlockHandle, FileId, Result};
@@ -15,7 +16,9 @@ pub struct LentBlocks {
 
 impl LentBlocks {
     /// Makes one without bytes.
-    pub fn new(alloc: Global) -> LentBlocks {
+    pub fn new(alloc: Global) -> LentBlocks
+        ensures { IsEmpty result.blocks }
+    {
         LentBlocks {
             blocks: BTreeMap::new(alloc),
         }
@@ -52,7 +55,9 @@ impl LentBlocks {
     }
 
     /// Lets go of all bytes.
-    pub fn clear(&mut self) {
+    pub fn clear(&mut self)
+        ensures { IsEmpty self.new.blocks }
+    {
         self.blocks.clear();
     }
 }

@@ -17,3 +17,5 @@ mod printing;
 mod read_batches;
 #[cfg(test)]
 mod refusals;
+#[cfg(test)]
+mod tails;

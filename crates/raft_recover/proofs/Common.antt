@@ -13,7 +13,7 @@ pub use Rattle.std.specs.Str.{bytes_eq}
 pub use Rattle.raft_base.proofs.ConsecutiveLemmas.{end_bounded}
 pub use Rattle.raft_history.proofs.RewrittenHistories.{both_same}
 pub use Rattle.raft_history.proofs.SoundLemmas.{append_apart}
-pub use Rattle.raft_history.proofs.StretchOfHistory.{small_front}
+pub use Rattle.raft_history.proofs.StretchOfHistory.{of_both, small_front}
 pub use Rattle.raft_history.proofs.Words.{records_in_history}
 pub use Rattle.raft_records.proofs.PartLemmas.{batch_inside}
 pub use Rattle.raft_records.proofs.PrintLemmas.{on_both}
@@ -22,7 +22,7 @@ pub use Rattle.raft_replay.proofs.FewRecordLemmas.{part_few, small_segments}
 pub use Rattle.raft_replay.proofs.MachineOrderLemmas.{each_cut, each_join, each_more, segments_read_of_queue}
 pub use Rattle.raft_replay.proofs.ReplayedLemmas.{none_replayed, replayed_more}
 pub use Rattle.raft_replay.proofs.SegmentLemmas.{item_between, item_taken, left_from, segments_unique}
-pub use Rattle.raft_replay.proofs.StopLemmas.{parts_refused, stands_sound, stops_after}
+pub use Rattle.raft_replay.proofs.StopLemmas.{fault_after, parts_refused, stands_sound, stops_after}
 pub use Rattle.raft_replay.proofs.Words.{PartHolds, PartsAreOf, PartsHold, SegmentReads}
 pub use Rattle.raft_replay.proofs.Passed.{on_passed, or_passed}
 pub use Rattle.raft_recover.specs.Common.{Accessor, AllByRecursion, AllDigits, Apart, Appends, AppendsFront, AreBothRecovered, AreCountsOf, AreCutInTurn, AreDivided, ArePathsNamed, AreRewrittenFrom, AreScanned, AreWholeFiles, AskedScan}
@@ -32,3 +32,10 @@ pub use Rattle.raft_recover.specs.Common.{IsOneReading, IsPathWord, IsPrintFailu
 pub use Rattle.raft_recover.specs.Common.{NamesFiles, NamesPath, NumberedBytes, NumberedPath, Part, PrintsFrontOfTables, PrintsRecovered, PrintsTables, RecoverContext, SegmentsAreOf, SegmentsHold, Sound, StopsAmong, StopsWithin, Suits}
 pub use Rattle.raft_recover.specs.Common.{Tables, Version, are_undamaged, block_place, bytes_of_files, bytes_of_segments, cleaned_text, digit_value, end_line, file_shown, files_of, finding_line, flag_words, is_undamaged, item_of}
 pub use Rattle.raft_recover.specs.Common.{next_after, parts_within, path_shown, region_text, scan_asked, segment_shown, table_line, whole_file}
+pub use Rattle.raft_history.specs.Histories.{AreOfQueue}
+pub use Rattle.raft_records.specs.FilePart.{part_of}
+pub use Rattle.raft_replay.specs.Segments.{HoldsFrom}
+pub use Rattle.raft_reading.specs.IoErrors.{IoError}
+pub use Rattle.raft_reading.specs.QueueRead.{file_of}
+pub use Rattle.raft_reading.specs.declared.queue_files.FileSize.{FileSize}
+pub use Rattle.raft_recover.specs.Common.{AreAllRead, AreSizesOf, IsQueueReplayed, IsQueueStop, IsRecoveredFrom, PrintsFiles, PrintsFrontOfFiles, bytes_of_sizes}

@@ -1,6 +1,7 @@
 mod Common
 pub mod FewFileLemmas
 pub mod FileLemmas
+pub mod FileRecoveryLemmas
 pub mod OrderLemmas
 pub mod RecoveryLemmas
 pub mod RequestLemmas

@@ -9,7 +9,7 @@ use Rattle.raft_records.specs.Lines.{IsIoError}
 use Rattle.raft_history.specs.Batches.{Event}
 use Rattle.raft_history.specs.Histories.{IsSmall, Sound}
 use Rattle.raft_accessor.specs.Accessor.{Accessor}
-use Rattle.raft_replay.specs.Segments.{HoldsFrom, EachHolds}
+pub use Rattle.raft_reading.specs.QueueRead.{FilesHold, whole_file}
 use Rattle.raft_recover.specs.Recovery.{IsRecovered}
 use Rattle.raft_recover.specs.Requests.{NumberedBytes}
 use Rattle.raft_recover.specs.TableLines.{PrintsTables, PrintsFrontOfTables}
@@ -22,15 +22,6 @@ file_shown file = (file.0, file.1.items)
 abbrev pub bytes_of_files : List NumberedBytes → ℕ
 bytes_of_files [] = 0
 bytes_of_files (file ∷ files) = length file.1 + bytes_of_files files
-
--- all of a file's bytes
-abbrev pub whole_file : LogQueue → Version → NumberedBytes → Part
-whole_file queue version file = record { id = record { queue = queue; seq = file.0 }; version = version; offset = 0; bytes = file.1 }
-
--- the batches of files, in order
-abbrev pub FilesHold : LogQueue → Version → List NumberedBytes → List Event → Type 0
-FilesHold queue version files h =
-    EachHolds (λ file. HoldsFrom (whole_file queue version file) 0) files h
 
 -- a file isn't a sequence of readable batches, or the batches of all files, in order, name 2^63 entries, key values and deletions together, or more, or are a history that can't be read
 pub record FilesCannotBeRead (queue : LogQueue) (version : Version) (files : List NumberedBytes) : Type 0 where

@@ -1,4 +1,5 @@
 pub mod Files
+pub mod FileRecovery
 pub mod Recovery
 pub mod AskedRequests
 pub mod Requests
@@ -13,6 +14,8 @@ pub use Rattle.raft_shared.specs.SharedCalls
 pub use Rattle.raft_shared.specs.Slot
 pub use Rattle.raft_tickets.specs.Draws
 pub use Rattle.raft_tickets.specs.Weights
+pub use Rattle.raft_reading.specs.FilesRead
+pub use Rattle.raft_reading.specs.QueueRead
 pub use Rattle.raft_replay.specs.Cuts
 pub use Rattle.raft_replay.specs.PieceMerges
 pub use Rattle.raft_replay.specs.Plans

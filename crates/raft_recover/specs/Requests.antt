@@ -8,6 +8,7 @@ use Rattle.raft_base.specs.declared.pipe_log.LogQueue.{LogQueue}
 use Rattle.raft_base.specs.declared.pipe_log.Version.{Version}
 use Rattle.raft_base.specs.declared.pipe_log.Version.TheVariants.{V1, V2}
 use Rattle.raft_replay.specs.Stops.{queue_text}
+pub use Rattle.raft_reading.specs.QueueRead.{NumberedBytes}
 
 -- the word for a queue, as in texts of refusals
 abbrev pub queue_word : LogQueue → List ℕ
@@ -60,10 +61,6 @@ ArePathsNamed [] [] = Unit {0}
 ArePathsNamed [] (path ∷ paths) = ⊥
 ArePathsNamed (word ∷ words) [] = ⊥
 ArePathsNamed (word ∷ words) (path ∷ paths) = NamesPath word path.0 path.1 × ArePathsNamed words paths
-
--- a file as it is handed on: its number and its bytes
-abbrev pub NumberedBytes : Type 0
-NumberedBytes = ℕ × List ℕ
 
 -- a file for each that is named, under its number, in order, whatever its bytes
 abbrev pub AreFilesOf : List NumberedPath → List NumberedBytes → Type 0

@@ -2,6 +2,8 @@
 #![tactic(auto)]
 
 mod ending;
+#[doc(hidden)]
+pub mod file_recovery;
 pub mod files;
 pub mod program;
 pub mod recovered;

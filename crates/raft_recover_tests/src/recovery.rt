@@ -9,6 +9,7 @@ mod kept;
 mod owed;
 mod pieces;
 mod plans;
+mod read_files;
 mod refusals;
 mod rows;
 mod shared;

@@ -7,7 +7,7 @@ ghost use Rattle.raft_records.specs.LogBatch.{is_open};
 ghost use Rattle.raft_engine.specs.ReadContexts.{HaveReadFound};
 ghost use Rattle.raft_engine.specs.StoredFound.{found_asks};
 
-use raft_engine::{Engine, Unopened};
+use raft_engine::{CutTail, Engine, Opened, Recovered, Unopened};
 use raft_files::{EngineFiles, MemoryFiles};
 use raft_recover::{
     Error, FileSeq, LogBatch, LogQueue, MemTableAccessor, MemTableRecoverContext, Result, Segment,
@@ -109,6 +109,52 @@ where
     requires { F.asked files ≡ found_asks (map file_shown append.items) (map file_shown rewrite.items) }
 {
     Engine::<F>::open::<R>(rt, alloc, version, files, append, rewrite, workers)
+}
+
+/// Opens an engine over files that were found, and tells what was cut off from them.
+fn open_engine_telling<R: Threads + Sync, F: EngineFiles>(
+    rt: &R,
+    alloc: Global,
+    version: Version,
+    files: F,
+    append: Vec<(FileSeq, Vec<u8>)>,
+    rewrite: Vec<(FileSeq, Vec<u8>)>,
+    workers: usize,
+) -> std::result::Result<Opened<F>, Unopened<F>>
+where
+    requires { F.asked files ≡ found_asks (map file_shown append.items) (map file_shown rewrite.items) }
+{
+    Engine::<F>::open_telling::<R>(rt, alloc, version, files, append, rewrite, workers)
+}
+
+/// Opens an engine over files that contexts have read, and tells what was cut off from them.
+fn open_engine_over_telling<F: EngineFiles>(
+    alloc: Global,
+    version: Version,
+    files: F,
+    append: Vec<(FileSeq, Vec<u8>)>,
+    rewrite: Vec<(FileSeq, Vec<u8>)>,
+    appended: MemTableRecoverContext,
+    rewritten: MemTableRecoverContext,
+) -> std::result::Result<Opened<F>, Unopened<F>>
+where
+    requires asked { F.asked files ≡ found_asks (map file_shown append.items) (map file_shown rewrite.items) }
+    requires read { HaveReadFound version (map file_shown append.items) (map file_shown rewrite.items) appended rewritten }
+{
+    Engine::<F>::open_over_telling(alloc, version, files, append, rewrite, appended, rewritten)
+}
+
+/// Returns the tail that was cut off from the append queue.
+fn append_of_recovered(recovered: Recovered) -> Option<CutTail> {
+    let Recovered { append, rewrite } = recovered;
+    let _rewrite: Option<CutTail> = rewrite;
+    append
+}
+
+/// Returns the reason why a tail was cut off.
+fn error_of_cut_tail(tail: CutTail) -> Error {
+    let _place: (FileSeq, u64, u64) = (tail.file, tail.offset, tail.len);
+    tail.error
 }
 
 /// Opens an engine over files that contexts have read.

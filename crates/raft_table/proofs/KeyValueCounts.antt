@@ -2,7 +2,7 @@
 use Rattle.raft_table.proofs.Common.{◌≡◌, ℕ, ◌+◌, ◌≤◌, Bool, true, false, cond, not, List, [], ◌∷◌, length, filter, Option, Some, None, refl, sym, ap, ◌∙◌, arith, Ordering, eq_by_cmp, is_eq, option_map, IsTotalOrder, alike_right}
 use Rattle.raft_table.proofs.Common.{eq_by_cmp_equiv, nat_list_cmp_total, FinMap, IsAntisymmetric, find, put, is_sorted, same_map, nat_cmp-IsAntisymmetric, slice_cmp-IsAntisymmetric, where_key, by_order, is_sorted-where_key, find-where_key}
 use Rattle.raft_table.proofs.Common.{FileId, LogQueue, is_same, Stored, Keys, file_at, with_moved, moved_to, pair_count, file_weight, Append, Rewrite, length-map, nat_cmp, slice_cmp, IsStrictlySortedBy, insert_entry, is_at, keys_of, lookup}
-use Rattle.raft_table.proofs.Common.{remove_entry, set_value, subst, IsTrue, ◌↔◌, Global, Vec, IsOrdered, StoredValue, keys_shown, stored_of, IsOrderedAndCounted}
+use Rattle.raft_table.proofs.Common.{map, remove_entry, set_value, subst, IsTrue, ◌↔◌, Global, Vec, IsOrdered, StoredValue, keys_shown, stored_of, IsOrderedAndCounted}
 use lib.Dec.{T}
 use Rattle.std.specs.declared.cmp.Ordering.TheVariants.{Less, Equal, Greater}
 use Rattle.raft_table.proofs.Shown.{find-below, where_key-below, below_all-less, below_all-equal, first_of_both, second_of_both, equal, shown, by_key, is_sorted-shown, find-shown, shown-insert_entry, shown-remove_entry, shown-set_value}
@@ -179,6 +179,13 @@ has q = is_at (λ y. slice_cmp nat_cmp q y.items)
 
 pub get-shown : (a : Inside) (keys : Keys) (q : List ℕ) → IsOrderedAndCounted a → keys_shown a ≡ keys → finite.get keys q ≡ option_map stored_of (lookup (has q) a.pairs.entries)
 get-shown a keys q sound is = rw (← is) (get-map_of bytes_of stored_of a.pairs.entries q sound.ordered)
+
+keys-of : (es : List (Vec ℕ Global × StoredValue)) → map (λ (e : List ℕ × Stored). e.0) (map (λ (e : Vec ℕ Global × StoredValue). (e.0.items, stored_of e.1)) es) ≡ map (λ (e : Vec ℕ Global × StoredValue). e.0.items) es
+keys-of [] = refl
+keys-of (e ∷ es) = ap (λ l. e.0.items ∷ l) (keys-of es)
+
+pub keys-shown : (a : Inside) (keys : Keys) → IsOrderedAndCounted a → keys_shown a ≡ keys → map (λ e. e.0.items) a.pairs.entries ≡ finite.keys keys
+keys-shown a keys sound is = rw (← is) (sym (ap (map (λ (e : List ℕ × Stored). e.0)) (entries-map_of bytes_of stored_of a.pairs.entries sound.ordered) ∙ keys-of a.pairs.entries))
 
 pub len-shown : (a : Inside) (keys : Keys) → IsOrderedAndCounted a → keys_shown a ≡ keys → finite.len keys ≡ length a.pairs.entries
 len-shown a keys sound is = rw (← is) (len-map_of bytes_of stored_of a.pairs.entries sound.ordered)

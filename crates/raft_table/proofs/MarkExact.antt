@@ -3,10 +3,10 @@ use Rattle.std.proofs.Math.Bool.{or_assoc, or_comm, or-false}
 use Rattle.raft_table.proofs.Common.{◌≡◌, ℕ, ◌≤◌, max, Bool, true, false, cond, ◌||◌, List, [], ◌∷◌, ◌++◌, Option, Some, None, refl, sym, ap, ◌∙◌, arith, nat_cmp, eq_by_cmp, slice_cmp, nat_list_cmp_total, option_or, false≢true, LogQueue}
 use Rattle.raft_table.proofs.Common.{EntryIndex, KeySet, Step, Run, Compact, Truncate, Put, Del, AtomicGroup, Clean, Mark, FitsCut, Fits, joined_deleted, joined_uncleaned, joined_at, fresh, mark_of, lesser, has_clean, greatest_compaction}
 use Rattle.raft_table.proofs.Common.{least_cut, deleted_of, HoldsDeleted, IsExactMark, not, length, map, Global, Vec, Ordering, list_any, AllByRecursion, IsStrictlySortedBy, match_ordering, insert_entry, keys_of, slice_cmp-IsAntisymmetric}
-use Rattle.raft_table.proofs.Common.{nat_cmp-IsAntisymmetric, sorted_head, sorted_tail, without, Keys}
+use Rattle.raft_table.proofs.Common.{is_some, lookup, nat_cmp-IsAntisymmetric, sorted_head, sorted_tail, without, Keys}
 use Rattle.raft_base.specs.declared.pipe_log.LogQueue.TheVariants.{Append, Rewrite}
 use Rattle.std.specs.declared.cmp.Ordering.TheVariants.{Less, Equal, Greater}
-use Rattle.raft_table.proofs.KeyValueCounts.{key_cmp}
+use Rattle.raft_table.proofs.KeyValueCounts.{has, key_cmp}
 use Rattle.raft_table.proofs.MarkTables.{get-without, same_keys}
 use Rattle.std.specs.FinSet as finset
 use Rattle.std.specs.FinMap as finite
@@ -151,6 +151,15 @@ bytes_of es = map (λ e. e.0.items) es
 
 abbrev pub set_of : List (Vec ℕ Global × Unit {0}) → KeySet
 set_of es = finset.from_list (bytes_of es)
+
+-- a look-up finds a key that is among them
+pub found-among : (q : List ℕ) (es : List (Vec ℕ Global × Unit {0})) → is_some (lookup (has q) es) ≡ list_any (eq_by_cmp (slice_cmp nat_cmp) q) (bytes_of es)
+found-among q [] = refl
+found-among q (e ∷ es) = go (has q e.0) (found-among q es)
+  where
+    go : (b : Bool) → is_some (lookup (has q) es) ≡ list_any (eq_by_cmp (slice_cmp nat_cmp) q) (bytes_of es) → is_some (cond b (Some e.1) (lookup (has q) es)) ≡ (b || list_any (eq_by_cmp (slice_cmp nat_cmp) q) (bytes_of es))
+    go true rest = refl
+    go false rest = rest
 
 or_twice : (b x : Bool) → (b || (b || x)) ≡ (b || x)
 or_twice true x = refl

@@ -35,6 +35,8 @@ pub(super) struct Commit {
     pub(super) batch: LogBatch,
     /// Whether it is to last once its thread goes on.
     pub(super) sync: bool,
+    /// Whether items of it were written.
+    pub(super) is_written: bool,
     /// What its thread is told.
     pub(super) result: Option<Result<()>>,
 }
@@ -42,7 +44,9 @@ pub(super) struct Commit {
 impl Commit {
     /// Writes the batch to the tables, and notes a refusal.
     pub(super) fn write(&mut self, tables: &mut EngineHandle) {
+        let has_items = !self.batch.is_empty();
         self.result = tables.write(self.batch.handle_mut()).err().map(Err);
+        self.is_written = has_items && self.result.is_none();
     }
 }
 
@@ -87,6 +91,7 @@ impl Line {
             ticket,
             batch,
             sync,
+            is_written: false,
             result: None,
         });
         ticket

@@ -1,5 +1,6 @@
 //! Entries that were read.
 
+use super::Engine;
 use crate::sys::block_entries;
 use crate::{Block, Entry, Error, Files, Result};
 use std::fmt;
@@ -47,7 +48,7 @@ impl Entries {
     /// # Errors
     ///
     /// `Corruption` where no sound block with the bytes of an entry stands at its place, `Io`, `Memory`.
-    pub(super) fn read(files: &impl Files, entries: &[Entry]) -> Result<Entries> {
+    pub(super) fn read<F: Files>(engine: &Engine<F>, entries: &[Entry]) -> Result<Entries> {
         let (mut blocks, mut last) = (Vec::<Vec<u8>>::new(), None);
         let mut places = Vec::new();
         places
@@ -55,7 +56,7 @@ impl Entries {
             .map_err(|_| Error::memory())?;
         for entry in entries {
             if last != Some(entry.block) {
-                blocks.push(read_entry_bytes(files, entry.block)?);
+                blocks.push(read_entry_bytes(engine, entry.block)?);
                 last = Some(entry.block);
             }
             let block = blocks.len() - 1;
@@ -132,20 +133,28 @@ impl fmt::Debug for Entries {
     }
 }
 
+/// Returns so many zeros.
+///
+/// # Errors
+///
+/// `Memory`.
+pub(super) fn zeros(len: usize) -> Result<Vec<u8>> {
+    let mut bytes = Vec::new();
+    bytes.try_reserve_exact(len).map_err(|_| Error::memory())?;
+    bytes.resize(len, 0);
+    Ok(bytes)
+}
+
 /// Reads the bytes of a block.
 ///
 /// # Errors
 ///
 /// `Io`, `Memory`.
-pub(super) fn read_block(files: &impl Files, block: Block) -> Result<Vec<u8>> {
-    let mut bytes = Vec::new();
-    bytes
-        .try_reserve_exact(block.len)
-        .map_err(|_| Error::memory())?;
-    bytes.resize(block.len, 0);
+pub(super) fn read_block<F: Files>(engine: &Engine<F>, block: Block) -> Result<Vec<u8>> {
+    let mut bytes = zeros(block.len)?;
     if block.len > 0 {
-        files
-            .read(block.file, block.offset, &mut bytes)
+        engine
+            .read_at(block.file, block.offset, &mut bytes)
             .map_err(|e| {
                 Error::system("the block can't be read", e).at(block.file, block.offset)
             })?;
@@ -154,8 +163,8 @@ pub(super) fn read_block(files: &impl Files, block: Block) -> Result<Vec<u8>> {
 }
 
 /// Reads the entry bytes of a block, and tests their checksum. A block of no bytes has none.
-pub(super) fn read_entry_bytes(files: &impl Files, block: Block) -> Result<Vec<u8>> {
-    let mut bytes = read_block(files, block)?;
+pub(super) fn read_entry_bytes<F: Files>(engine: &Engine<F>, block: Block) -> Result<Vec<u8>> {
+    let mut bytes = read_block(engine, block)?;
     if block.len > 0 {
         let len = block_entries(&bytes).map_err(|e| e.at(block.file, block.offset))?;
         bytes.truncate(len);

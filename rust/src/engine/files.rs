@@ -165,7 +165,8 @@ pub trait Files: Send + Sync {
     /// Those of the system: the file may be gone.
     fn delete(&self, file: FileId) -> io::Result<()>;
 
-    /// Cuts a file, which is the last one of its queue, to `len` bytes, if it has more.
+    /// Cuts a file, which is the last one of its queue, to `len` bytes, if it has more. That is asked while an engine is opened
+    /// alone. What is cut may be kept elsewhere first, as [`FolderFiles`](crate::FolderFiles) does.
     ///
     /// ```
     /// # use raft_recover::{FileId, Files, MemoryFiles, Queue};

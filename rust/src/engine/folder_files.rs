@@ -1,23 +1,34 @@
 //! The files of an engine in a folder.
 
 use super::{Files, locks};
-use crate::{Error, ErrorKind, FileId, Queue, Result};
+use crate::{Error, FileId, Queue, Result};
 use std::collections::{BTreeMap, BTreeSet};
 use std::fmt;
-use std::fs::{self, File, OpenOptions, TryLockError};
-use std::io::{self, Write};
+use std::fs::{self, File, OpenOptions};
+use std::io;
 use std::os::unix::fs::FileExt;
 use std::path::{Path, PathBuf};
 use std::sync::{Arc, Mutex, RwLock};
 
-/// The name of the file that is locked.
-const LOCK: &str = "LOCK";
+mod aside;
+mod locking;
+mod names;
+mod writing;
 
-/// The files of both queues in a folder, as `0000000000000001.raftlog` and `0000000000000001.rewrite`, and a file `LOCK`, which is
-/// locked for as long as this value lives. Other names are left alone.
+use locking::LockedFolder;
+use names::{id_of, name_of};
+use writing::write_all_or_nothing;
+
+/// The files of both queues in a folder, as `0000000000000001.raftlog` and `0000000000000001.rewrite`, and a file `LOCK`. It and
+/// the folder itself are locked for as long as this value lives. Other names are left alone.
 ///
-/// Where a name is made or deleted the folder is synced at once, and a file without new bytes isn't synced again. After an `Err` of a call that changes something every later
-/// one fails: what the disk has is found when the folder is opened again.
+/// What an opened engine cuts off a file is kept first, in a file beside it whose name says where it stood:
+/// `0000000000000001.raftlog.4096.cut`, and `0000000000000001.raftlog.4096.2.cut` where something else was cut there before. None
+/// is ever read or deleted: look at them where a batch is missed, and delete them when you like.
+///
+/// Where a name is made or deleted the folder is synced at once, and a file without new bytes isn't synced again. After an `Err`
+/// of a call that changes something every later one fails: what the disk has is found when the folder is opened again. A write
+/// that finds no room leaves nothing behind that would have to be cut then, if the system allows that.
 ///
 /// ```
 /// use raft_recover::{ErrorKind, Files, FolderFiles, Queue};
@@ -34,27 +45,26 @@ const LOCK: &str = "LOCK";
 pub struct FolderFiles {
     path: PathBuf,
     /// The folder itself, which is synced where a name in it is made or deleted.
-    folder: File,
+    locked: LockedFolder,
     /// All log files, open.
     files: RwLock<BTreeMap<FileId, Arc<File>>>,
     /// One change at a time has it.
     changes: Mutex<Changes>,
-    /// The file that is locked.
-    _lock: File,
 }
 
 /// What was changed.
 #[derive(Default)]
 struct Changes {
-    /// Whether a change began and didn't end well.
-    has_failed: bool,
+    /// Why none is made any more, if none is.
+    refused: Option<&'static str>,
     /// The files with bytes that aren't synced.
     unsynced: BTreeSet<FileId>,
 }
 
 impl FolderFiles {
-    /// Opens a folder with all log files in it. One that isn't there yet is made, in a folder that is. It is locked before anything
-    /// else in it is read or made. The files, their names and that of the folder are on the disk then.
+    /// Opens a folder with all log files in it. One that isn't there yet is made, in a folder that is. A link is followed once: the
+    /// folder has its real path from then on, wherever the link leads to later. It is locked before anything in it is read or
+    /// made. The files, their names and that of the folder are on the disk then.
     ///
     /// ```
     /// # use raft_recover::FolderFiles;
@@ -76,28 +86,58 @@ impl FolderFiles {
             Err(e) if e.kind() != io::ErrorKind::AlreadyExists => return Err(about(e)),
             _ => {}
         }
-        let lock = locked(&path.join(LOCK))?;
-        let folder = File::open(path).map_err(about)?;
-        let mut files = BTreeMap::new();
-        for entry in fs::read_dir(path).map_err(about)? {
-            let name = entry.map_err(about)?.file_name();
-            if let Some(id) = id_of(&name.to_string_lossy())? {
-                files.insert(id, Arc::new(synced(&path.join(name))?));
-            }
-        }
-        folder.sync_all().map_err(about)?;
+        let path = fs::canonicalize(path).map_err(about)?;
+        let locked = LockedFolder::exclusive(&path)?;
+        let files = opened_in(&path, synced)?;
+        locked.folder.sync_all().map_err(about)?;
         let parent = File::open(path.join("..")).map_err(about)?;
         parent.sync_all().map_err(about)?;
         Ok(FolderFiles {
-            path: path.to_owned(),
-            folder,
+            path,
+            locked,
             files: RwLock::new(files),
             changes: Mutex::default(),
-            _lock: lock,
         })
     }
 
-    /// Returns the folder.
+    /// Opens a folder with all log files in it to be read: every change of them is refused, and nothing is made or synced. So it
+    /// may be one that can only be read. It gets a shared lock, and so does the file `LOCK`, if it is there: others may read it at the
+    /// same time, but no engine writes to it, which would move and delete what is read, or cut it.
+    ///
+    /// ```
+    /// # use raft_recover::{FileId, Files, FolderFiles, Queue};
+    /// # let path = std::env::temp_dir().join(format!("raft-recover-read-only-files-{}", std::process::id()));
+    /// let first = FileId::new(Queue::Append, 1);
+    /// FolderFiles::open(&path)?.rotate(first)?;
+    /// let files = FolderFiles::open_read_only(&path)?;
+    /// assert_eq!(files.list(Queue::Append)?, [(1, 0)]);
+    /// assert!(files.write(first, b"bytes").is_err());
+    /// # std::fs::remove_dir_all(path)?;
+    /// # Ok::<(), Box<dyn std::error::Error>>(())
+    /// ```
+    ///
+    /// # Errors
+    ///
+    /// `TryAgain` where an engine has the folder open that writes; `InvalidArgument` where a name ends like that of a log file and
+    /// is none; `Io`, where there is no folder too.
+    pub fn open_read_only(path: impl AsRef<Path>) -> Result<FolderFiles> {
+        let path = path.as_ref();
+        let path = fs::canonicalize(path).map_err(|e| Error::system(path.display(), e))?;
+        let locked = LockedFolder::shared(&path)?;
+        let files = opened_in(&path, File::open)?;
+        let changes = Changes {
+            refused: Some("the folder is open for reading alone"),
+            unsynced: BTreeSet::new(),
+        };
+        Ok(FolderFiles {
+            path,
+            locked,
+            files: RwLock::new(files),
+            changes: Mutex::new(changes),
+        })
+    }
+
+    /// Returns the real path of the folder.
     ///
     /// ```
     /// # use raft_recover::FolderFiles;
@@ -149,12 +189,12 @@ impl FolderFiles {
         change: impl FnOnce(&mut BTreeSet<FileId>) -> io::Result<()>,
     ) -> io::Result<()> {
         let mut changes = locks::lock(&self.changes);
-        if changes.has_failed {
-            return Err(io::Error::other("an earlier change failed"));
+        if let Some(why) = changes.refused {
+            return Err(io::Error::other(why));
         }
-        changes.has_failed = true;
+        changes.refused = Some("an earlier change failed");
         change(&mut changes.unsynced)?;
-        changes.has_failed = false;
+        changes.refused = None;
         Ok(())
     }
 }
@@ -171,7 +211,7 @@ impl Files for FolderFiles {
     fn write(&self, file: FileId, bytes: &[u8]) -> io::Result<()> {
         self.change(|unsynced| {
             unsynced.insert(file);
-            self.file(file)?.as_ref().write_all(bytes)
+            write_all_or_nothing(self.file(file)?.as_ref(), bytes)
         })
     }
 
@@ -185,7 +225,7 @@ impl Files for FolderFiles {
             let mut how = OpenOptions::new();
             how.create_new(true).read(true).append(true);
             let opened = how.open(self.path_of(file))?;
-            self.folder.sync_all()?;
+            self.locked.folder.sync_all()?;
             locks::write(&self.files).insert(file, Arc::new(opened));
             Ok(())
         })
@@ -196,14 +236,19 @@ impl Files for FolderFiles {
             unsynced.remove(&file);
             locks::write(&self.files).remove(&file);
             fs::remove_file(self.path_of(file))?;
-            self.folder.sync_all()
+            self.locked.folder.sync_all()
         })
     }
 
     fn truncate(&self, file: FileId, len: u64) -> io::Result<()> {
         self.change(|unsynced| {
             let opened = self.file(file)?;
-            if len < opened.metadata()?.len() {
+            let old = opened.metadata()?.len();
+            if len < old {
+                let mut tail = vec![0; (old - len) as usize];
+                opened.read_exact_at(&mut tail, len)?;
+                aside::keep(&self.path, file, len, &tail)?;
+                self.locked.folder.sync_all()?;
                 opened.set_len(len)?;
                 opened.sync_all()?;
                 unsynced.remove(&file);
@@ -226,69 +271,32 @@ impl fmt::Debug for FolderFiles {
     }
 }
 
-/// Opens a file, and locks it for as long as it is open.
-fn locked(path: &Path) -> Result<File> {
-    let mut how = OpenOptions::new();
-    how.create(true).truncate(false).read(true).write(true);
-    let file = how
-        .open(path)
-        .map_err(|e| Error::system(path.display(), e))?;
-    match file.try_lock() {
-        Ok(()) => Ok(file),
-        Err(TryLockError::WouldBlock) => Err(Error::new(
-            ErrorKind::TryAgain,
-            format!(
-                "TryAgain Error: {}: another engine has the folder open",
-                path.display()
-            ),
-        )),
-        Err(TryLockError::Error(e)) => Err(Error::system(path.display(), e)),
+/// Opens all log files in a folder.
+fn opened_in(
+    folder: &Path,
+    open: impl Fn(PathBuf) -> io::Result<File>,
+) -> Result<BTreeMap<FileId, Arc<File>>> {
+    let about = |e| Error::system(folder.display(), e);
+    let mut files = BTreeMap::new();
+    for entry in fs::read_dir(folder).map_err(about)? {
+        let entry = entry.map_err(about)?;
+        if let Some(id) = id_of(&entry.file_name().to_string_lossy())? {
+            let opened = open(entry.path());
+            let file = opened.map_err(|e| Error::system(entry.path().display(), e))?;
+            files.insert(id, Arc::new(file));
+        }
     }
+    Ok(files)
 }
 
-/// Opens a log file, and syncs it.
-fn synced(path: &Path) -> Result<File> {
-    let opened = OpenOptions::new().read(true).append(true).open(path);
-    opened
-        .and_then(|file| file.sync_all().map(|()| file))
-        .map_err(|e| Error::system(path.display(), e))
+/// Opens a log file to be read and written behind its end, and syncs it.
+fn synced(path: PathBuf) -> io::Result<File> {
+    let file = OpenOptions::new().read(true).append(true).open(path)?;
+    file.sync_all()?;
+    Ok(file)
 }
 
 /// Returns the files that a queue may have.
 fn all_of(queue: Queue) -> std::ops::RangeInclusive<FileId> {
     FileId::new(queue, 0)..=FileId::new(queue, u64::MAX)
-}
-
-/// Returns how the names of a queue's files end.
-fn ending_of(queue: Queue) -> &'static str {
-    match queue {
-        Queue::Append => ".raftlog",
-        Queue::Rewrite => ".rewrite",
-    }
-}
-
-/// Returns the name of a log file.
-fn name_of(file: FileId) -> String {
-    format!("{:016}{}", file.seq, ending_of(file.queue))
-}
-
-/// Returns which log file has a name, if one has.
-///
-/// # Errors
-///
-/// `InvalidArgument` where the name ends like that of a log file and is none.
-fn id_of(name: &str) -> Result<Option<FileId>> {
-    for queue in [Queue::Append, Queue::Rewrite] {
-        let Some(number) = name.strip_suffix(ending_of(queue)) else {
-            continue;
-        };
-        let id = number.parse().ok().map(|seq| FileId::new(queue, seq));
-        return match id.filter(|id| name_of(*id) == name) {
-            Some(id) => Ok(Some(id)),
-            None => Err(Error::invalid_argument(&format!(
-                "{name} isn't the name of a log file"
-            ))),
-        };
-    }
-    Ok(None)
 }

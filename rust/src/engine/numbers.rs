@@ -9,8 +9,9 @@ use std::collections::BTreeMap;
 pub(super) struct Numbers {
     /// How many bytes each file has.
     lens: BTreeMap<FileId, u64>,
-    /// How many bytes the rewrite queue had when its records moved last.
-    pub(super) after_moving_again: u64,
+    /// How many bytes of the rewrite queue are needed: as many as it had when its records moved last, or as a purge counted
+    /// before they did.
+    pub(super) needed_rewritten: Option<u64>,
     pub(super) batches: u64,
     pub(super) syncs: u64,
 }
@@ -19,6 +20,13 @@ impl Numbers {
     /// Notes that a file has so many bytes.
     pub(super) fn set_len(&mut self, file: FileId, len: u64) {
         self.lens.insert(file, len);
+    }
+
+    /// Notes that the last file of a queue has so many bytes, if it had more.
+    pub(super) fn cut(&mut self, queue: Queue, len: u64) {
+        if let Some((file, old)) = self.last(queue) {
+            self.set_len(file, len.min(old));
+        }
     }
 
     /// Forgets a file.

@@ -1,10 +1,11 @@
 //! What an engine orders is carried out, in turn.
 
+use super::failure::Unwritten;
 use super::{Engine, locks};
 use crate::sys::{EngineHandle, Order};
 use crate::{Error, ErrorKind, FileId, Files, Queue, Result};
 use std::sync::MutexGuard;
-use std::thread;
+use std::{iter, thread};
 
 /// The turn of a thread, which has it to itself: it makes calls that order something, and carries the orders out. An engine
 /// on which it panics has failed.
@@ -38,24 +39,6 @@ impl<F: Files> Engine<F> {
         self.intact()?;
         Ok(turn)
     }
-
-    /// Tests that the engine hasn't failed.
-    ///
-    /// # Errors
-    ///
-    /// `Failed`, with the reason and its place.
-    pub(super) fn intact(&self) -> Result<()> {
-        match self.failure.get() {
-            None => Ok(()),
-            Some(reason) => Err(reason.as_failure()),
-        }
-    }
-
-    /// Notes why the engine has failed, and returns the reason.
-    pub(super) fn fail(&self, reason: Error) -> Error {
-        self.failure.get_or_init(|| reason.clone());
-        reason
-    }
 }
 
 impl<F: Files> Turn<'_, F> {
@@ -73,22 +56,35 @@ impl<F: Files> Turn<'_, F> {
         }
         let orders = tables.take_orders();
         drop(tables);
-        self.carry_out(orders).map_err(|e| self.engine.fail(e))?;
+        self.carry_out(orders.map_err(|e| self.engine.fail(e))?)?;
         result
     }
 
     /// Carries orders out, one after another.
-    fn carry_out(&self, orders: Result<Vec<Order>>) -> Result<()> {
-        for order in orders? {
-            match order {
-                Order::Write(queue, bytes) => self.write(queue, &bytes)?,
-                Order::Begin(file) => self.begin(file)?,
-                Order::Sync(queue) => self.sync(queue)?,
-                Order::DeleteOldest(queue) => self.delete_oldest(queue)?,
-                Order::Cut(queue, len) => self.cut(queue, len)?,
+    ///
+    /// # Errors
+    ///
+    /// `Io` where one can't be carried out: the engine has failed then, and keeps the bytes of that one and of those after it.
+    pub(super) fn carry_out(&self, orders: Vec<Order>) -> Result<()> {
+        let mut orders = orders.into_iter();
+        while let Some(order) = orders.next() {
+            if let Err(e) = self.carry_out_one(&order) {
+                let left = iter::once(order).chain(orders);
+                let unwritten = Unwritten::of(left, &locks::lock(&self.engine.numbers));
+                return Err(self.engine.fail_files(e, unwritten));
             }
         }
         Ok(())
+    }
+
+    fn carry_out_one(&self, order: &Order) -> Result<()> {
+        match order {
+            Order::Write(queue, bytes) => self.write(*queue, bytes),
+            Order::Begin(file) => self.begin(*file),
+            Order::Sync(queue) => self.sync(*queue),
+            Order::DeleteOldest(queue) => self.delete_oldest(*queue),
+            Order::Cut(queue, len) => self.cut(*queue, *len),
+        }
     }
 
     fn write(&self, queue: Queue, bytes: &[u8]) -> Result<()> {
@@ -125,10 +121,10 @@ impl<F: Files> Turn<'_, F> {
     }
 
     fn cut(&self, queue: Queue, len: u64) -> Result<()> {
-        let (file, old) = self.last(queue)?;
+        let (file, _) = self.last(queue)?;
         let cut = self.engine.files.truncate(file, len);
         cut.map_err(|e| Error::system("the file can't be cut", e).at(file, len))?;
-        locks::lock(&self.engine.numbers).set_len(file, len.min(old));
+        locks::lock(&self.engine.numbers).cut(queue, len);
         Ok(())
     }
 

@@ -2,6 +2,7 @@
 
 use super::entries::{read_block, read_entry_bytes};
 use super::orders::Turn;
+use super::reading::places;
 use super::{Engine, Purged, locks};
 use crate::sys::EngineHandle;
 use crate::{Block, Error, ErrorKind, Files, Queue, Result};
@@ -28,6 +29,7 @@ impl<F: Files> Engine<F> {
     ///
     /// `Full` where the last file has the greatest number, `Memory`. `Io`, `Failed`: the engine has failed.
     pub fn rotate(&self) -> Result<()> {
+        self.changeable("rotate")?;
         self.turn()?.call(EngineHandle::rotate)
     }
 
@@ -65,6 +67,7 @@ impl<F: Files> Engine<F> {
     /// `InvalidArgument` where a key is that of the group markers; `Io` where they can't be read; `Memory`. Some records may have
     /// moved then. `Io` of a change, `Failed`: the engine has failed.
     pub fn rewrite(&self, gate: u64) -> Result<()> {
+        self.changeable("rewrite")?;
         let last = locks::lock(&self.numbers).last(Queue::Append);
         let gate = last.map_or(gate, |(file, _)| gate.min(file.seq));
         let mut lent = Vec::new();
@@ -113,6 +116,7 @@ impl<F: Files> Engine<F> {
     ///
     /// Those of [`Engine::rewrite`]; but a region whose entries fit no batch moves in several.
     pub fn rewrite_again(&self) -> Result<()> {
+        self.changeable("rewrite_again")?;
         let turn = self.turn()?;
         let lent = self.lend(None, usize::MAX)?;
         turn.call(EngineHandle::rewrite_again)
@@ -124,7 +128,7 @@ impl<F: Files> Engine<F> {
     fn lend(&self, gate: Option<u64>, max_size: usize) -> Result<Vec<Block>> {
         let blocks = self.tables().moving_blocks(gate, max_size)?;
         for block in &blocks {
-            let bytes = read_block(&self.files, *block)?;
+            let bytes = read_block(self, *block)?;
             self.tables().lend(*block, &bytes)?;
         }
         Ok(blocks)
@@ -137,16 +141,19 @@ impl<F: Files> Engine<F> {
         }
         let damaged = lent
             .iter()
-            .find_map(|block| read_entry_bytes(&self.files, *block).err());
+            .find_map(|block| read_entry_bytes(self, *block).err());
         damaged.unwrap_or(refused)
     }
 
     /// Deletes the files that no table needs, and returns how many. Where those of a queue have more bytes than
     /// [`Options::purge_above`] it first moves what it needs: in the append queue until half of that is left, in the rewrite
-    /// queue where it has twice as many bytes as when its records moved last, or more.
+    /// queue where it has twice as many bytes as it needs, or more. It needs as many as it had when its records moved last; until
+    /// they do, as the entries there have, and all keys with their values.
     ///
     /// Files are deleted here alone, so a program calls it now and then, best from a thread of its own: threads that write
-    /// wait while it moves records. Where there is nothing to do it asks nothing of the files.
+    /// wait while it moves records. Where there is nothing to do it asks nothing of the files. Files that are needed no more go
+    /// first, before records move; but what the batches in them took away is written to the rewrite queue before they go, so on a
+    /// full disk even that may be refused.
     ///
     /// ```
     /// # use raft_recover::{Engine, LogBatch, MemoryFiles, Options};
@@ -168,16 +175,17 @@ impl<F: Files> Engine<F> {
     ///
     /// Those of [`Engine::rewrite`].
     pub fn purge(&self) -> Result<Purged> {
+        self.changeable("purge")?;
         let mut purged = self.delete_files()?;
         if let Some(gate) = self.gate_due() {
             self.rewrite(gate)?;
             purged += self.delete_files()?;
         }
-        if self.is_moving_again_due() {
+        if self.is_moving_again_due()? {
             self.rewrite_again()?;
             purged += self.delete_files()?;
             let mut numbers = locks::lock(&self.numbers);
-            numbers.after_moving_again = numbers.bytes(Queue::Rewrite);
+            numbers.needed_rewritten = Some(numbers.bytes(Queue::Rewrite));
         }
         Ok(purged)
     }
@@ -213,10 +221,40 @@ impl<F: Files> Engine<F> {
         gate
     }
 
-    /// Tests whether the rewrite queue has too many bytes, and so many more than when its records moved last.
-    fn is_moving_again_due(&self) -> bool {
-        let numbers = locks::lock(&self.numbers);
-        let bytes = numbers.bytes(Queue::Rewrite);
-        bytes > self.options.purge_above && bytes / 2 >= numbers.after_moving_again
+    /// Tests whether the rewrite queue has too many bytes, and twice as many as are needed of them, or more.
+    fn is_moving_again_due(&self) -> Result<bool> {
+        let (bytes, needed) = {
+            let numbers = locks::lock(&self.numbers);
+            (numbers.bytes(Queue::Rewrite), numbers.needed_rewritten)
+        };
+        if bytes <= self.options.purge_above {
+            return Ok(false);
+        }
+        let needed = needed.map_or_else(|| self.needed_rewritten(), Ok)?;
+        Ok(bytes / 2 >= needed)
     }
+
+    /// Counts the bytes that tables need of the rewrite queue, and notes how many these are.
+    fn needed_rewritten(&self) -> Result<u64> {
+        let regions = self.tables().regions()?;
+        let needed = regions.into_iter().try_fold(0, |sum, region| {
+            Ok(sum + rewritten_in(&mut self.tables(), region)?)
+        })?;
+        locks::lock(&self.numbers).needed_rewritten = Some(needed);
+        Ok(needed)
+    }
+}
+
+/// Returns how many bytes a region's entries have in rewrite files, and all its keys with their values, which may stand there.
+fn rewritten_in(tables: &mut EngineHandle, region: u64) -> Result<u64> {
+    let entries = places(tables, region, &(..), None)?;
+    let rewritten = entries
+        .iter()
+        .filter(|entry| entry.block.file.queue == Queue::Rewrite)
+        .map(|entry| u64::from(entry.len));
+    let pairs = tables.scan(region, b"", None)?;
+    let of_pairs = pairs
+        .iter()
+        .map(|pair| (pair.key.len() + pair.value.len()) as u64);
+    Ok(rewritten.chain(of_pairs).sum())
 }

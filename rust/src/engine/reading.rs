@@ -1,6 +1,6 @@
 //! An engine is read.
 
-use super::{Engine, Entries, Pairs, pairs};
+use super::{Engine, Entries, Pairs, locks, pairs};
 use crate::sys::EngineHandle;
 use crate::{Entry, Files, Result, Summary};
 use std::ops::{Bound, Range, RangeBounds};
@@ -201,23 +201,23 @@ impl<F: Files> Engine<F> {
     /// Reads the entries that a call finds. Their bytes may not be written yet, or have moved meanwhile: in a turn neither is so.
     fn read(&self, find: impl Fn(&mut EngineHandle) -> Result<Vec<Entry>>) -> Result<Entries> {
         let found = self.look_up(&find)?;
-        if let Ok(entries) = Entries::read(&self.files, &found) {
+        if let Ok(entries) = Entries::read(self, &found) {
             return Ok(entries);
         }
-        let _turn = self.turn()?;
+        let _turn = locks::lock(&self.turn);
         let found = self.look_up(&find)?;
-        Entries::read(&self.files, &found)
+        Entries::read(self, &found)
     }
 
     /// Makes a call that reads the tables.
     fn look_up<T>(&self, call: impl FnOnce(&mut EngineHandle) -> Result<T>) -> Result<T> {
-        self.intact()?;
+        self.readable()?;
         call(&mut self.tables())
     }
 }
 
 /// Finds the places of the entries of a range.
-fn places(
+pub(super) fn places(
     tables: &mut EngineHandle,
     region: u64,
     range: &impl RangeBounds<u64>,

@@ -21,9 +21,9 @@ pub struct Stats {
     pub append: QueueStats,
     /// The rewrite queue.
     pub rewrite: QueueStats,
-    /// How many batches were written.
+    /// How many batches with items were written.
     pub batches: u64,
-    /// How many syncs that took. Threads that write at the same time share them.
+    /// How many syncs were made. Threads that write at the same time share them.
     pub syncs: u64,
 }
 

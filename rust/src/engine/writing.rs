@@ -30,8 +30,8 @@ impl<F: Files> Engine<F> {
     /// region, or don't fit otherwise; `Full` where it has 2^56 bytes or more, or its file more than 2^63; `Memory`. Engine and batch
     /// are then as they were. `Io`, `Failed`: the engine has failed, and the batch may be in the files or not.
     pub fn write(&self, batch: &mut LogBatch, sync: bool) -> Result<()> {
-        self.intact()?;
-        self.commits.write(batch, sync, |group| self.lead(group))
+        self.changeable("write")?;
+        self.write_in_turn(batch, sync)
     }
 
     /// Makes all that was written last.
@@ -50,7 +50,14 @@ impl<F: Files> Engine<F> {
     ///
     /// `Memory`, `Io`, `Failed`: the engine has failed, but for `Memory`.
     pub fn sync(&self) -> Result<()> {
-        self.write(&mut LogBatch::new()?, true)
+        self.changeable("sync")?;
+        self.write_in_turn(&mut LogBatch::new()?, true)
+    }
+
+    /// Hands in a batch, and waits until a thread has written it.
+    fn write_in_turn(&self, batch: &mut LogBatch, sync: bool) -> Result<()> {
+        self.intact()?;
+        self.commits.write(batch, sync, |group| self.lead(group))
     }
 
     /// Writes the batches of all threads that wait, syncs once for those who want that, and begins a file where it is due.
@@ -73,7 +80,7 @@ impl<F: Files> Engine<F> {
         if written.is_err() {
             return group.end(&written);
         }
-        locks::lock(&self.numbers).batches += group.unrefused();
+        locks::lock(&self.numbers).batches += group.written();
         group.release_unsynced();
         if !group.commits().is_empty() {
             let synced = turn.call(EngineHandle::sync);

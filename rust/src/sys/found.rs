@@ -11,6 +11,9 @@ use std::mem;
 #[derive(Debug)]
 pub(crate) struct FoundHandle(Handle);
 
+// SAFETY: the library proves that its handle may move to another thread.
+unsafe impl Send for FoundHandle {}
+
 impl FoundHandle {
     /// Holds no files.
     pub(crate) fn new() -> Result<FoundHandle> {

@@ -1,6 +1,6 @@
 //! The region marks of one slot.
 
-ghost use Rattle.std.specs.Prelude.{◌≡◌, ◌≢◌, ◌<◌, ◌^◌, ℕ, nat_eq, OnOk, OnErr, Some, is_some};
+ghost use Rattle.std.specs.Prelude.{◌≡◌, ◌≢◌, ◌<◌, ◌^◌, ℕ, nat_eq, OnOk, OnErr, Some, is_some, option_map};
 ghost use Rattle.raft_contexts.specs.Common.{IsDistinct, keys_of, total, Mark, fresh, mark_of, joined_at, step_shown, absent_in, count_absent, mark_in, run_at, MayChangeMark, IsMarkUpdated};
 ghost use Rattle.std.specs.FinMap as finite;
 ghost use Rattle.std.specs.FinSet as finset;
@@ -63,6 +63,12 @@ impl SlotMarks {
         ensures { result ≡ is_some (finite.get self.now id) }
     {
         self.marks.contains_key(&id)
+    }
+
+    pub(crate) fn get(&self, id: u64) -> Option<&SmallMark>
+        ensures { option_map (λ m. m.now) result ≡ finite.get self.now id }
+    {
+        self.marks.get(&id)
     }
 
     pub(crate) fn put_run(&mut self, id: u64, start: u64) -> AllocResult<()>

@@ -1,11 +1,15 @@
 //! A region mark as a slot keeps it.
 
-ghost use Rattle.std.specs.Prelude.{◌≡◌, IfOk, IfSome, OnOk, OnErr, MatchBool, Ok, Some};
+ghost use Rattle.std.specs.Prelude.{◌≡◌, ◌++◌, IfErr, IfOk, IfSome, OnOk, OnErr, MatchBool, Ok, Some};
 ghost use Rattle.raft_contexts.specs.Common.{LogQueue, fresh, joined_at, MayChangeMark, ChangesMark, IsOneUpdated};
+ghost use Rattle.raft_records.specs.LogBatch.{is_open};
+ghost use Rattle.raft_contexts.specs.TakenAway.{items_of_steps, told_by_mark};
 ghost use Rattle.std.specs.FinSet as finset;
 
-use raft_base::{AllocResult, LogQueue};
-use raft_table::Mark;
+use crate::taken_away::tell_mark;
+use raft_base::{AllocResult, Error, LogQueue, Result};
+use raft_records::LogBatch;
+use raft_table::{Mark, MemTable};
 use std::alloc::Global;
 use std::marker::Model;
 
@@ -67,6 +71,24 @@ impl SmallMark {
         match self.form {
             Form::Run(start) => Mark::of_run(self.alloc, start),
             Form::Whole(mark) => Box::into_inner(mark),
+        }
+    }
+
+    /// Adds what the region mark takes away of the region's rewritten table to a batch.
+    ///
+    /// # Errors
+    ///
+    /// `Memory`.
+    pub(crate) fn tell(&self, table: &MemTable, told: &mut LogBatch) -> Result<()>
+        requires { told.old.stage ≡ is_open }
+        ensures ok { OnOk result (told.new ≡ record told.old {
+          items = told.old.items ++ items_of_steps table.now.region_id (told_by_mark self.now table.now);
+        }) }
+        ensures memory { IfErr result (λ e. e ≡ Error.Memory) }
+    {
+        match &self.form {
+            Form::Run(start) => tell_mark(&Mark::of_run(self.alloc, *start), table, told),
+            Form::Whole(mark) => tell_mark(mark, table, told),
         }
     }
 

@@ -2,6 +2,7 @@
 
 ghost use Rattle.std.specs.Prelude.{◌≡◌, map, IfErr, IfOk, OnOk};
 ghost use Rattle.raft_files.specs.HeldFiles.{file_shown};
+ghost use Rattle.raft_engine.specs.CutTails.{IsRecoveredOf};
 ghost use Rattle.raft_engine.specs.Opened.{IsOpened};
 ghost use Rattle.raft_engine.specs.ReadContexts.{AreUnmergedAs, HaveReadFound};
 ghost use Rattle.raft_engine.specs.StoredFound.{found_asks};
@@ -9,7 +10,7 @@ ghost use Rattle.raft_engine.specs.Unopened.{AreBothAccepted, IsUnopened};
 
 use super::Engine;
 use crate::reading::read_over;
-use crate::unopened::Unopened;
+use crate::unopened::{Opened, Unopened};
 use raft_base::{FileSeq, Version};
 use raft_contexts::MemTableRecoverContext;
 use raft_files::EngineFiles;
@@ -41,6 +42,41 @@ impl<F: EngineFiles> Engine<F> {
         requires read { HaveReadFound version (map file_shown append.items) (map file_shown rewrite.items) appended rewritten }
         ensures ok { IfOk result (IsOpened version (map file_shown append.items)
             (map file_shown rewrite.items)) }
+        ensures accepted { OnOk result (AreBothAccepted version (map file_shown append.items)
+            (map file_shown rewrite.items)) }
+        ensures err { IfErr result (λ unopened. IsUnopened (AreUnmergedAs version appended rewritten) F.may_fail version
+            (map file_shown append.items) (map file_shown rewrite.items) (F.asked unopened.files) unopened.error) }
+    {
+        match Engine::open_over_telling(
+            alloc, version, files, append, rewrite, appended, rewritten,
+        ) {
+            Ok(opened) => Ok(opened.engine),
+            Err(unopened) => Err(unopened),
+        }
+    }
+
+    /// Opens the files that a stop of the machine left, as [`Engine::open_over`] does, and tells what was cut off from them, as
+    /// [`Engine::open_telling`] does.
+    ///
+    /// # Errors
+    ///
+    /// Those of [`Engine::open_over`].
+    pub fn open_over_telling(
+        alloc: Global,
+        version: Version,
+        files: F,
+        append: Vec<(FileSeq, Vec<u8>)>,
+        rewrite: Vec<(FileSeq, Vec<u8>)>,
+        appended: MemTableRecoverContext,
+        rewritten: MemTableRecoverContext,
+    ) -> std::result::Result<Opened<F>, Unopened<F>>
+        requires asked { F.asked files
+            ≡ found_asks (map file_shown append.items) (map file_shown rewrite.items) }
+        requires read { HaveReadFound version (map file_shown append.items) (map file_shown rewrite.items) appended rewritten }
+        ensures ok { IfOk result (λ opened. IsOpened version (map file_shown append.items)
+            (map file_shown rewrite.items) opened.engine) }
+        ensures recovered { IfOk result (λ opened. IsRecoveredOf version (map file_shown append.items)
+            (map file_shown rewrite.items) opened.recovered) }
         ensures accepted { OnOk result (AreBothAccepted version (map file_shown append.items)
             (map file_shown rewrite.items)) }
         ensures err { IfErr result (λ unopened. IsUnopened (AreUnmergedAs version appended rewritten) F.may_fail version

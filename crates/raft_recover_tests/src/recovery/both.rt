@@ -13,7 +13,7 @@ use std::thread::Threads;
 
 /// What is written to a queue.
 #[derive(Clone, Copy)]
-enum Record {
+pub(super) enum Record {
     /// Entries of region 1 from an index to below another, a batch each.
     Run(u64, u64),
     /// A value of a key of region 1.
@@ -139,6 +139,20 @@ fn append_record(
     }
 }
 
+/// Returns the bytes of the file with the batches of the records, whose entries have so many bytes.
+pub(super) fn file_bytes(
+    alloc: Global,
+    file: FileId,
+    records: &[Record],
+    len: usize,
+) -> Result<Vec<u8>> {
+    let mut bytes = Vec::new(alloc);
+    for &record in records {
+        append_record(alloc, file, record, len, &mut bytes)?;
+    }
+    Ok(bytes)
+}
+
 /// Returns one file of the queue with the batches of the records, whose entries have so many bytes.
 fn segments_of(
     alloc: Global,
@@ -147,10 +161,7 @@ fn segments_of(
     len: usize,
 ) -> Result<Vec<Segment>> {
     let file = FileId::new(queue, 3);
-    let mut bytes = Vec::new(alloc);
-    for &record in records {
-        append_record(alloc, file, record, len, &mut bytes)?;
-    }
+    let bytes = file_bytes(alloc, file, records, len)?;
     let part = FilePart::new(file, Version::V2, 0, bytes)?;
     let segment = vec![in alloc; part]?;
     Ok(vec![in alloc; segment]?)

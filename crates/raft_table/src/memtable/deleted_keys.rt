@@ -49,6 +49,13 @@ impl DeletedKeys {
         self.keys.len()
     }
 
+    /// Tests whether a key is among them.
+    pub fn contains(&self, key: &[u8]) -> bool
+        ensures { result ≡ finset.contains self.now key.now }
+    {
+        self.keys.contains_key(key)
+    }
+
     /// Takes all keys away.
     pub fn clear(&mut self)
         ensures { self.new ≡ finset.empty }

@@ -4,9 +4,11 @@ ghost use Rattle.std.specs.Prelude.{◌≡◌, ◌+◌, ◌≤◌, ◌∷◌, �
 ghost use Rattle.raft_table.specs.Common.{option_copied, option_map, CalledAtTwo, LogQueue, VisitsUntilFalse, pairs_between, Keys, pair_count, file_weight, value_at, file_at, with_moved, seqs_in, least, lesser, is_up_to, pairs_up_to};
 ghost use Rattle.raft_table.specs.Common.{pairs_shown, pairs_over, ArePartlyOver};
 ghost use Rattle.std.specs.FinMap as finite;
+ghost use Rattle.std.specs.FinSet as finset;
 
 mod scan;
 
+use crate::memtable::deleted_keys::DeletedKeys;
 use crate::memtable::mark::lesser;
 use raft_base::{AllocResult, FileId, FileSeq, LogQueue};
 use scan::{divided, is_forward, sought, visit, visit_back};
@@ -87,6 +89,14 @@ impl KeyValues {
         ensures { option_map (λ v. v.now) result ≡ value_at self.now key.now }
     {
         Some(self.pairs.get(key)?.value.as_slice())
+    }
+
+    /// Copies the keys that are in `set` too, in order.
+    pub fn keys_in(&self, set: &DeletedKeys) -> AllocResult<Vec<Vec<u8>>>
+        ensures { IfOk result (λ keys. map (λ k. k.items) keys.items
+            ≡ filter (finset.contains set.now) (finite.keys self.now)) }
+    {
+        copied_keys(self.alloc, &self.pairs, set)
     }
 
     pub fn file_of(&self, key: &[u8]) -> Option<FileId>
@@ -246,6 +256,23 @@ fn push_fetched(
         }
     }
     Ok(())
+}
+
+fn copied_keys(
+    alloc: Global,
+    pairs: &BTreeMap<Vec<u8>, StoredValue>,
+    set: &DeletedKeys,
+) -> AllocResult<Vec<Vec<u8>>>
+    ensures { IfOk result (λ keys. map (λ k. k.items) keys.items
+        ≡ filter (finset.contains set.now) (map (λ e. e.0.items) pairs.now.entries)) }
+{
+    let mut keys = Vec::new(alloc);
+    for (key, _) in pairs {
+        if set.contains(key) {
+            keys.push(copied(key)?)?;
+        }
+    }
+    Ok(keys)
 }
 
 fn copied(bytes: &Vec<u8>) -> AllocResult<Vec<u8>>

@@ -1,15 +1,16 @@
 //! What a table returns of its records, and laws of ranges, sizes and refusals.
 
-ghost use Rattle.std.specs.Prelude.{◌≡◌, ◌<◌, ℕ, List, [], Option, Some, None, nat_lt, length, false, true, if◌then◌else◌, ◌+◌, ◌&&◌, nat_le, ◌≤◌, ◌++◌, ◌⊎◌, suc, ◌^◌, map, reverse, All, Contains, ◌-◌, IsOk, OnOk, OnErr, IfErr};
+ghost use Rattle.std.specs.Prelude.{◌≡◌, ◌<◌, ℕ, List, [], Option, Some, None, nat_lt, length, false, true, if◌then◌else◌, ◌+◌, ◌&&◌, nat_le, ◌≤◌, ◌++◌, ◌⊎◌, suc, ◌^◌, map, reverse, All, Contains, ◌-◌, IsOk, OnOk, OnErr, IfOk, IfErr, filter};
 ghost use Rattle.raft_table.specs.Common.{LogQueue, EntryIndex, Append, Rewrite, start_of, entry_at, below, from, AreTableEntries, Keys, Table, entries_after_append, entries_after_replay, nat_cmp, slice_cmp, IsStrictlySortedBy, Error};
 ghost use Rattle.raft_table.specs.Common.{Counts, live, RisesFrom, end_of, entries_between, entry_count, Found, range_answer, total_len, IsLimitCount, FetchesWithin, value_at, least, is_between, pairs_between, live_of, IsTableRunFault};
 ghost use Rattle.raft_table.specs.Common.{CalledAtTwo, slice_get, option_copied, placed_in, Fetches, IsFetchFault, appended_before, block_count, entry_seq, is_some_before, pairs_shown, pairs_up_to, VisitsUntilFalse, least_of};
 ghost use Rattle.raft_table.specs.Common.{at_most_group_seq};
 ghost use Rattle.std.specs.FinMap as finite;
+ghost use Rattle.std.specs.FinSet as finset;
 
 use crate::memtable::MemTable;
-use crate::memtable::mark::lesser;
-use raft_base::{EntryIndex, Error, FileId, FileSeq, LogQueue, Result};
+use crate::memtable::mark::{Mark, lesser};
+use raft_base::{AllocResult, EntryIndex, Error, FileId, FileSeq, LogQueue, Result};
 
 impl MemTable {
     /// Returns how many blocks the entries are kept in.
@@ -114,6 +115,19 @@ impl MemTable {
     {
         self.keys.fetch(LogQueue::Rewrite, None, vec)?;
         Ok(())
+    }
+
+    /// Copies the keys with a value that a region mark deletes, in order.
+    ///
+    /// # Errors
+    ///
+    /// Where there is no memory for them.
+    #[doc(hidden)]
+    pub fn keys_deleted_by(&self, mark: &Mark) -> AllocResult<Vec<Vec<u8>>>
+        ensures { IfOk result (λ keys. map (λ k. k.items) keys.items
+            ≡ filter (finset.contains mark.now.deleted) (finite.keys self.now.keys)) }
+    {
+        self.keys.keys_in(mark.deleted())
     }
 
     /// Calls `f` at the keys from `start` on and below `end` with their values, in the order of the

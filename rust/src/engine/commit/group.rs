@@ -29,12 +29,9 @@ impl<'a> Group<'a> {
         &mut self.taken
     }
 
-    /// Returns how many batches have no result yet.
-    pub(in crate::engine) fn unrefused(&self) -> u64 {
-        self.taken
-            .iter()
-            .filter(|commit| commit.result.is_none())
-            .count() as u64
+    /// Returns of how many batches items were written.
+    pub(in crate::engine) fn written(&self) -> u64 {
+        self.taken.iter().filter(|commit| commit.is_written).count() as u64
     }
 
     /// Lets the threads go on whose batches were refused, or were written and needn't last.

@@ -1,4 +1,4 @@
-use Rattle.raft_engine_fronts.proofs.TornLemmas.{whole_torn, one_reading, cut_found, unfollowed, uncut, readable_front_stops}
+use Rattle.raft_engine_fronts.proofs.TornLemmas.{whole_torn, one_reading, cut_found, undamaged, uncut, readable_front_stops}
 use Rattle.raft_engine_fronts.proofs.torn_tails.torn_tails_are_found.Goals as goal
 
 pub returns-clause-whole : goal.returns-clause-whole
@@ -10,8 +10,8 @@ returns-clause-one_reading c = one_reading
 pub returns-clause-cut : goal.returns-clause-cut
 returns-clause-cut c = cut_found
 
-pub returns-clause-unfollowed : goal.returns-clause-unfollowed
-returns-clause-unfollowed c = unfollowed
+pub returns-clause-undamaged : goal.returns-clause-undamaged
+returns-clause-undamaged c = undamaged
 
 pub returns-clause-uncut : goal.returns-clause-uncut
 returns-clause-uncut c = uncut

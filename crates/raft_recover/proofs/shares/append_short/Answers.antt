@@ -1,4 +1,4 @@
-use Rattle.raft_recover.proofs.Common.{append-nil, ◌++◌, ◌+◌, ◌<◌, ◌∷◌, [], List, length, take, sym, ap, ◌∙◌, append_assoc, subst, arith, take_all, Part, AreDivided, IsCutInto, item_taken}
+use Rattle.raft_recover.proofs.Common.{append-nil, ◌++◌, ◌<◌, ◌∷◌, [], List, length, take, sym, ap, ◌∙◌, append_assoc, subst, arith, take_all, Part, AreDivided, IsCutInto, item_taken}
 use Rattle.raft_recover.proofs.ShareLemmas.{divided_more}
 use Rattle.raft_recover.proofs.shares.append_short.Goals as goal
 

@@ -5,8 +5,8 @@ use Rattle.raft_engine.specs.ReadFound.{reading_asks}
 use Rattle.raft_engine.proofs.OpenedLemmas.{half_opened, kept_opened, opened_so}
 use Rattle.raft_engine.proofs.engine.Engine.of_reading.Goals as goal
 
-pub invariant_of-result : goal.invariant_of-result
-invariant_of-result g c =
+pub invariant_of-engine : goal.invariant_of-engine
+invariant_of-engine g c =
     let found = c.requires.found in
     kept_opened c.args.version found.0 found.1 _ _ _ _ _
     (opened_so c.found_files_are_stored.ensures.ready c.found_files_are_stored.ensures.stored c.found_files_are_stored.ensures.records c.args.version found.0 found.1 c.args.reading found.3

@@ -1,0 +1,8 @@
+use Rattle.std.proofs.lemmas.Result.{on_ok_weaker}
+use Rattle.raft_contexts.proofs.TakenAwayLemmas.{kept_mark, under_mark}
+use Rattle.raft_contexts.proofs.marked_tables.MarkedTables.tell_table.Goals as goal
+
+pub returns-in-Some-clause-ok : goal.returns-in-Some-clause-ok
+returns-in-Some-clause-ok c =
+    on_ok_weaker c.tell.result (under_mark c.args.self.now c.args.table.now c.region_id.result c.in-Some.mark.now c.args.told.now c.tell.new.told c.region_id.ensures
+    (kept_mark c.args.self.now c.region_id.result c.in-Some.mark.now c.in-Some.ensures)) c.tell.ensures.ok

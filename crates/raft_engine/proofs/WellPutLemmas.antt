@@ -1,0 +1,55 @@
+-- What each ask makes of what is well put.
+use Rattle.std.proofs.Common.{ℕ, List, [], ◌∷◌, ◌++◌}
+use Rattle.raft_base.specs.declared.pipe_log.FileBlockHandle.{FileBlockHandle}
+use Rattle.raft_base.specs.declared.pipe_log.LogQueue.{LogQueue}
+use Rattle.raft_base.specs.declared.pipe_log.LogQueue.TheVariants.{Append, Rewrite}
+use Rattle.raft_base.specs.declared.pipe_log.Version.{Version}
+use Rattle.raft_history.specs.Batches.{Event}
+use Rattle.raft_files.specs.Asks.{Act, Ask, Begin, Cut, Delete, Found, NumberedBytes, Put, Read, Sync, acts_on}
+use Rattle.raft_files.specs.Disk.{begun}
+use Rattle.raft_recover.specs.Files.{FilesHold}
+use Rattle.raft_engine_fronts.specs.EntryPlaces.{EntriesEndWithin}
+use Rattle.raft_engine_fronts.specs.TornTails.{FilesHoldTorn}
+use Rattle.raft_engine_fronts.proofs.EndLemmas.{begin_within, cut_within, found_within, none_within, put_within}
+use Rattle.raft_engine.specs.FoundFiles.{IsLastOfOther}
+use Rattle.raft_engine.specs.WellPut.{AreWellPut}
+use Rattle.raft_engine.proofs.OfVersionLemmas.{nothing_other, stays}
+
+module _ (queue : LogQueue) (version : Version) where
+  pub none_well : AreWellPut queue version []
+  none_well = record { of_version = nothing_other queue version; within = none_within queue version }
+
+  pub found_well : (acts : List Act) (files : List NumberedBytes) → ¬ (IsLastOfOther queue version files) → AreWellPut queue version (Found files ∷ acts)
+  found_well acts files none = record { of_version = (stays queue version acts).found files none; within = found_within queue version acts files }
+
+  pub begin_well : (acts : List Act) (seq : ℕ) → AreWellPut queue version acts → AreWellPut queue version (Begin seq ∷ acts)
+  begin_well acts seq w = record { of_version = (stays queue version acts).begun seq w.of_version; within = begin_within queue version acts seq w.within }
+
+  pub sync_well : (acts : List Act) → AreWellPut queue version acts → AreWellPut queue version (Sync ∷ acts)
+  sync_well acts w = record { of_version = (stays queue version acts).synced w.of_version; within = w.within }
+
+  pub delete_well : (acts : List Act) → AreWellPut queue version acts → AreWellPut queue version (Delete ∷ acts)
+  delete_well acts w = record { of_version = (stays queue version acts).deleted w.of_version; within = w.within }
+
+  pub read_well : (acts : List Act) (place : FileBlockHandle) (bytes : List ℕ) → AreWellPut queue version acts → AreWellPut queue version (Read place bytes ∷ acts)
+  read_well acts place bytes w = record { of_version = (stays queue version acts).read place bytes w.of_version; within = w.within }
+
+  pub put_well : (acts : List Act) (bytes : List ℕ) (h : List Event) (e : Event) → FilesHold queue version (begun acts) h → FilesHold queue version (begun (Put bytes ∷ acts)) (h ++ e ∷ [])
+      → EntriesEndWithin (e ∷ []) → AreWellPut queue version acts → AreWellPut queue version (Put bytes ∷ acts)
+  put_well acts bytes h e before after ends w = record {
+    of_version = (stays queue version acts).put bytes (h ++ e ∷ []) after w.of_version;
+    within = put_within queue version acts bytes h e before after ends w.within;
+  }
+
+  pub cut_well : (acts : List Act) (len : ℕ) (h : List Event) → FilesHoldTorn queue version (begun acts) h → FilesHold queue version (begun (Cut len ∷ acts)) h
+      → AreWellPut queue version acts → AreWellPut queue version (Cut len ∷ acts)
+  cut_well acts len h before after w = record {
+    of_version = (stays queue version acts).cut len h after w.of_version;
+    within = cut_within queue version acts len h before after w.within;
+  }
+
+-- the same of both queues
+pub both_well : (version : Version) (asks : List Ask) → AreWellPut Append version (acts_on Append asks) → AreWellPut Rewrite version (acts_on Rewrite asks)
+    → (queue : LogQueue) → AreWellPut queue version (acts_on queue asks)
+both_well version asks append rewrite Append = append
+both_well version asks append rewrite Rewrite = rewrite

@@ -1,0 +1,81 @@
+//! Laws of what is told when files are opened.
+
+ghost use Rattle.std.specs.Prelude.{◌≡◌, ◌↔◌, None, true, ◌+◌, ◌<◌, ℕ, List, [], ◌∷◌, ◌++◌};
+ghost use Rattle.std.specs.FinMap as finite;
+ghost use Rattle.raft_base.specs.declared.pipe_log.LogQueue.TheVariants.{Append, Rewrite};
+ghost use Rattle.raft_history.specs.Batches.{Event, batches};
+ghost use Rattle.raft_history.specs.BothQueues.{IsReadingOfBoth};
+ghost use Rattle.raft_base.specs.declared.entry_index.EntryIndex.{EntryIndex};
+ghost use Rattle.raft_contexts.specs.RecoverContext.{HasRead, RecoverContext};
+ghost use Rattle.raft_history.specs.Contexts.{Suits};
+ghost use Rattle.raft_history.specs.MarkedRegions.{region_in};
+ghost use Rattle.raft_history.specs.Effects.{steps_of};
+ghost use Rattle.raft_history.specs.Histories.{IsSoundIn};
+ghost use Rattle.raft_history.specs.RegionSteps.{RegionStep, Tables, steps_on, steps_of_items};
+ghost use Rattle.raft_table.specs.TableEntries.{AreTableEntries};
+ghost use Rattle.raft_engine_laws.specs.Groups.{HasNoMarker};
+ghost use Rattle.raft_engine_laws.specs.NextBatches.{IsRewrittenNext};
+ghost use Rattle.raft_table.specs.Marks.{Mark};
+ghost use Rattle.raft_table.specs.Overlay.{IsExactMark, overlay};
+ghost use Rattle.raft_table.specs.Steps.{Step, Run, Compact, Truncate, table_of};
+ghost use Rattle.raft_table.specs.Table.{Table};
+ghost use Rattle.raft_engine_laws.specs.KeptTables.{AreKept};
+ghost use Rattle.raft_contexts.specs.TakenAway.{told_by_mark};
+ghost use Rattle.raft_engine_laws.specs.MarksTold.{Joins, MayBeToldLater, told_at_once};
+ghost use Rattle.raft_engine_laws.specs.GroupsInRows.{AreGroupsInRows};
+ghost use Rattle.raft_engine_laws.specs.RowSummaries.{Summary, FirstMayStand, IsSummaryOf, AreJoined};
+ghost use Rattle.raft_engine_laws.specs.Telling.{AreRemovals, SayEnoughAtOpening};
+
+/// States that once the rewrite queue was told what an opening tells, the next opening of the same append files has nothing to tell.
+pub fn a_second_opening_tells_nothing()
+    ensures { (append rewrite : List Event) (found : Tables) (cleaned : List ℕ) (e : Event)
+        → IsSoundIn Append append → IsSoundIn Rewrite rewrite
+        → (both : IsReadingOfBoth rewrite append found cleaned)
+        → ((r : ℕ) → AreTableEntries (table_of r (finite.get found r)).entries)
+        → IsRewrittenNext rewrite e → HasNoMarker e
+        → ((r : ℕ) → AreRemovals (steps_on r (steps_of_items e.items)))
+        → ((r : ℕ) → SayEnoughAtOpening (steps_of r (batches append)) (steps_on r (steps_of_items e.items)) (table_of r (finite.get both.rewritten r)) (table_of r (finite.get found r)))
+        → (others : Tables) (again : List ℕ) (too : IsReadingOfBoth (rewrite ++ e ∷ []) append others again)
+        → (r : ℕ) → SayEnoughAtOpening (steps_of r (batches append)) [] (table_of r (finite.get too.rewritten r)) (table_of r (finite.get others r)) }
+{}
+
+/// States that what a region mark takes away of the rewritten table is enough to tell at an opening, and that it may be told later where the
+/// steps leave no rewritten entry in front of what was found; and that nothing is told where nothing needs to be.
+pub fn region_marks_tell_enough()
+    ensures at_once { (m : Mark) (kept : List Step) (rewritten found : Table) → IsExactMark m kept
+        → SayEnoughAtOpening kept (told_at_once m rewritten found) rewritten found }
+    ensures nothing { (m : Mark) (kept : List Step) (rewritten found : Table) → IsExactMark m kept
+        → SayEnoughAtOpening kept [] rewritten found → told_at_once m rewritten found ≡ [] }
+    ensures later { (m : Mark) (kept : List Step) (rewritten found : Table) → IsExactMark m kept
+        → Joins kept rewritten found → MayBeToldLater kept (told_by_mark m rewritten) rewritten found }
+    ensures removals { (m : Mark) (rewritten : Table) → AreRemovals (told_by_mark m rewritten) }
+{}
+
+/// States that a context that has read the append queue holds in each region mark what its steps take away.
+pub fn contexts_hold_exact_marks()
+    ensures { (context : RecoverContext) (h : List Event) → HasRead context h → Suits Append context.context.files → (r : ℕ)
+        → IsExactMark (region_in context.context.regions r).mark (steps_of r (batches h)) }
+{}
+
+/// States that a compaction in front of what was found, which drops rewritten entries, may not be told later: where it isn't told, a truncation that is
+/// written to the append queue brings those entries back.
+pub fn what_is_dropped_in_front_comes_back()
+    ensures { (old new : EntryIndex) (t : Table) → t.entries ≡ old ∷ [] → old.index + 1 < new.index
+        → (own none : Table) → own.entries ≡ new ∷ [] → none.entries ≡ []
+        → ((overlay (Run (new ∷ []) ∷ []) own t).entries ≡ new ∷ [])
+        × ((overlay (Run (new ∷ []) ∷ Truncate new.index ∷ []) none t).entries ≡ old ∷ []) }
+{}
+
+/// States that summaries of neighbors are joined to one of both, and that a summary tells whether each group stands in a row.
+pub fn row_summaries_are_joined()
+    ensures joined { (s t both : Summary) → AreJoined s t both → (h g : List Event) → IsSummaryOf s h → IsSummaryOf t g → IsSummaryOf both (h ++ g) }
+    ensures whole { (s : Summary) (h : List Event) → IsSummaryOf s h → (FirstMayStand s.first None × (s.inner ≡ true)) ↔ AreGroupsInRows h }
+{}
+
+/// States that of files that keep tables, as those of an engine, nothing was dropped in front of what is found: so all may be told later.
+pub fn own_files_may_be_told_later()
+    ensures { (content : EntryIndex → List ℕ) (append rewrite : List Event) (untold : List RegionStep) (tables found : Tables) (cleaned : List ℕ)
+        → AreKept content append rewrite untold tables
+        → (both : IsReadingOfBoth rewrite append found cleaned) → (r : ℕ)
+        → Joins (steps_of r (batches append)) (table_of r (finite.get both.rewritten r)) (table_of r (finite.get found r)) }
+{}

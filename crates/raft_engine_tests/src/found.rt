@@ -1,0 +1,163 @@
+//! What an opening makes of found files: what is damaged or missing is refused with its place, a torn tail is cut off, and files
+//! of which nothing says that they were there aren't missed.
+
+use crate::batches::Part::{Entries, Put};
+use crate::calls::{LogFiles, copies, holds, new_engine, open, rotate, with_flipped, write};
+use crate::reopened::holds;
+use raft_base::{FileSeq, LogQueue};
+use raft_engine::Engine;
+use raft_files::MemoryFiles;
+use raft_records::{Error, Result};
+use std::alloc::Global;
+use std::thread::Threads;
+
+/// Makes the append file of an engine that wrote [1,3), `k=v` and [3,9): batches of 33, 28 and 41 bytes.
+fn one_file(alloc: Global) -> Result<LogFiles> {
+    let mut engine = new_engine(alloc)?;
+    write_one(alloc, &mut engine)
+}
+
+fn write_one(alloc: Global, engine: &mut Engine<MemoryFiles>) -> Result<LogFiles> {
+    write(alloc, engine, &[Entries(1, 3)], true)?;
+    write(alloc, engine, &[Put("v")], true)?;
+    write(alloc, engine, &[Entries(3, 9)], true)?;
+    copies(engine, LogQueue::Append)
+}
+
+/// Makes the append files of an engine that wrote these in a file each, and [9,12) in a fourth one.
+fn four_files(alloc: Global) -> Result<LogFiles> {
+    let mut engine = new_engine(alloc)?;
+    write_four(alloc, &mut engine)
+}
+
+fn write_four(alloc: Global, engine: &mut Engine<MemoryFiles>) -> Result<LogFiles> {
+    write(alloc, engine, &[Entries(1, 3)], true)?;
+    rotate(engine)?;
+    write(alloc, engine, &[Put("v")], true)?;
+    rotate(engine)?;
+    write(alloc, engine, &[Entries(3, 9)], true)?;
+    rotate(engine)?;
+    write(alloc, engine, &[Entries(9, 12)], true)?;
+    copies(engine, LogQueue::Append)
+}
+
+/// What happens to append files before they are opened.
+enum Change {
+    /// The lowest bit of this byte of the one file is changed.
+    Flipped(usize),
+    /// The one file gets this number.
+    Renumbered(FileSeq),
+    /// So many bytes of the one file are left.
+    Cut(usize),
+    /// Of the four files those with these numbers are taken away.
+    Without(&'static [FileSeq]),
+}
+
+fn changed(alloc: Global, change: &Change) -> Result<LogFiles> {
+    match change {
+        Change::Flipped(at) => Ok(with_flipped(one_file(alloc)?, *at)),
+        Change::Renumbered(seq) => Ok(renumbered(one_file(alloc)?, *seq)),
+        Change::Cut(len) => Ok(cut(one_file(alloc)?, *len)),
+        Change::Without(numbers) => without(alloc, four_files(alloc)?, numbers),
+    }
+}
+
+fn renumbered(mut files: LogFiles, seq: FileSeq) -> LogFiles {
+    if let Some(first) = files.first_mut() {
+        first.0 = seq;
+    }
+    files
+}
+
+fn cut(mut files: LogFiles, len: usize) -> LogFiles {
+    if let Some(last) = files.last_mut() {
+        last.1.truncate(len);
+    }
+    files
+}
+
+fn without(alloc: Global, files: LogFiles, numbers: &[FileSeq]) -> Result<LogFiles> {
+    let mut left = Vec::new(alloc);
+    for file in files {
+        if !numbers.contains(&file.0) {
+            left.push(file)?;
+        }
+    }
+    Ok(left)
+}
+
+/// What an opening makes of append files.
+enum Answer {
+    /// An engine that holds this.
+    Holds(&'static str),
+    /// A refusal as damage with this text.
+    Says(&'static str),
+}
+
+static ROWS: [(Change, Answer); 8] = [
+    // Of a header: the length, of which the highest byte and the lowest one, at offset 6, are changed.
+    (
+        Change::Flipped(0),
+        Answer::Says(
+            "append file 1, offset 0: no batch can be read there, but one stands behind it, at offset 33",
+        ),
+    ),
+    (
+        Change::Flipped(39),
+        Answer::Says(
+            "append file 1, offset 33: no batch can be read there, but one stands behind it, at offset 61",
+        ),
+    ),
+    (
+        Change::Renumbered(2),
+        Answer::Says(
+            "append file 2, offset 0: no batch can be read there, but at offset 0 one stands that is signed for file 1",
+        ),
+    ),
+    (
+        Change::Without(&[2]),
+        Answer::Says("append file 2: it is missing, files 1 and 3 are there"),
+    ),
+    (
+        Change::Without(&[2, 3]),
+        Answer::Says("append file 2: it is missing, files 1 and 4 are there"),
+    ),
+    // Nothing says of the last file and of the first ones that they were there.
+    (Change::Without(&[4]), Answer::Holds("[1,9)k=v")),
+    (Change::Without(&[1, 2]), Answer::Holds("[3,12)")),
+    // The last batch lacks its last byte.
+    (Change::Cut(101), Answer::Holds("[1,3)k=v")),
+];
+
+fn rows() -> &'static [(Change, Answer)] {
+    &ROWS
+}
+
+/// Tests whether an opening is refused as damage with this text. Another refusal is handed on.
+fn says(opened: Result<Engine<MemoryFiles>>, text: &str) -> Result<bool> {
+    match opened {
+        Ok(_) => Ok(false),
+        Err(Error::Corruption(found)) => Ok(found.as_str() == text),
+        Err(e) => Err(e),
+    }
+}
+
+fn opens<R: Threads + Sync>(rt: &R, alloc: Global, files: LogFiles, text: &str) -> Result<bool> {
+    let engine = open(rt, alloc, files, Vec::new(alloc))?;
+    holds(alloc, &engine, text)
+}
+
+fn is_answered<R: Threads + Sync>(rt: &R, alloc: Global, row: &(Change, Answer)) -> Result<bool> {
+    let files = changed(alloc, &row.0)?;
+    match &row.1 {
+        Answer::Holds(text) => opens(rt, alloc, files, text),
+        Answer::Says(text) => says(open(rt, alloc, files, Vec::new(alloc)), text),
+    }
+}
+
+#[test]
+fn found_files_are_opened_or_refused(rt: HostRuntime) {
+    for (i, row) in rows().iter().enumerate() {
+        assert!(rt; holds!(is_answered(&rt, rt.alloc(), row)), "row {i}");
+    }
+}

@@ -1,0 +1,5 @@
+mod Common
+pub mod SettledLemmas
+pub mod StopLemmas
+pub mod PieceLemmas
+pub mod QueueLemmas

@@ -1,0 +1,183 @@
+//! One file, replayed piece by piece.
+
+ghost use Rattle.std.specs.Prelude.{◌≡◌, ◌≢◌, ℕ, ◌+◌, ◌<◌, ◌≤◌, ◌^◌, List, ◌++◌, length, drop, IfOk, IfErr, OnOk};
+ghost use Rattle.raft_reading.specs.Common.{Error, HasHeader, HasReplayed, HasReplayedFile, HeadersLead, HoldsFrom, IsAppended, IsFileStop, IsHopeless, IsIoOfKind, IsReadFault, IsReplayedFront, IsStoodFor, NoneIsWhole, StopsByFault, error_kind, part_of};
+
+use crate::ReadFiles;
+use raft_base::{Error, FileId, LogFileContext, Result};
+use raft_history::ReplayMachine;
+use raft_replay::cutting::{batch_length, header_in};
+use raft_replay::replay_bytes;
+use raft_replay::segment::queue_name;
+use std::alloc::Global;
+use std::io;
+use std::io::ErrorKind;
+
+/// How many bytes of a file are read at once; more only where a batch is longer.
+pub const PIECE: usize = 4 << 20;
+
+/// How many bytes a header has.
+const HEADER_LEN: usize = 16;
+
+/// Replays the batches of a file of `len` bytes, which is read piece by piece, no byte of it twice. A piece is let go
+/// once the batches that are whole in it are replayed: so the memory that this takes is that of a piece and of the
+/// longest batch.
+///
+/// # Errors
+///
+/// `Io`, whose text begins with the queue, the file and the offset, where a read fails, or gives another number of
+/// bytes than it was asked for, as where the file was changed meanwhile; `Memory`; and those of
+/// [`replay_bytes`](raft_replay::replay_bytes) for all bytes of the file.
+pub fn replay_file<M: ReplayMachine, S: ReadFiles>(
+    machine: &mut M,
+    alloc: Global,
+    source: &S,
+    file: &LogFileContext,
+    len: u64,
+) -> Result<()>
+    ensures ok { OnOk result (HasReplayedFile (S.gives source.now file.now.id) file.now len
+        M.stands_for M.stands_exactly machine.old machine.new) }
+    ensures fault { IfErr result (λ e. e ≢ Error.Memory → IsFileStop (S.gives source.now file.now.id)
+        (S.may_fail source.now file.now.id) file.now len (M.stands_for machine.old)
+        (IsStoodFor M.stands_for) e) }
+{
+    let mut piece = Vec::new(alloc);
+    replay_through(machine, source, file, len, &mut piece)
+}
+
+/// Does what [`replay_file`] does, with the memory of a piece that is lent.
+pub(crate) fn replay_through<M: ReplayMachine, S: ReadFiles>(
+    machine: &mut M,
+    source: &S,
+    file: &LogFileContext,
+    len: u64,
+    piece: &mut Vec<u8>,
+) -> Result<()>
+    ensures ok { OnOk result (HasReplayedFile (S.gives source.now file.now.id) file.now len
+        M.stands_for M.stands_exactly machine.old machine.new) }
+    ensures fault { IfErr result (λ e. e ≢ Error.Memory → IsFileStop (S.gives source.now file.now.id)
+        (S.may_fail source.now file.now.id) file.now len (M.stands_for machine.old)
+        (IsStoodFor M.stands_for) e) }
+{
+    let alloc = *piece.allocator();
+    piece.clear();
+    let mut at = 0;
+    loop {
+        at = replay_whole(machine, alloc, file, at, piece)?;
+        let left = len - at - piece.len() as u64;
+        let wanted = bytes_wanted(alloc, piece.as_slice(), left);
+        if wanted == 0 {
+            return replay_bytes(machine, alloc, file, at, piece.as_slice());
+        }
+        read_behind(source, file.id, at, wanted, piece)?;
+    }
+}
+
+/// Replays the batches that are whole in the piece, which begins at `at` in the file, and lets them go. Returns where
+/// the piece then begins.
+fn replay_whole<M: ReplayMachine>(
+    machine: &mut M,
+    alloc: Global,
+    file: &LogFileContext,
+    at: u64,
+    piece: &mut Vec<u8>,
+) -> Result<u64>
+    requires ends { at + length piece.old.items < 2 ^ 64 }
+    ensures ok { IfOk result (IsReplayedFront file.now at M.stands_for M.stands_exactly machine.old
+        machine.new piece.old.items piece.new.items) }
+    ensures last { OnOk result (NoneIsWhole piece.new.items) }
+    ensures fault { IfErr result (λ e. (rest : List ℕ) → StopsByFault (M.stands_for machine.old)
+        (IsStoodFor M.stands_for) (part_of file.now at (piece.old.items ++ rest)) e) }
+{
+    let whole = whole_batches(alloc, piece.as_slice());
+    let (front, _) = piece.as_slice().split_at(whole);
+    replay_bytes(machine, alloc, file, at, front)?;
+    let_go(piece, whole);
+    Ok(at + whole as u64)
+}
+
+/// Returns how many bytes the batches have that are whole in these bytes, by their headers.
+fn whole_batches(alloc: Global, bytes: &[u8]) -> usize
+    ensures led { HeadersLead bytes.now result }
+    ensures inside { result ≤ length bytes.now }
+    ensures last { NoneIsWhole (drop result bytes.now) }
+{
+    let mut at = 0;
+    loop {
+        let (_, left) = bytes.split_at(at);
+        let Some(len) = batch_length(alloc, left) else {
+            return at;
+        };
+        at += len;
+    }
+}
+
+/// Lets the first bytes go. The others are moved to the front.
+fn let_go(bytes: &mut Vec<u8>, count: usize)
+    requires { count ≤ length bytes.old.items }
+    ensures { bytes.new.items ≡ drop count bytes.old.items }
+{
+    let left = bytes.len() - count;
+    bytes.copy_within(count.., 0);
+    bytes.truncate(left);
+}
+
+/// Returns how many bytes to read behind these, of which no batch in front is whole, where the file has `left` more; 0
+/// where none of them can make it whole.
+fn bytes_wanted(alloc: Global, bytes: &[u8], left: u64) -> usize
+    requires { NoneIsWhole bytes.now }
+    ensures some { result ≤ left }
+    ensures none { result ≡ 0 → IsHopeless bytes.now left }
+{
+    let missing = if bytes.len() < HEADER_LEN {
+        0
+    } else if let Some((_, len)) = header_in(alloc, bytes) {
+        len - bytes.len()
+    } else {
+        return 0;
+    };
+    if missing as u64 > left {
+        return 0;
+    }
+    (missing.max(PIECE) as u64).min(left) as usize
+}
+
+/// Reads so many bytes of the file behind those of the piece, which begins at `at` in the file.
+fn read_behind<S: ReadFiles>(
+    source: &S,
+    file: FileId,
+    at: u64,
+    len: usize,
+    piece: &mut Vec<u8>,
+) -> Result<()>
+    requires { at + length piece.old.items + len < 2 ^ 64 }
+    ensures ok { OnOk result (IsAppended (λ bytes. (length bytes ≡ len) × S.gives source.now file
+        (at + length piece.old.items) bytes) piece.old.items piece.new.items) }
+    ensures fault { IfErr result (λ e. e ≢ Error.Memory → IsReadFault (S.gives source.now file (at + length piece.old.items))
+        (S.may_fail source.now file (at + length piece.old.items)) len e) }
+{
+    let before = piece.len();
+    let offset = at + before as u64;
+    let alloc = *piece.allocator();
+    piece.reserve_exact(len)?;
+    if let Err(error) = source.read(file, offset, len, piece) {
+        return Err(failure_at(alloc, file, offset, error));
+    }
+    if piece.len() != before + len {
+        let miscount = "another number of bytes was read than was asked for";
+        let error = io::Error::new(ErrorKind::UnexpectedEof, miscount);
+        return Err(failure_at(alloc, file, offset, error));
+    }
+    Ok(())
+}
+
+/// Returns the refusal of a read that failed, with its place in front of the reason.
+fn failure_at(alloc: Global, file: FileId, offset: u64, error: io::Error) -> Error
+    ensures { IsIoOfKind (error_kind error) result }
+{
+    let queue = queue_name(file.queue);
+    match format!(in alloc; "{queue} file {}, offset {offset}: {error}", file.seq) {
+        Ok(text) => Error::Io(io::Error::new(error.kind(), text.as_str())),
+        Err(_) => Error::Memory,
+    }
+}

@@ -1,0 +1,10 @@
+//! Files that are read in pieces, which end where batches end, and let go once they are replayed.
+#![tactic(auto)]
+
+pub mod file_pieces;
+pub mod queue_files;
+pub mod read_files;
+
+pub use file_pieces::{PIECE, replay_file};
+pub use queue_files::{FileSize, replay_files};
+pub use read_files::ReadFiles;

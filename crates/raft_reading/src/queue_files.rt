@@ -1,0 +1,158 @@
+//! The files of a queue, replayed by workers.
+
+ghost use Rattle.std.specs.Prelude.{◌≡◌, ◌≢◌, ◌<◌, ◌≤◌, List, [], length, IfOk, IfErr};
+ghost use Rattle.raft_reading.specs.Common.{Error, IsQueueReplayed, IsQueueStop, IsStoodFor, IsSync};
+
+use crate::ReadFiles;
+use crate::file_pieces::replay_through;
+use raft_base::{Error, Factory, FileId, FileSeq, LogFileContext, LogQueue, Result, Version};
+use raft_history::ReplayMachine;
+use std::alloc::Global;
+use std::thread::{Threads, join};
+
+/// A file of a queue by its number, and how many bytes it has.
+#[derive(Clone, Copy, PartialEq, Eq, Debug)]
+pub struct FileSize {
+    pub seq: FileSeq,
+    pub len: u64,
+}
+
+/// Replays the files of a queue, in order, by 1 to 256 workers. Each replays neighboring files, of about the same
+/// number of bytes in all, into a machine of its own, as [`replay_file`](crate::replay_file) does; neighboring machines
+/// are merged. The result is that of one worker. A worker for which no thread can be started is replaced by the caller.
+///
+/// # Errors
+///
+/// `Memory`, the factory's own, and those of [`replay_file`](crate::replay_file). Where workers are refused, in a
+/// reading or a merge, the files are read once more by one, up to the first refusal in order, which is returned.
+pub fn replay_files<M: ReplayMachine, F: Factory<M>, S: ReadFiles, R: Threads + Sync>(
+    rt: &R,
+    alloc: Global,
+    factory: &F,
+    source: &S,
+    files: &[FileSize],
+    queue: LogQueue,
+    version: Version,
+    workers: usize,
+) -> Result<M>
+    requires factory { (m : M) → F.gives factory.now m → M.stands_exactly m [] }
+    requires workers { (0 < workers) × (workers ≤ 256) }
+    ensures ok { IfOk result (IsQueueReplayed (S.gives source.now) queue version files.now M.stands_for
+        M.stands_exactly) }
+    ensures fault { IfErr result (λ e. e ≢ Error.Memory → ¬ (F.may_refuse factory.now e)
+        → IsQueueStop (S.gives source.now) (S.may_fail source.now) queue version files.now
+        (IsStoodFor M.stands_for) e) }
+{
+    if workers > 1 && files.len() > 1 {
+        match replay_divided(rt, alloc, factory, source, files, queue, version, workers) {
+            Ok(machine) => return Ok(machine),
+            Err(Error::Memory) => return Err(Error::Memory),
+            Err(_) => {}
+        }
+    }
+    replay_in_turn(alloc, factory, source, files, queue, version)
+}
+
+/// Replays the files by so many workers, the first half of whom take the first files, and so on.
+fn replay_divided<M: ReplayMachine, F: Factory<M>, S: ReadFiles, R: Threads + Sync>(
+    rt: &R,
+    alloc: Global,
+    factory: &F,
+    source: &S,
+    files: &[FileSize],
+    queue: LogQueue,
+    version: Version,
+    workers: usize,
+) -> Result<M>
+    requires factory { (m : M) → F.gives factory.now m → M.stands_exactly m [] }
+    ensures { IfOk result (IsQueueReplayed (S.gives source.now) queue version files.now M.stands_for
+        M.stands_exactly) }
+{
+    if workers < 2 || files.len() < 2 {
+        return replay_in_turn(alloc, factory, source, files, queue, version);
+    }
+    let first_half = workers / 2;
+    let second_half = workers - first_half;
+    let (first, second) = files.split_at(count_of_part(files, first_half, workers));
+    let front = || -> Result<M>
+        requires { IsSync R.row × IsSync F.row × IsSync S.row × ((m : M) → F.gives factory.now m → M.stands_exactly m []) }
+        ensures { IfOk result (IsQueueReplayed (S.gives source.entry.now) queue version first.entry.now M.stands_for
+            M.stands_exactly) }
+    {
+        replay_divided(
+            rt, alloc, factory, source, first, queue, version, first_half,
+        )
+    };
+    let back = || -> Result<M>
+        requires { IsSync R.row × IsSync F.row × IsSync S.row × ((m : M) → F.gives factory.now m → M.stands_exactly m []) }
+        ensures { IfOk result (IsQueueReplayed (S.gives source.entry.now) queue version second.entry.now M.stands_for
+            M.stands_exactly) }
+    {
+        replay_divided(
+            rt,
+            alloc,
+            factory,
+            source,
+            second,
+            queue,
+            version,
+            second_half,
+        )
+    };
+    let (older, newer) = join(rt, front, back);
+    let mut machine = older?;
+    machine.merge(newer?, queue)?;
+    Ok(machine)
+}
+
+/// Returns how many of the files, from the first on, have about so many of `whole` equal parts of all bytes: one at
+/// least, and not all of them.
+fn count_of_part(files: &[FileSize], parts: usize, whole: usize) -> usize
+    requires { (1 < length files.now) × (0 < whole) }
+    ensures { (0 < result) × (result < length files.now) }
+{
+    let wanted = (bytes_of(files) / whole as u64).saturating_mul(parts as u64);
+    let mut bytes = 0u64;
+    let mut count = 0;
+    for file in files {
+        if bytes.saturating_add(file.len / 2) >= wanted {
+            break;
+        }
+        bytes = bytes.saturating_add(file.len);
+        count += 1;
+    }
+    count.clamp(1, files.len() - 1)
+}
+
+/// Returns how many bytes the files have, capped at 2^64 - 1.
+fn bytes_of(files: &[FileSize]) -> u64 {
+    let mut bytes = 0u64;
+    for file in files {
+        bytes = bytes.saturating_add(file.len);
+    }
+    bytes
+}
+
+fn replay_in_turn<M: ReplayMachine, F: Factory<M>, S: ReadFiles>(
+    alloc: Global,
+    factory: &F,
+    source: &S,
+    files: &[FileSize],
+    queue: LogQueue,
+    version: Version,
+) -> Result<M>
+    requires { (m : M) → F.gives factory.now m → M.stands_exactly m [] }
+    ensures ok { IfOk result (IsQueueReplayed (S.gives source.now) queue version files.now M.stands_for
+        M.stands_exactly) }
+    ensures fault { IfErr result (λ e. e ≢ Error.Memory → ¬ (F.may_refuse factory.now e)
+        → IsQueueStop (S.gives source.now) (S.may_fail source.now) queue version files.now
+        (IsStoodFor M.stands_for) e) }
+{
+    let mut machine = factory.new_target(alloc)?;
+    let mut piece = Vec::new(alloc);
+    for file in files {
+        let context = LogFileContext::new(FileId::new(queue, file.seq), version);
+        replay_through(&mut machine, source, &context, file.len, &mut piece)?;
+    }
+    Ok(machine)
+}

@@ -1,0 +1,267 @@
+//! What stands where the reading of a file stops.
+
+use crate::file_parts::FILE;
+use crate::read_batches::{BATCHES, FIRST};
+use raft_base::FileSeq;
+use raft_records::{FilePart, Result, Version};
+use raft_tail::{is_broken_off, next_sound, signed_elsewhere};
+use raft_trials::again;
+use std::alloc::Global;
+use std::process::Abort;
+
+/// Bytes of file 12, and what stands from one of them on.
+struct Row {
+    version: Version,
+    bytes: &'static [u8],
+    from: usize,
+    /// Where the first batch of the file stands.
+    sound: Option<usize>,
+    /// Where the first batch of another file stands, and the number of that file.
+    elsewhere: Option<(usize, FileSeq)>,
+    /// Whether all of it can be what is left of one batch.
+    broken: bool,
+}
+
+static ROWS: [Row; 20] = [
+    // Two whole batches, from the first byte and from the second: what stands there can be a header of 8,704 bytes.
+    Row {
+        version: Version::V2,
+        bytes: b"\x00\x00\x00\x00\x00\x00\x22\x00\x00\x00\x00\x00\x00\x00\x00\x17abc\xc2A\x245\x01\x07\x01\x02\x0a\x02\x03\xab\xb3\xdf\x17\x00\x00\x00\x00\x00\x00\x18\x00\x00\x00\x00\x00\x00\x00\x00\x10\x01\x01\x02\x01V\x80\x0b\xdd",
+        from: 0,
+        sound: Some(0),
+        elsewhere: None,
+        broken: false,
+    },
+    Row {
+        version: Version::V2,
+        bytes: b"\x00\x00\x00\x00\x00\x00\x22\x00\x00\x00\x00\x00\x00\x00\x00\x17abc\xc2A\x245\x01\x07\x01\x02\x0a\x02\x03\xab\xb3\xdf\x17\x00\x00\x00\x00\x00\x00\x18\x00\x00\x00\x00\x00\x00\x00\x00\x10\x01\x01\x02\x01V\x80\x0b\xdd",
+        from: 1,
+        sound: Some(34),
+        elsewhere: None,
+        broken: true,
+    },
+    // The first one gives a length that passes the end: its items are whole.
+    Row {
+        version: Version::V2,
+        bytes: b"\x00\x00\x00\x00\x00\x00\xa2\x00\x00\x00\x00\x00\x00\x00\x00\x17abc\xc2A\x245\x01\x07\x01\x02\x0a\x02\x03\xab\xb3\xdf\x17\x00\x00\x00\x00\x00\x00\x18\x00\x00\x00\x00\x00\x00\x00\x00\x10\x01\x01\x02\x01V\x80\x0b\xdd",
+        from: 0,
+        sound: Some(34),
+        elsewhere: None,
+        broken: false,
+    },
+    // It gives one that ends inside its header.
+    Row {
+        version: Version::V2,
+        bytes: b"\x00\x00\x00\x00\x00\x00\x02\x00\x00\x00\x00\x00\x00\x00\x00\x17abc\xc2A\x245\x01\x07\x01\x02\x0a\x02\x03\xab\xb3\xdf\x17\x00\x00\x00\x00\x00\x00\x18\x00\x00\x00\x00\x00\x00\x00\x00\x10\x01\x01\x02\x01V\x80\x0b\xdd",
+        from: 0,
+        sound: Some(34),
+        elsewhere: None,
+        broken: false,
+    },
+    // A bit of its checksum is another too: it can be the first part of a longer batch.
+    Row {
+        version: Version::V2,
+        bytes: b"\x00\x00\x00\x00\x00\x00\xa2\x00\x00\x00\x00\x00\x00\x00\x00\x17abc\xc2A\x245\x01\x07\x01\x02\x0a\x02\x03\xab\xb3\xdf\x16\x00\x00\x00\x00\x00\x00\x18\x00\x00\x00\x00\x00\x00\x00\x00\x10\x01\x01\x02\x01V\x80\x0b\xdd",
+        from: 0,
+        sound: Some(34),
+        elsewhere: None,
+        broken: true,
+    },
+    // A whole batch, of which the last byte, all behind its header, and a byte of that are missing.
+    Row {
+        version: Version::V2,
+        bytes: b"\x00\x00\x00\x00\x00\x00\x22\x00\x00\x00\x00\x00\x00\x00\x00\x17abc\xc2A\x245\x01\x07\x01\x02\x0a\x02\x03\xab\xb3\xdf",
+        from: 0,
+        sound: None,
+        elsewhere: None,
+        broken: true,
+    },
+    Row {
+        version: Version::V2,
+        bytes: b"\x00\x00\x00\x00\x00\x00\x22\x00\x00\x00\x00\x00\x00\x00\x00\x17",
+        from: 0,
+        sound: None,
+        elsewhere: None,
+        broken: true,
+    },
+    Row {
+        version: Version::V2,
+        bytes: b"\x00\x00\x00\x00\x00\x00\x22\x00\x00\x00\x00\x00\x00\x00\x00",
+        from: 0,
+        sound: None,
+        elsewhere: None,
+        broken: true,
+    },
+    // A batch whose last byte is missing, and whose entry is a whole batch.
+    Row {
+        version: Version::V2,
+        bytes: b"\x00\x00\x00\x00\x00\x006\x00\x00\x00\x00\x00\x00\x00\x00\x2c\x00\x00\x00\x00\x00\x00\x18\x00\x00\x00\x00\x00\x00\x00\x00\x10\x01\x01\x02\x01V\x80\x0b\xdd\x88\xc5C8\x01\x07\x01\x01\x0a\x18\x94\xd3C",
+        from: 0,
+        sound: Some(16),
+        elsewhere: None,
+        broken: true,
+    },
+    // Zeros, and none at all.
+    Row {
+        version: Version::V2,
+        bytes: &[0; 40],
+        from: 0,
+        sound: None,
+        elsewhere: None,
+        broken: false,
+    },
+    Row {
+        version: Version::V2,
+        bytes: &[0; 40],
+        from: 25,
+        sound: None,
+        elsewhere: None,
+        broken: true,
+    },
+    Row {
+        version: Version::V2,
+        bytes: b"",
+        from: 0,
+        sound: None,
+        elsewhere: None,
+        broken: true,
+    },
+    // Noise, and a batch behind it.
+    Row {
+        version: Version::V2,
+        bytes: b"\x25\x3aw9kQ\x7ez\x290v\x3d\x2bu\x5fR\x5be1H\x00\x00\x00\x00\x00\x00\x18\x00\x00\x00\x00\x00\x00\x00\x00\x10\x01\x01\x02\x01V\x80\x0b\xdd",
+        from: 0,
+        sound: Some(20),
+        elsewhere: None,
+        broken: false,
+    },
+    // Two batches that were written for file 1.
+    Row {
+        version: Version::V2,
+        bytes: b"\x00\x00\x00\x00\x00\x00\x22\x00\x00\x00\x00\x00\x00\x00\x00\x17abc\xc2A\x245\x01\x07\x01\x02\x0a\x02\x03\xa6\xb3\xdf\x17\x00\x00\x00\x00\x00\x00\x18\x00\x00\x00\x00\x00\x00\x00\x00\x10\x01\x01\x02\x01\x5b\x80\x0b\xdd",
+        from: 0,
+        sound: None,
+        elsewhere: Some((0, 1)),
+        broken: false,
+    },
+    Row {
+        version: Version::V2,
+        bytes: b"\x00\x00\x00\x00\x00\x00\x22\x00\x00\x00\x00\x00\x00\x00\x00\x17abc\xc2A\x245\x01\x07\x01\x02\x0a\x02\x03\xa6\xb3\xdf\x17\x00\x00\x00\x00\x00\x00\x18\x00\x00\x00\x00\x00\x00\x00\x00\x10\x01\x01\x02\x01\x5b\x80\x0b\xdd",
+        from: 1,
+        sound: None,
+        elsewhere: Some((34, 1)),
+        broken: true,
+    },
+    // One behind a batch of this file, which is written for the greatest file that is looked for; files that aren't.
+    Row {
+        version: Version::V2,
+        bytes: b"\x00\x00\x00\x00\x00\x00\x22\x00\x00\x00\x00\x00\x00\x00\x00\x17abc\xc2A\x245\x01\x07\x01\x02\x0a\x02\x03\xab\xb3\xdf\x17\x00\x00\x00\x00\x00\x00\x18\x00\x00\x00\x00\x00\x00\x00\x00\x10\x01\x01\x02\x01\xa5\x7f\xf4\xdd",
+        from: 0,
+        sound: Some(0),
+        elsewhere: Some((34, 16777215)),
+        broken: false,
+    },
+    Row {
+        version: Version::V2,
+        bytes: b"\x00\x00\x00\x00\x00\x00\x18\x00\x00\x00\x00\x00\x00\x00\x00\x10\x01\x01\x02\x01Z\x80\x0b\xdc",
+        from: 0,
+        sound: None,
+        elsewhere: None,
+        broken: false,
+    },
+    Row {
+        version: Version::V2,
+        bytes: b"\x00\x00\x00\x00\x00\x00\x18\x00\x00\x00\x00\x00\x00\x00\x00\x10\x01\x01\x02\x01Z\x80\x0b\xdd",
+        from: 0,
+        sound: None,
+        elsewhere: None,
+        broken: false,
+    },
+    // Files of version 1 sign nothing.
+    Row {
+        version: Version::V1,
+        bytes: b"\x00\x00\x00\x00\x00\x00\x22\x00\x00\x00\x00\x00\x00\x00\x00\x17abc\xc2A\x245\x01\x07\x01\x02\x0a\x02\x03\xa7\xb3\xdf\x17\x00\x00\x00\x00\x00\x00\x18\x00\x00\x00\x00\x00\x00\x00\x00\x10\x01\x01\x02\x01V\x80\x0b\xdd",
+        from: 0,
+        sound: Some(0),
+        elsewhere: None,
+        broken: false,
+    },
+    Row {
+        version: Version::V1,
+        bytes: b"\x00\x00\x00\x00\x00\x00\x22\x00\x00\x00\x00\x00\x00\x00\x00\x17abc\xc2A\x245\x01\x07\x01\x02\x0a\x02\x03\xab\xb3\xdf\x17\x00\x00\x00\x00\x00\x00\x18\x00\x00\x00\x00\x00\x00\x00\x00\x10\x01\x01\x02\x01Z\x80\x0b\xdd",
+        from: 0,
+        sound: Some(34),
+        elsewhere: None,
+        broken: false,
+    },
+];
+
+fn rows() -> &'static [Row] {
+    &ROWS
+}
+
+/// Returns these bytes of the file, from 100 on.
+fn part(alloc: Global, version: Version, bytes: &[u8]) -> Result<FilePart> {
+    FilePart::new(FILE, version, 100, Vec::from_slice(alloc, bytes)?)
+}
+
+/// Tests whether what stands at a byte and to the end is broken off.
+fn is_broken(part: &FilePart, at: usize) -> Result<bool> {
+    if at > part.bytes().len() {
+        return Ok(false);
+    }
+    is_broken_off(part, at)
+}
+
+fn is_row(alloc: Global, row: &Row) -> Result<bool> {
+    let part = part(alloc, row.version, row.bytes)?;
+    let found = (
+        next_sound(&part, row.from)?,
+        signed_elsewhere(&part, row.from)?,
+    );
+    Ok(found == (row.sound, row.elsewhere) && is_broken(&part, row.from)? == row.broken)
+}
+
+#[test]
+fn stops(rt: HostRuntime) {
+    assert!(rt; again!(stops_are_told_apart(&rt, rt.alloc())).is_ok());
+}
+
+fn stops_are_told_apart(rt: &impl Abort, alloc: Global) -> Result<()> {
+    for row in rows() {
+        let from = row.from;
+        assert!(rt; is_row(alloc, row)?, "from {from}");
+    }
+    Ok(())
+}
+
+#[test]
+fn parts_of_batches(rt: HostRuntime) {
+    assert!(rt; again!(parts_are_broken_off(&rt, rt.alloc())).is_ok());
+}
+
+/// Tests that each part of a batch of items of all kinds is broken off, and that the whole one isn't, also where it gives a
+/// length that passes the end.
+fn parts_are_broken_off(rt: &impl Abort, alloc: Global) -> Result<()> {
+    for len in 0..=FIRST {
+        assert!(rt;
+            is_broken_front(alloc, len, 0)? == (len < FIRST),
+            "{len} bytes"
+        );
+        assert!(rt;
+            is_broken_front(alloc, len, 0x80)? == (len < FIRST),
+            "{len} bytes"
+        );
+    }
+    Ok(())
+}
+
+/// Tests whether so many bytes are broken off, where these bits of the length are others.
+fn is_broken_front(alloc: Global, len: usize, bits: u8) -> Result<bool> {
+    let mut bytes = Vec::from_slice(alloc, BATCHES)?;
+    if let Some(byte) = bytes.get_mut(6) {
+        *byte ^= bits;
+    }
+    bytes.truncate(len);
+    is_broken(&part(alloc, Version::V1, &bytes)?, 0)
+}

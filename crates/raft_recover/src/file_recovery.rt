@@ -1,0 +1,66 @@
+//! From files, read in pieces, to the tables of all regions.
+
+ghost use Rattle.std.specs.Prelude.{◌≡◌, ◌≢◌, ◌⊎◌, ◌^◌, ◌<◌, ◌≤◌, IfOk, IfErr, OnOk};
+ghost use Rattle.raft_recover.specs.Common.{IsQueueStop, IsRecoveredFrom, Keeps, PrintsFiles, PrintsFrontOfFiles, Sound, bytes_of_sizes};
+
+use crate::recovered::print_recovered;
+use raft_accessor::MemTableAccessor;
+use raft_base::{Error, LogQueue, Result, Version};
+use raft_contexts::MemTableRecoverContextFactory;
+use raft_reading::{FileSize, ReadFiles, replay_files};
+use std::alloc::Global;
+use std::io::Write;
+use std::thread::Threads;
+
+/// Recovers the tables of the files of a queue, as [`recover`](crate::recover) does of their bytes. 1 to 256 workers read
+/// them, each some neighboring files, piece by piece, so that no more than a piece and the longest batch of each worker
+/// are in memory.
+///
+/// # Errors
+///
+/// Those of [`replay_files`](raft_reading::replay_files).
+pub fn recover_files<R: Threads + Sync, S: ReadFiles>(
+    rt: &R,
+    alloc: Global,
+    source: &S,
+    files: &[FileSize],
+    queue: LogQueue,
+    version: Version,
+    workers: usize,
+) -> Result<MemTableAccessor>
+    requires { (0 < workers) × (workers ≤ 256) }
+    ensures ok { IfOk result (IsRecoveredFrom (S.gives source.now) queue version files.now) }
+    ensures place { bytes_of_sizes files.now < 2 ^ 63 → IfErr result (λ e. e ≢ Error.Memory
+        → IsQueueStop (S.gives source.now) (S.may_fail source.now) queue version files.now Sound e) }
+{
+    let factory = MemTableRecoverContextFactory::new();
+    let context = replay_files(rt, alloc, &factory, source, files, queue, version, workers)?;
+    context.finish()
+}
+
+/// Prints the tables that the files of a queue give: the lines of [`print_recovered`].
+///
+/// # Errors
+///
+/// Those of [`recover_files`], with nothing written, and then `Io` where the writer fails: a prefix of the lines may
+/// stand then.
+pub fn print_files<R: Threads + Sync, S: ReadFiles, W: Write>(
+    rt: &R,
+    alloc: Global,
+    source: &S,
+    files: &[FileSize],
+    queue: LogQueue,
+    version: Version,
+    workers: usize,
+    writer: &mut W,
+) -> Result<()>
+    requires { (0 < workers) × (workers ≤ 256) }
+    ensures ok { OnOk result (PrintsFiles (S.gives source.now) queue version files.now
+        (W.contents writer.old) (W.contents writer.new)) }
+    ensures silent { IfErr result (λ _. Keeps (W.contents writer.old) (W.contents writer.new)
+        ⊎ PrintsFrontOfFiles (S.gives source.now) queue version files.now
+        (W.contents writer.old) (W.contents writer.new)) }
+{
+    let accessor = recover_files(rt, alloc, source, files, queue, version, workers)?;
+    print_recovered(alloc, &accessor, writer)
+}

@@ -1,0 +1,146 @@
+//! Recoveries of files that workers read in pieces.
+
+use super::both::{Record, file_bytes};
+use Record::{Compact, Run};
+use raft_base::{Error, FileId, FileSeq, LogQueue, Result, Version};
+use raft_reading::{FileSize, ReadFiles};
+use raft_recover::file_recovery::recover_files;
+use raft_recover::files::file_segments;
+use raft_recover::recovered::recovered_text;
+use raft_recover::{MemTableAccessor, recover};
+use raft_trials::again;
+use std::alloc::Global;
+use std::io;
+use std::io::ErrorKind;
+use std::thread::Threads;
+
+/// Files of the append queue that are held in memory.
+#[derive(Drop)]
+struct HeldFiles(Vec<(FileSeq, Vec<u8>)>);
+
+impl ReadFiles for HeldFiles {
+    fn read(&self, file: FileId, offset: u64, len: usize, bytes: &mut Vec<u8>) -> io::Result<()> {
+        bytes.extend_from_slice(self.part(file.seq, offset, len))?;
+        Ok(())
+    }
+}
+
+impl HeldFiles {
+    /// Returns so many bytes of a file, from an offset on; fewer where the file ends before.
+    fn part(&self, seq: FileSeq, offset: u64, len: usize) -> &[u8] {
+        for (held, bytes) in &self.0 {
+            if *held == seq {
+                return part_of(bytes.as_slice(), offset, len);
+            }
+        }
+        &[]
+    }
+
+    /// Returns the number and the length of each file.
+    fn sizes(&self, alloc: Global) -> Result<Vec<FileSize>> {
+        let mut sizes = Vec::new(alloc);
+        for (seq, bytes) in &self.0 {
+            let len = bytes.len() as u64;
+            sizes.push(FileSize { seq: *seq, len })?;
+        }
+        Ok(sizes)
+    }
+}
+
+fn part_of(bytes: &[u8], offset: u64, len: usize) -> &[u8] {
+    let start = offset.min(bytes.len() as u64) as usize;
+    let end = start.saturating_add(len).min(bytes.len());
+    bytes.get(start..end).unwrap_or(&[])
+}
+
+/// How many bytes an entry has.
+const ENTRY_LEN: usize = 1 << 18;
+
+/// What the files have: the first one has 8.25 MiB of entries, which are read in three pieces.
+static FILES: [(FileSeq, &[Record]); 3] = [
+    (1, &[Run(10, 43)]),
+    (2, &[Run(43, 44)]),
+    (3, &[Compact(20), Run(44, 45)]),
+];
+
+/// The lines of what these files give.
+const LINES: &str = "1 entries 20..45 keys 0 append 1 rewrite -\ncleaned -\nlive 25 0\n";
+
+/// Where the last piece of the first file begins, behind two of 4 MiB.
+const LAST_PIECE: &str = "append file 1, offset 8388608: ";
+
+fn made(alloc: Global) -> Result<HeldFiles> {
+    let mut files = Vec::new(alloc);
+    for &(seq, records) in &FILES {
+        let file = FileId::new(LogQueue::Append, seq);
+        files.push((seq, file_bytes(alloc, file, records, ENTRY_LEN)?))?;
+    }
+    Ok(HeldFiles(files))
+}
+
+/// Recovers the tables of files of these sizes, which three workers read.
+fn tables_of<R: Threads + Sync>(
+    rt: &R,
+    alloc: Global,
+    files: &HeldFiles,
+    sizes: &[FileSize],
+) -> Result<MemTableAccessor> {
+    recover_files(rt, alloc, files, sizes, LogQueue::Append, Version::V2, 3)
+}
+
+fn have_lines(alloc: Global, tables: &MemTableAccessor) -> Result<bool> {
+    Ok(recovered_text(alloc, tables)?.as_str() == LINES)
+}
+
+/// Tests whether files that are read give the lines.
+fn files_give_lines<R: Threads + Sync>(rt: &R, alloc: Global, files: &HeldFiles) -> Result<bool> {
+    let sizes = files.sizes(alloc)?;
+    let tables = tables_of(rt, alloc, files, sizes.as_slice())?;
+    have_lines(alloc, &tables)
+}
+
+/// Tests whether `recover` makes the lines of the bytes of the files.
+fn bytes_give_lines<R: Threads + Sync>(rt: &R, alloc: Global, files: HeldFiles) -> Result<bool> {
+    let segments = file_segments(LogQueue::Append, Version::V2, files.0)?;
+    let tables = recover(rt, alloc, segments.as_slice(), LogQueue::Append, 3)?;
+    have_lines(alloc, &tables)
+}
+
+/// Tests whether files are refused of which the first one is said to have one byte more than it has: the read of its last
+/// piece gives fewer bytes than it is asked for.
+fn shorter_file_is_refused<R: Threads + Sync>(
+    rt: &R,
+    alloc: Global,
+    files: &HeldFiles,
+) -> Result<bool> {
+    let mut sizes = files.sizes(alloc)?;
+    if let Some(first) = sizes.first_mut() {
+        first.len = first.len.saturating_add(1);
+    }
+    stops_at_last_piece(alloc, tables_of(rt, alloc, files, sizes.as_slice()))
+}
+
+/// Tests whether a read is refused with its place. Another refusal is handed on.
+fn stops_at_last_piece(alloc: Global, read: Result<MemTableAccessor>) -> Result<bool> {
+    match read {
+        Ok(_tables) => Ok(false),
+        Err(Error::Io(error)) => {
+            let text = format!(in alloc; "{error}")?;
+            Ok(error.kind() == ErrorKind::UnexpectedEof && text.starts_with(LAST_PIECE))
+        }
+        Err(error) => Err(error),
+    }
+}
+
+fn all_hold<R: Threads + Sync>(rt: &R, alloc: Global) -> Result<bool> {
+    let files = made(alloc)?;
+    let read = files_give_lines(rt, alloc, &files)?;
+    let refused = shorter_file_is_refused(rt, alloc, &files)?;
+    let recovered = bytes_give_lines(rt, alloc, files)?;
+    Ok(read && refused && recovered)
+}
+
+#[test]
+fn files_are_read_in_pieces(rt: HostRuntime) {
+    assert!(rt; matches!(again!(all_hold(&rt, rt.alloc())), Ok(true)));
+}

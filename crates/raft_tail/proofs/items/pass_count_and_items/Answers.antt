@@ -1,0 +1,15 @@
+use Rattle.std.proofs.Common.{length}
+use Rattle.raft_codec.proofs.ReadingLemmas.{no_second}
+use Rattle.raft_codec.proofs.VarintLemmas.{varint_one_front}
+use Rattle.raft_codec.specs.Varint.{IsVarint}
+use Rattle.raft_records.specs.ItemBatch.{AreItems}
+use Rattle.raft_tail.proofs.PassingLemmas.{counted_pass, ok_as, option_as}
+use Rattle.raft_tail.proofs.items.pass_count_and_items.Goals as goal
+
+pub returns-in-Some-clause-ok : goal.returns-in-Some-clause-ok
+returns-in-Some-clause-ok c =
+    ok_as c.pass_items.result
+    (λ passed. option_as passed
+    (λ none front rest xs p e. no_second IsVarint AreItems varint_one_front c.in-Some.ensures none front rest (length xs) xs p e)
+    (λ x p. counted_pass c.in-Some.ensures p))
+    c.pass_items.ensures.ok

@@ -1,0 +1,60 @@
+//! Batches that are broken off.
+
+ghost use Rattle.std.specs.Prelude.{◌≡◌, ◌↔◌, ◌≤◌, drop, length, IfErr, IfOk, IsTrue};
+ghost use Rattle.raft_codec.specs.Reading.{HasNoFront};
+ghost use Rattle.raft_tail.specs.Tails.{AreWhole, IsBroken, IsBrokenOff};
+
+use crate::header::{LOG_BATCH_HEADER_LEN, header_in};
+use crate::items::are_whole;
+use raft_base::{Error, LogFileContext, Result};
+use raft_records::FilePart;
+use std::alloc::Global;
+
+/// Tests whether what stands from a byte to the end of a part can be all that is left of one batch, as a crash leaves it.
+///
+/// # Errors
+///
+/// `Memory`.
+pub fn is_broken_off(part: &FilePart, at: usize) -> Result<bool>
+    requires { at ≤ length part.now.bytes }
+    ensures ok { IfOk result (λ broken. IsTrue broken ↔ IsBrokenOff part.now at) }
+    ensures memory { IfErr result (λ e. e ≡ Error.Memory) }
+{
+    let file = LogFileContext::new(part.id(), part.version());
+    let (_, rest) = part.bytes().split_at(at);
+    is_broken(part.allocator(), rest, file.get_signature())
+}
+
+/// Tests whether bytes can be all that is left of one batch.
+///
+/// # Errors
+///
+/// `Memory`.
+fn is_broken(alloc: Global, bytes: &[u8], signature: Option<u32>) -> Result<bool>
+    ensures ok { IfOk result (λ broken. IsTrue broken ↔ IsBroken signature bytes.now) }
+    ensures memory { IfErr result (λ e. e ≡ Error.Memory) }
+{
+    if bytes.len() < LOG_BATCH_HEADER_LEN {
+        return Ok(true);
+    }
+    match header_in(bytes) {
+        Some((offset, len)) if bytes.len() < len => is_unfinished(alloc, bytes, offset, signature),
+        _ => Ok(false),
+    }
+}
+
+/// Tests whether no whole items stand at `offset`.
+///
+/// # Errors
+///
+/// `Memory`.
+fn is_unfinished(alloc: Global, bytes: &[u8], offset: usize, signature: Option<u32>) -> Result<bool>
+    ensures ok { IfOk result (λ unfinished. IsTrue unfinished ↔ HasNoFront (AreWhole signature) (drop offset bytes.now)) }
+    ensures memory { IfErr result (λ e. e ≡ Error.Memory) }
+{
+    if offset > bytes.len() {
+        return Ok(true);
+    }
+    let (_, item_bytes) = bytes.split_at(offset);
+    Ok(!are_whole(alloc, item_bytes, signature)?)
+}

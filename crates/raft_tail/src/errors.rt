@@ -1,0 +1,20 @@
+//! The refusals of readings.
+
+ghost use Rattle.std.specs.Prelude.{◌≡◌, ◌≢◌, IfErr, OnOk};
+
+use raft_base::{Error, Result};
+
+/// Returns `Memory` again, and no other refusal.
+///
+/// # Errors
+///
+/// `Memory`.
+pub(crate) fn unless_memory(error: Error) -> Result<()>
+    ensures ok { OnOk result (error ≢ Error.Memory) }
+    ensures memory { IfErr result (λ e. e ≡ Error.Memory) }
+{
+    if matches!(error, Error::Memory) {
+        return Err(Error::Memory);
+    }
+    Ok(())
+}

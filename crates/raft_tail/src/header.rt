@@ -1,0 +1,44 @@
+//! Headers of batches, looked at without an error value.
+
+ghost use Rattle.std.specs.Prelude.{◌≡◌, ◌+◌, ◌≤◌, length, IfNone, IfSome};
+ghost use Rattle.raft_codec.specs.Fixed.{IsBig};
+ghost use Rattle.raft_codec.specs.Reading.{HasNoFront, Reads};
+ghost use Rattle.raft_records.specs.FilePart.{HasHeader};
+ghost use Rattle.raft_records.specs.Header.{IsHeader};
+
+use raft_codec::codec;
+
+/// How many bytes a header takes.
+pub(crate) const LOG_BATCH_HEADER_LEN: usize = 16;
+
+/// Returns where the items begin by the header in front of `bytes`, and how long its batch is by it; nothing where no header
+/// stands there.
+#[inline(always)]
+pub(crate) fn header_in(bytes: &[u8]) -> Option<(usize, usize)>
+    ensures some { IfSome result (λ header. HasHeader bytes.now header.0 header.1) }
+    ensures none { IfNone result (HasNoFront IsHeader bytes.now) }
+{
+    if bytes.len() < LOG_BATCH_HEADER_LEN {
+        return None;
+    }
+    let (len_and_type, behind) = parse_u64(bytes);
+    let (offset, _) = parse_u64(behind);
+    let len = len_and_type / 256;
+    if len_and_type % 256 != 0 || offset > len || offset < LOG_BATCH_HEADER_LEN as u64 {
+        return None;
+    }
+    Some((offset as usize, len as usize))
+}
+
+#[inline(always)]
+fn parse_u64(bytes: &[u8]) -> (u64, &[u8])
+    requires { 8 ≤ length bytes.now }
+    ensures read { Reads (IsBig 8) bytes.now result.1.now result.0 }
+    ensures len { length bytes.now ≡ 8 + length result.1.now }
+{
+    let mut rest = bytes;
+    match codec::decode_u64(&mut rest) {
+        Ok(number) => (number, rest),
+        Err(_) => unreachable!(),
+    }
+}

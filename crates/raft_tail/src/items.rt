@@ -1,0 +1,220 @@
+//! Items that are passed over in front of bytes whose end isn't known. Nothing is kept of them.
+
+ghost use Rattle.std.specs.Prelude.{◌≡◌, ◌↔◌, ◌-◌, ◌^◌, ◌<◌, ◌≤◌, IfErr, IfOk, IfSome, IsTrue, MatchOption, OnSome};
+ghost use Rattle.raft_codec.specs.Reading.{HasNoFront, Reads};
+ghost use Rattle.raft_records.specs.Entries.{entry_between};
+ghost use Rattle.raft_records.specs.Grammar.{AreTails, IsCommand, IsContent, IsEntries, IsItem, IsKeyValue, IsTail};
+ghost use Rattle.raft_records.specs.ItemBatch.{AreItems, signed_crc};
+ghost use Rattle.raft_codec.specs.Varint.{IsVarint};
+ghost use Rattle.raft_tail.specs.Passing.{AreCounted, BeginsWhole, ContentPasses, EntriesPass, ItemPasses, Passes, TailsPass};
+
+use raft_base::{Error, Result};
+use raft_checksum::crc32;
+use raft_codec::codec;
+use raft_records::{Command, KeyValue};
+use std::alloc::Global;
+
+/// The type byte of an item of entries.
+const TYPE_ENTRIES: u8 = 1;
+
+/// The type byte of an item of a command.
+const TYPE_COMMAND: u8 = 2;
+
+/// The type byte of an item of a change of a key.
+const TYPE_KV: u8 = 3;
+
+/// Tests whether items stand in front of `bytes`, with their signed checksum right behind them.
+///
+/// # Errors
+///
+/// `Memory`.
+pub(crate) fn are_whole(alloc: Global, bytes: &[u8], signature: Option<u32>) -> Result<bool>
+    ensures ok { IfOk result (λ whole. IsTrue whole ↔ BeginsWhole signature bytes.now) }
+    ensures memory { IfErr result (λ e. e ≡ Error.Memory) }
+{
+    let Some(mut rest) = pass_count_and_items(alloc, bytes)? else {
+        return Ok(false);
+    };
+    let (content, _) = bytes.split_at(bytes.len() - rest.len());
+    match codec::decode_u32_le(&mut rest) {
+        Ok(found) => Ok(found == sign(crc32(content), signature)),
+        Err(_) => Ok(false),
+    }
+}
+
+/// Signs a checksum.
+fn sign(checksum: u32, signature: Option<u32>) -> u32
+    ensures { result ≡ signed_crc signature checksum }
+{
+    match signature {
+        Some(signature) => checksum ^ signature,
+        None => checksum,
+    }
+}
+
+/// Returns what follows a count of items and the items; nothing where they don't stand there.
+///
+/// # Errors
+///
+/// `Memory`.
+fn pass_count_and_items(alloc: Global, bytes: &[u8]) -> Result<Option<&[u8]>>
+    ensures ok { IfOk result (λ passed. MatchOption passed (HasNoFront AreCounted bytes.now)
+        (λ rest. Passes AreCounted bytes.now rest.now)) }
+    ensures memory { IfErr result (λ e. e ≡ Error.Memory) }
+{
+    match number_in(bytes) {
+        Some((count, behind)) => pass_items(alloc, behind, count),
+        None => Ok(None),
+    }
+}
+
+/// Returns what follows that many items; nothing where they don't stand there.
+///
+/// # Errors
+///
+/// `Memory`.
+fn pass_items(alloc: Global, bytes: &[u8], count: u64) -> Result<Option<&[u8]>>
+    ensures ok { IfOk result (λ passed. MatchOption passed (HasNoFront (AreItems count) bytes.now)
+        (λ rest. Passes (AreItems count) bytes.now rest.now)) }
+    ensures memory { IfErr result (λ e. e ≡ Error.Memory) }
+{
+    let mut rest = bytes;
+    let mut offset = 0;
+    for _ in 0..count {
+        let Some((end, behind)) = pass_item(alloc, rest, offset)? else {
+            return Ok(None);
+        };
+        rest = behind;
+        offset = end;
+    }
+    Ok(Some(rest))
+}
+
+/// Returns the end of the entries' bytes of the item in front, and what follows it; nothing where no item stands there.
+///
+/// # Errors
+///
+/// `Memory`.
+fn pass_item(alloc: Global, bytes: &[u8], start: u32) -> Result<Option<(u32, &[u8])>>
+    ensures ok { IfOk result (λ passed. MatchOption passed (HasNoFront (IsItem start) bytes.now)
+        (λ item. ItemPasses start bytes.now item.1.now item.0)) }
+    ensures memory { IfErr result (λ e. e ≡ Error.Memory) }
+{
+    match number_in(bytes) {
+        Some((_, behind)) => pass_content(alloc, behind, start),
+        None => Ok(None),
+    }
+}
+
+/// Does what [`pass_item`] does, of what follows the region.
+///
+/// # Errors
+///
+/// `Memory`.
+fn pass_content(alloc: Global, bytes: &[u8], start: u32) -> Result<Option<(u32, &[u8])>>
+    ensures ok { IfOk result (λ passed. MatchOption passed (HasNoFront (IsContent start) bytes.now)
+        (λ content. ContentPasses start bytes.now content.1.now content.0)) }
+    ensures memory { IfErr result (λ e. e ≡ Error.Memory) }
+{
+    let Some((kind, behind)) = bytes.split_first() else {
+        return Ok(None);
+    };
+    match *kind {
+        TYPE_ENTRIES => Ok(pass_entries(behind, start)),
+        TYPE_COMMAND => match pass_command(alloc, behind) {
+            Some(rest) => Ok(Some((start, rest))),
+            None => Ok(None),
+        },
+        TYPE_KV => match pass_change(alloc, behind)? {
+            Some(rest) => Ok(Some((start, rest))),
+            None => Ok(None),
+        },
+        _ => Ok(None),
+    }
+}
+
+/// Returns what follows the command in front; nothing where none stands there.
+fn pass_command(alloc: Global, bytes: &[u8]) -> Option<&[u8]>
+    ensures { MatchOption result (HasNoFront IsCommand bytes.now)
+        (λ rest. Passes IsCommand bytes.now rest.now) }
+{
+    let mut rest = bytes;
+    match Command::decode(alloc, &mut rest) {
+        Ok(_) => Some(rest),
+        Err(_) => None,
+    }
+}
+
+/// Returns what follows the change of a key in front; nothing where none stands there.
+///
+/// # Errors
+///
+/// `Memory`.
+fn pass_change(alloc: Global, bytes: &[u8]) -> Result<Option<&[u8]>>
+    ensures ok { IfOk result (λ passed. MatchOption passed (HasNoFront IsKeyValue bytes.now)
+        (λ rest. Passes IsKeyValue bytes.now rest.now)) }
+    ensures memory { IfErr result (λ e. e ≡ Error.Memory) }
+{
+    let mut rest = bytes;
+    match KeyValue::decode(alloc, &mut rest) {
+        Ok(_) => Ok(Some(rest)),
+        Err(Error::Memory) => Err(Error::Memory),
+        Err(_) => Ok(None),
+    }
+}
+
+/// Returns the end of the bytes of the entries in front, and what follows them; nothing where none stand there.
+fn pass_entries(bytes: &[u8], start: u32) -> Option<(u32, &[u8])>
+    ensures { MatchOption result (HasNoFront (IsEntries start) bytes.now)
+        (λ entries. EntriesPass start bytes.now entries.1.now entries.0) }
+{
+    let (count, behind) = number_in(bytes)?;
+    if count == 0 {
+        return Some((start, behind));
+    }
+    let (first, tails) = number_in(behind)?;
+    pass_tails(tails, count, first, start)
+}
+
+/// Returns the last one of that many tail offsets, and what follows it; nothing where they don't stand there.
+fn pass_tails(bytes: &[u8], count: u64, first: u64, start: u32) -> Option<(u32, &[u8])>
+    ensures { MatchOption result (HasNoFront (AreTails count (first, start)) bytes.now)
+        (λ tails. TailsPass count (first, start) bytes.now tails.1.now tails.0) }
+{
+    let mut rest = bytes;
+    let mut index = first;
+    let mut offset = start;
+    for _ in 0..count {
+        let (tail, behind) = pass_tail(rest, index, offset)?;
+        rest = behind;
+        index += 1;
+        offset = tail;
+    }
+    Some((offset, rest))
+}
+
+/// Returns the tail offset of an entry, and what follows it; nothing where none stands there.
+fn pass_tail(bytes: &[u8], index: u64, offset: u32) -> Option<(u32, &[u8])>
+    ensures tail { MatchOption result (HasNoFront (IsTail (index, offset)) bytes.now) (λ tail.
+        Reads (IsTail (index, offset)) bytes.now tail.1.now (entry_between index offset tail.0)) }
+    ensures ends { IfSome result (λ tail. offset ≤ tail.0) }
+    ensures bounded { OnSome result (index < 2 ^ 64 - 1) }
+{
+    if index == u64::MAX {
+        return None;
+    }
+    let (tail, rest) = number_in(bytes)?;
+    if tail < u64::from(offset) || tail > u64::from(u32::MAX) {
+        return None;
+    }
+    Some((tail as u32, rest))
+}
+
+/// Returns the number in front, and what follows it; nothing where none stands there.
+#[inline(always)]
+fn number_in(bytes: &[u8]) -> Option<(u64, &[u8])>
+    ensures { MatchOption result (HasNoFront IsVarint bytes.now)
+        (λ number. Reads IsVarint bytes.now number.1.now number.0) }
+{
+    codec::parse_var_u64(bytes).ok()
+}

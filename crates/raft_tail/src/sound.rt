@@ -1,0 +1,67 @@
+//! Sound batches behind a byte.
+
+ghost use Rattle.std.specs.Prelude.{◌≡◌, ◌↔◌, ◌<◌, length, IfErr, IfOk, IsTrue};
+ghost use Rattle.raft_tail.specs.Tails.{IsNextSound, IsSoundAt};
+
+use crate::errors::unless_memory;
+use crate::header::header_in;
+use raft_base::{Error, Result};
+use raft_records::{FilePart, next_batch};
+
+/// Returns the first byte from `from` on at which a batch stands that is readable in the part's file.
+///
+/// Each byte costs a look at the 16 bytes there; where these can be a header of a batch that ends within the part, its
+/// items are read.
+///
+/// # Errors
+///
+/// `Memory`.
+pub fn next_sound(part: &FilePart, from: usize) -> Result<Option<usize>>
+    ensures ok { IfOk result (IsNextSound part.now from) }
+    ensures memory { IfErr result (λ e. e ≡ Error.Memory) }
+{
+    for at in from..part.bytes().len() {
+        if is_sound(part, at)? {
+            return Ok(Some(at));
+        }
+    }
+    Ok(None)
+}
+
+/// Tests whether a batch stands at a byte that is readable in the part's file.
+///
+/// # Errors
+///
+/// `Memory`.
+#[inline(always)]
+fn is_sound(part: &FilePart, at: usize) -> Result<bool>
+    requires { at < length part.now.bytes }
+    ensures ok { IfOk result (λ sound. IsTrue sound ↔ IsSoundAt part.now at) }
+    ensures memory { IfErr result (λ e. e ≡ Error.Memory) }
+{
+    let (_, rest) = part.bytes().split_at(at);
+    match header_in(rest) {
+        Some((_, len)) if len <= rest.len() => is_readable(part, at),
+        _ => Ok(false),
+    }
+}
+
+/// Does what `is_sound` does, by reading the batch.
+///
+/// # Errors
+///
+/// `Memory`.
+#[inline(never)]
+fn is_readable(part: &FilePart, at: usize) -> Result<bool>
+    requires { at < length part.now.bytes }
+    ensures ok { IfOk result (λ sound. IsTrue sound ↔ IsSoundAt part.now at) }
+    ensures memory { IfErr result (λ e. e ≡ Error.Memory) }
+{
+    match next_batch(part, at) {
+        Ok(next) => Ok(next.is_some()),
+        Err(error) => {
+            unless_memory(error)?;
+            Ok(false)
+        }
+    }
+}

@@ -1,0 +1,210 @@
+//! The log of a Raft node, in a region of an engine that many nodes share: the six calls of raft-rs's `Storage`, and what a node
+//! writes, all of which lasts once the call returned `Ok`. `raft_storage <folder>` appends an entry.
+//!
+//! An entry's term stands in front of its data. The hard state and what is known of the snapshot are key values. Terms are kept in
+//! memory, so `term` reads no block. The region is the log's alone.
+
+use StorageError::{Compacted, SnapshotOutOfDate, SnapshotTemporarilyUnavailable, Unavailable};
+use raft_recover::{Engine, Files, LogBatch, Options};
+use std::{env, sync::Arc};
+
+/// What a node has promised: its term, for whom it voted there, and up to where it knows that entries are committed.
+#[derive(Clone, Copy, PartialEq, Eq, Debug, Default)]
+pub struct HardState {
+    pub term: u64,
+    pub vote: u64,
+    pub commit: u64,
+}
+
+/// The members who vote.
+#[derive(Clone, PartialEq, Eq, Debug, Default)]
+pub struct ConfState(pub Vec<u64>);
+
+/// An entry of the log.
+#[derive(Clone, PartialEq, Eq, Debug)]
+pub struct Entry {
+    pub index: u64,
+    pub term: u64,
+    pub data: Vec<u8>,
+}
+
+/// The last entry that a snapshot has in it, and the members there. The snapshot itself is the node's.
+#[derive(Clone, PartialEq, Eq, Debug, Default)]
+pub struct SnapshotMetadata {
+    pub conf_state: ConfState,
+    pub index: u64,
+    pub term: u64,
+}
+
+/// Why a call was refused.
+#[derive(Debug)]
+pub enum StorageError {
+    /// The entry is in the snapshot.
+    Compacted,
+    /// The log doesn't reach so far.
+    Unavailable,
+    /// The snapshot that is there reaches as far.
+    SnapshotOutOfDate,
+    /// The snapshot that is there doesn't reach so far.
+    SnapshotTemporarilyUnavailable,
+    /// The engine refused.
+    Other(raft_recover::Error),
+}
+
+pub type Result<T> = std::result::Result<T, StorageError>;
+
+/// The calls of raft-rs's trait of this name, but for the context that its `entries` takes.
+pub trait Storage {
+    fn initial_state(&self) -> Result<(HardState, ConfState)>;
+    fn entries(&self, low: u64, high: u64, max_size: impl Into<Option<u64>>) -> Result<Vec<Entry>>;
+    fn term(&self, index: u64) -> Result<u64>;
+    fn first_index(&self) -> Result<u64>;
+    fn last_index(&self) -> Result<u64>;
+    fn snapshot(&self, request_index: u64, to: u64) -> Result<SnapshotMetadata>;
+}
+
+/// The log of a node.
+pub struct RaftStorage<F: Files> {
+    engine: Arc<Engine<F>>,
+    region: u64,
+    snapshot: SnapshotMetadata,
+    /// The terms of the last entry in the snapshot, and of each entry behind it.
+    terms: Vec<u64>,
+}
+
+const HARD_STATE: &[u8] = b"hard state";
+const SNAPSHOT: &[u8] = b"snapshot";
+
+impl<F: Files> RaftStorage<F> {
+    /// Opens the log in a region, or begins one, and reads the terms of its entries.
+    pub fn open(engine: Arc<Engine<F>>, region: u64) -> Result<RaftStorage<F>> {
+        let mut snapshot = SnapshotMetadata::default();
+        if let [index, term, voters @ ..] = &numbers_in(engine.get(region, SNAPSHOT)?)[..] {
+            (snapshot.index, snapshot.term) = (*index, *term);
+            snapshot.conf_state.0 = voters.to_vec();
+        }
+        let found = (0..).zip(engine.entries(region, ..)?);
+        let mut terms = vec![snapshot.term];
+        terms.extend(found.map(|found| entry_of(found).term));
+        Ok(RaftStorage {
+            engine,
+            region,
+            snapshot,
+            terms,
+        })
+    }
+
+    /// Appends entries with consecutive indexes, in place of those from the first one's on.
+    pub fn append(&mut self, entries: &[Entry]) -> Result<()> {
+        let first = entries.first().map_or(self.last_index()? + 1, |e| e.index);
+        self.term(first.wrapping_sub(1))?;
+        let bytes = |entry: &Entry| [&entry.term.to_le_bytes(), &entry.data[..]].concat();
+        let bytes: Vec<_> = entries.iter().map(bytes).collect();
+        let mut batch = LogBatch::new()?;
+        batch.add_entries(self.region, first, &bytes)?;
+        self.engine.write(&mut batch, true)?;
+        self.terms.truncate((first - self.snapshot.index) as usize);
+        self.terms.extend(entries.iter().map(|entry| entry.term));
+        Ok(())
+    }
+
+    /// Replaces the hard state.
+    pub fn set_hard_state(&mut self, state: HardState) -> Result<()> {
+        let bytes = [state.term, state.vote, state.commit].map(u64::to_le_bytes);
+        let mut batch = LogBatch::new()?;
+        batch.put(self.region, HARD_STATE, &bytes.concat())?;
+        Ok(self.engine.write(&mut batch, true)?)
+    }
+
+    /// Lets the entries go that are in a snapshot which the node made. Its term is that of the log.
+    pub fn compact(&mut self, mut snapshot: SnapshotMetadata) -> Result<()> {
+        snapshot.term = self.term(snapshot.index)?;
+        let terms = self.terms[(snapshot.index - self.snapshot.index) as usize..].to_vec();
+        self.put_snapshot(snapshot.index + 1, snapshot, terms)
+    }
+
+    /// Puts a snapshot that was sent to the node in place of all entries.
+    pub fn apply_snapshot(&mut self, snapshot: SnapshotMetadata) -> Result<()> {
+        if snapshot.index <= self.snapshot.index {
+            return Err(SnapshotOutOfDate);
+        }
+        let terms = vec![snapshot.term];
+        self.put_snapshot(self.last_index()? + 1, snapshot, terms)
+    }
+
+    /// Writes that the entries below `end` go, and what is known of the snapshot that they are in.
+    fn put_snapshot(&mut self, end: u64, of: SnapshotMetadata, terms: Vec<u64>) -> Result<()> {
+        let numbers = [&[of.index, of.term], &of.conf_state.0[..]].concat();
+        let bytes: Vec<_> = numbers.iter().flat_map(|n| n.to_le_bytes()).collect();
+        let mut batch = LogBatch::new()?;
+        batch.compact(self.region, end)?;
+        batch.put(self.region, SNAPSHOT, &bytes)?;
+        self.engine.write(&mut batch, true)?;
+        (self.snapshot, self.terms) = (of, terms);
+        Ok(())
+    }
+}
+
+impl<F: Files> Storage for RaftStorage<F> {
+    fn initial_state(&self) -> Result<(HardState, ConfState)> {
+        let numbers = numbers_in(self.engine.get(self.region, HARD_STATE)?);
+        let [term, vote, commit] = numbers.try_into().unwrap_or_default();
+        let commit = commit.max(self.snapshot.index); // what is in a snapshot is committed
+        let hard_state = HardState { term, vote, commit };
+        Ok((hard_state, self.snapshot.conf_state.clone()))
+    }
+
+    fn entries(&self, low: u64, high: u64, max_size: impl Into<Option<u64>>) -> Result<Vec<Entry>> {
+        self.term(low.wrapping_sub(1))?;
+        self.term(high.wrapping_sub(1))?;
+        let size = max_size.into().unwrap_or(u64::MAX);
+        let found = self.engine.entries_up_to(self.region, low..high, size)?;
+        Ok((low..).zip(found).map(entry_of).collect())
+    }
+
+    fn term(&self, index: u64) -> Result<u64> {
+        let at = index.checked_sub(self.snapshot.index).ok_or(Compacted)?;
+        self.terms.get(at as usize).copied().ok_or(Unavailable)
+    }
+
+    fn first_index(&self) -> Result<u64> {
+        Ok(self.snapshot.index + 1)
+    }
+
+    fn last_index(&self) -> Result<u64> {
+        Ok(self.snapshot.index + self.terms.len() as u64 - 1)
+    }
+
+    fn snapshot(&self, request_index: u64, _to: u64) -> Result<SnapshotMetadata> {
+        let snapshot = Some(&self.snapshot).filter(|snapshot| snapshot.index >= request_index);
+        snapshot.cloned().ok_or(SnapshotTemporarilyUnavailable)
+    }
+}
+
+impl From<raft_recover::Error> for StorageError {
+    fn from(e: raft_recover::Error) -> StorageError {
+        StorageError::Other(e)
+    }
+}
+
+/// Makes an entry of its index and bytes, which `append` wrote.
+fn entry_of((index, bytes): (u64, Vec<u8>)) -> Entry {
+    let (term, data) = bytes.split_first_chunk().expect("a term stands in front");
+    let (term, data) = (u64::from_le_bytes(*term), data.to_vec());
+    Entry { index, term, data }
+}
+
+/// Returns the numbers in a value, none where there is no value.
+fn numbers_in(value: Option<Vec<u8>>) -> Vec<u64> {
+    let bytes = value.unwrap_or_default();
+    let numbers = bytes.as_chunks().0.iter();
+    numbers.map(|bytes| u64::from_le_bytes(*bytes)).collect()
+}
+
+fn main() -> Result<()> {
+    let folder = env::args().nth(1).expect("raft_storage <folder>");
+    let mut log = RaftStorage::open(Arc::new(Engine::open(folder, Options::new())?), 1)?;
+    let (index, term, data) = (log.last_index()? + 1, 1, b"an entry".to_vec());
+    println!("entry {index}");
+    log.append(&[Entry { index, term, data }])
+}

@@ -1,0 +1,75 @@
+//! The locks of a folder.
+
+use crate::{Error, ErrorKind, Result};
+use std::fs::{File, OpenOptions, TryLockError};
+use std::io;
+use std::path::Path;
+
+/// The name of the file that is locked beside the folder itself: raft-engine, and whoever opened a folder before it was locked
+/// itself, look at that file alone.
+const LOCK: &str = "LOCK";
+
+/// A folder that is locked for as long as this value lives.
+#[derive(Debug)]
+pub(super) struct LockedFolder {
+    /// The folder itself, whose lock nobody can take away by deleting a file.
+    pub(super) folder: File,
+    _lock: Option<File>,
+}
+
+impl LockedFolder {
+    /// Locks a folder for one who changes it.
+    ///
+    /// # Errors
+    ///
+    /// `TryAgain` where another engine has it open, `Io`.
+    pub(super) fn exclusive(path: &Path) -> Result<LockedFolder> {
+        let folder = File::open(path).map_err(|e| Error::system(path.display(), e))?;
+        taken(path, folder.try_lock())?;
+        let lock_path = path.join(LOCK);
+        let mut how = OpenOptions::new();
+        how.create(true).truncate(false).read(true).write(true);
+        let lock = how
+            .open(&lock_path)
+            .map_err(|e| Error::system(lock_path.display(), e))?;
+        taken(&lock_path, lock.try_lock())?;
+        Ok(LockedFolder {
+            folder,
+            _lock: Some(lock),
+        })
+    }
+
+    /// Locks a folder for one who reads it, and may be allowed no more: others may read it at the same time.
+    ///
+    /// # Errors
+    ///
+    /// `TryAgain` where an engine has it open that writes, `Io`.
+    pub(super) fn shared(path: &Path) -> Result<LockedFolder> {
+        let folder = File::open(path).map_err(|e| Error::system(path.display(), e))?;
+        taken(path, folder.try_lock_shared())?;
+        let lock_path = path.join(LOCK);
+        let lock = match File::open(&lock_path) {
+            Err(e) if e.kind() == io::ErrorKind::NotFound => None,
+            lock => Some(lock.map_err(|e| Error::system(lock_path.display(), e))?),
+        };
+        if let Some(lock) = &lock {
+            taken(&lock_path, lock.try_lock_shared())?;
+        }
+        Ok(LockedFolder {
+            folder,
+            _lock: lock,
+        })
+    }
+}
+
+/// Says how a lock was refused.
+fn taken(path: &Path, locked: std::result::Result<(), TryLockError>) -> Result<()> {
+    let path = path.display();
+    locked.map_err(|refused| match refused {
+        TryLockError::WouldBlock => {
+            let text = format!("TryAgain Error: {path}: another engine has the folder open");
+            Error::new(ErrorKind::TryAgain, text)
+        }
+        TryLockError::Error(e) => Error::system(path, e),
+    })
+}

@@ -1,0 +1,94 @@
+//! The reading of the files of a queue.
+
+use crate::recovery;
+use crate::{
+    Context, Error, ErrorKind, FileId, FilePart, LogFile, Queue, Result, Version, batch_len,
+    readable_front,
+};
+
+/// In how many parts a thread reads its share of the files, at least.
+const PARTS_OF_A_THREAD: usize = 4;
+
+/// What was read of the files of a queue.
+#[derive(Debug)]
+pub(super) struct ReadQueue {
+    pub(super) context: Context,
+    /// Why the last file can't be read to its end, if it can't be.
+    pub(super) refused: Option<Error>,
+}
+
+impl ReadQueue {
+    /// Reads the files of a queue, but for the torn tail of the last one. Mostly there is none, so that is looked for where the
+    /// files can't be read whole.
+    pub(super) fn of(
+        held: &[(FileId, Vec<u8>)],
+        queue: Queue,
+        version: Version,
+        threads: usize,
+    ) -> Result<ReadQueue> {
+        let mut whole: Vec<_> = held
+            .iter()
+            .map(|(id, bytes)| FilePart::new(LogFile::new(id.queue, id.seq, version), bytes))
+            .collect();
+        let mut refused = None;
+        let context = match recovered(&whole, queue, threads) {
+            Err(e) if e.kind != ErrorKind::Memory => {
+                if let Some(last) = whole.last_mut() {
+                    let front;
+                    (front, refused) = front_of(*last)?;
+                    last.bytes = &last.bytes[..front];
+                }
+                recovered(&whole, queue, threads)?
+            }
+            recovered => recovered?,
+        };
+        Ok(ReadQueue { context, refused })
+    }
+}
+
+/// Recovers what files have.
+fn recovered(files: &[FilePart<'_>], queue: Queue, threads: usize) -> Result<Context> {
+    let total: usize = files.iter().map(|file| file.bytes.len()).sum();
+    let size = total / threads.saturating_mul(PARTS_OF_A_THREAD);
+    let mut parts = Vec::new();
+    for file in files {
+        cut(*file, size, &mut parts);
+    }
+    recovery::read(&parts, queue, threads)
+}
+
+/// Returns where the batches of a part end that can be read, and why the one there can't be.
+///
+/// # Errors
+///
+/// `Memory`.
+fn front_of(part: FilePart<'_>) -> Result<(usize, Option<Error>)> {
+    match readable_front(part)? {
+        (_, Some(refused)) if refused.kind == ErrorKind::Memory => Err(refused),
+        front => Ok(front),
+    }
+}
+
+/// Cuts a part between batches, so that each part but the last one has this many bytes or more.
+fn cut<'a>(whole: FilePart<'a>, size: usize, parts: &mut Vec<FilePart<'a>>) {
+    let (mut from, mut at) = (0, 0);
+    while let Some(len) = batch_len(&whole.bytes[at..]) {
+        at = at.saturating_add(len).min(whole.bytes.len());
+        if at - from >= size {
+            parts.push(part_of(whole, from, at));
+            from = at;
+        }
+    }
+    if from < whole.bytes.len() {
+        parts.push(part_of(whole, from, whole.bytes.len()));
+    }
+}
+
+/// Returns the bytes of a part from one place to another.
+fn part_of(whole: FilePart<'_>, from: usize, to: usize) -> FilePart<'_> {
+    FilePart {
+        offset: whole.offset + from as u64,
+        bytes: &whole.bytes[from..to],
+        ..whole
+    }
+}

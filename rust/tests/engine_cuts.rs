@@ -1,0 +1,159 @@
+//! What is told of a torn tail that is cut when an engine is opened, and where it is kept.
+
+mod common;
+
+use common::TempFolder;
+use common::engines::{engine, write};
+use raft_recover::{
+    CutTail, Engine, ErrorKind, FileId, Files, FolderFiles, MemoryFiles, Options, Queue,
+};
+use std::collections::BTreeMap;
+use std::fs;
+use std::path::Path;
+
+const FIRST: FileId = FileId::new(Queue::Append, 1);
+
+/// The bytes of an append file of two batches, and how many the first one has.
+fn two_batches() -> (Vec<u8>, usize) {
+    let engine = engine();
+    write(&engine, |batch| batch.put(7, b"key", b"value"));
+    let whole = engine.stats().append.bytes as usize;
+    write(&engine, |batch| {
+        batch.add_entries(7, 1, &["an entry", "another"])
+    });
+    (engine.files().files(Queue::Append).remove(0).1, whole)
+}
+
+/// Tests what is told of a tail of so many bytes behind a whole batch.
+fn assert_told(cut: &CutTail, file: FileId, whole: usize, len: usize) {
+    let place = (file, whole as u64, len as u64);
+    assert_eq!((cut.file, cut.offset, cut.len), place);
+    let reason = cut.reason.as_ref().unwrap();
+    let place = (Some(file), Some(whole as u64));
+    assert_eq!((reason.file, reason.offset), place, "{reason}");
+    assert_ne!(reason.kind, ErrorKind::Memory);
+    let text = format!("{file}, offset {whole}: {len} bytes were cut off: {reason}");
+    assert_eq!(cut.to_string(), text);
+}
+
+#[test]
+fn what_is_cut_is_told_by_its_place_with_the_reason() {
+    let (bytes, whole) = two_batches();
+    for len in whole..bytes.len() {
+        let held = || vec![(1, bytes[..len].to_vec())];
+        let empty = || vec![(1, vec![])];
+        for queue in [Queue::Append, Queue::Rewrite] {
+            let found = match queue {
+                Queue::Append => MemoryFiles::found(held(), empty()),
+                Queue::Rewrite => MemoryFiles::found(empty(), held()),
+            };
+            let engine = Engine::with_files(found, Options::new()).unwrap();
+            let recovered = engine.recovered();
+            let (cut, other) = match queue {
+                Queue::Append => (&recovered.append, &recovered.rewrite),
+                Queue::Rewrite => (&recovered.rewrite, &recovered.append),
+            };
+            assert_eq!((cut.is_some(), other), (len > whole, &None));
+            assert!(recovered.cuts().eq(cut));
+            if let Some(cut) = cut {
+                assert_told(cut, FileId::new(queue, 1), whole, len - whole);
+            }
+        }
+    }
+}
+
+#[test]
+fn a_changed_byte_in_the_last_batch_is_told_as_the_reason() {
+    let (mut bytes, whole) = two_batches();
+    *bytes.last_mut().unwrap() ^= 1;
+    let found = MemoryFiles::found(vec![(1, bytes.clone())], vec![]);
+    let engine = Engine::with_files(found, Options::new()).unwrap();
+    let cut = engine.recovered().append.as_ref().unwrap();
+    assert_told(cut, FIRST, whole, bytes.len() - whole);
+    assert_eq!(cut.reason.as_ref().unwrap().kind, ErrorKind::Corruption);
+}
+
+/// The files in a folder, but for `LOCK`.
+fn files_in(folder: &Path) -> BTreeMap<String, Vec<u8>> {
+    let entries = fs::read_dir(folder).unwrap().map(Result::unwrap);
+    let files = entries.filter(|entry| entry.file_name() != "LOCK");
+    files
+        .map(|entry| {
+            let name = entry.file_name().into_string().unwrap();
+            (name, fs::read(entry.path()).unwrap())
+        })
+        .collect()
+}
+
+/// Opens a folder whose first append file has these bytes behind what it has, and returns how many were cut.
+fn cut_by_opening(folder: &Path, tail: &[u8]) -> Option<u64> {
+    let path = folder.join("0000000000000001.raftlog");
+    let mut bytes = fs::read(&path).unwrap();
+    bytes.extend(tail);
+    fs::write(&path, bytes).unwrap();
+    let engine = Engine::open(folder, Options::new()).unwrap();
+    engine.recovered().append.as_ref().map(|cut| cut.len)
+}
+
+#[test]
+fn what_is_cut_is_kept_beside_the_file() {
+    let room = TempFolder::new();
+    let engine = Engine::open(room.path(), Options::new()).unwrap();
+    write(&engine, |batch| batch.put(7, b"key", b"value"));
+    let whole = engine.stats().append.bytes;
+    drop(engine);
+    let path = room.path().join("0000000000000001.raftlog");
+    let bytes = fs::read(&path).unwrap();
+    let cut = |nth: &str| format!("0000000000000001.raftlog.{whole}{nth}.cut");
+    // the tails of openings one behind the other, and what is kept since: what was kept already, and what was
+    // half kept, isn't kept again
+    type Kept<'a> = &'a [(&'a str, &'a [u8])];
+    let rows: [(&[u8], Kept<'_>); 6] = [
+        (b"", &[]),
+        (b"torn", &[("", b"torn")]),
+        (b"torn", &[("", b"torn")]),
+        (b"torn, and more", &[("", b"torn, and more")]),
+        (b"another", &[("", b"torn, and more"), (".2", b"another")]),
+        (
+            b"a third",
+            &[
+                ("", b"torn, and more"),
+                (".2", b"another"),
+                (".3", b"a third"),
+            ],
+        ),
+    ];
+    for (tail, expected) in rows {
+        let count = cut_by_opening(room.path(), tail);
+        assert_eq!(count, (!tail.is_empty()).then_some(tail.len() as u64));
+        assert_eq!(fs::read(&path).unwrap(), bytes);
+        let mut kept = files_in(room.path());
+        kept.retain(|name, _| name.ends_with(".cut"));
+        let expected = expected
+            .iter()
+            .map(|(nth, bytes)| (cut(nth), bytes.to_vec()));
+        assert_eq!(kept, expected.collect());
+    }
+    let files = FolderFiles::open(room.path()).unwrap();
+    assert_eq!(files.list(Queue::Append).unwrap(), [(1, whole)]);
+}
+
+#[test]
+fn nothing_is_cut_that_cant_be_kept() {
+    let room = TempFolder::new();
+    let files = FolderFiles::open(room.path()).unwrap();
+    files.rotate(FIRST).unwrap();
+    files.write(FIRST, b"torn").unwrap();
+    drop(files);
+    // a folder stands where it is to be kept
+    let kept = room.path().join("0000000000000001.raftlog.0.cut");
+    fs::create_dir(&kept).unwrap();
+    let e = Engine::open(room.path(), Options::new()).unwrap_err();
+    let place = (Some(FIRST), Some(0));
+    assert_eq!((e.kind, (e.file, e.offset)), (ErrorKind::Io, place), "{e}");
+    let bytes = fs::read(room.path().join("0000000000000001.raftlog"));
+    assert_eq!(bytes.unwrap(), b"torn");
+    fs::remove_dir(&kept).unwrap();
+    Engine::open(room.path(), Options::new()).unwrap();
+    assert_eq!(fs::read(&kept).unwrap(), b"torn");
+}

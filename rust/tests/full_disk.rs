@@ -1,0 +1,229 @@
+//! A full disk. Those tests that need one mount a small file system in memory, and test nothing where they may not.
+
+mod common;
+
+use common::TempFolder;
+use common::engines::{asked_since, write};
+use common::hooked::{Call, Hooked};
+use raft_recover::{
+    Engine, Error, ErrorKind, FileId, Files, FolderFiles, LogBatch, MemoryFiles, Options, Queue,
+    Result,
+};
+use std::collections::BTreeMap;
+use std::path::{Path, PathBuf};
+use std::process::Command;
+use std::{fs, io};
+
+const FIRST: FileId = FileId::new(Queue::Append, 1);
+
+/// How many bytes an entry has.
+const ENTRY: usize = 10_000;
+
+/// A file system of 256 KiB, which is taken away at the end.
+struct SmallDisk(TempFolder);
+
+impl SmallDisk {
+    /// Mounts one, where this user may.
+    fn mounted() -> Option<SmallDisk> {
+        let disk = SmallDisk(TempFolder::new());
+        let mut mount = Command::new("mount");
+        mount.args(["-t", "tmpfs", "-o", "size=256k", "none"]);
+        let is_mounted = mount.arg(disk.0.path()).output();
+        if is_mounted.is_ok_and(|ended| ended.status.success()) {
+            return Some(disk);
+        }
+        println!("no file system can be mounted: nothing was tested");
+        None
+    }
+
+    fn path(&self) -> PathBuf {
+        self.0.path().join("logs")
+    }
+
+    /// Puts a file of 64 KiB on the disk.
+    fn fill(&self) {
+        fs::write(self.0.path().join("other"), vec![7; 64 << 10]).unwrap();
+    }
+
+    /// Takes it away again.
+    fn make_room(&self) {
+        fs::remove_file(self.0.path().join("other")).unwrap();
+    }
+}
+
+impl Drop for SmallDisk {
+    fn drop(&mut self) {
+        let _ = Command::new("umount").arg("-l").arg(self.0.path()).status();
+    }
+}
+
+/// Writes entry after entry until there is no room, and returns how many were written, and the refusal.
+fn write_until_full<F: Files>(engine: &Engine<F>) -> (u64, Error) {
+    let first = engine.last_index(7).unwrap().map_or(1, |last| last + 1);
+    let mut batch = LogBatch::new().unwrap();
+    for index in first.. {
+        batch
+            .add_entries(7, index, &[[index as u8; ENTRY]])
+            .unwrap();
+        if let Err(e) = engine.write(&mut batch, index % 2 == 0) {
+            return (index - 1, e);
+        }
+    }
+    unreachable!()
+}
+
+/// Tests that an engine has so many of these entries at least, and reads them.
+fn assert_read<F: Files>(engine: &Engine<F>, written: u64) {
+    let entries: Vec<_> = engine.entries(7, ..).unwrap().collect();
+    assert!(entries.len() as u64 >= written);
+    for (index, entry) in (1..).zip(entries) {
+        assert_eq!(entry, [index as u8; ENTRY]);
+    }
+}
+
+/// Tests that a call was refused for want of room.
+fn assert_full(e: &Error) {
+    assert_eq!(e.kind, ErrorKind::Io, "{e}");
+    let source = std::error::Error::source(e).unwrap();
+    let source: &io::Error = source.downcast_ref().unwrap();
+    assert_eq!(source.kind(), io::ErrorKind::StorageFull, "{e}");
+}
+
+/// The files in a folder.
+fn files_in(folder: &Path) -> BTreeMap<String, Vec<u8>> {
+    let entries = fs::read_dir(folder).unwrap().map(io::Result::unwrap);
+    let seen = entries.map(|entry| {
+        let name = entry.file_name().into_string().unwrap();
+        (name, fs::read(entry.path()).unwrap())
+    });
+    seen.collect()
+}
+
+/// Opens a folder on a full disk. The library may have something written, for which there is no room then; nothing else is
+/// changed.
+fn opened_if_nothing_is_written(folder: &Path) -> Option<Engine> {
+    let before = files_in(folder);
+    match Engine::open(folder, Options::new()) {
+        Ok(engine) => Some(engine),
+        Err(e) => {
+            assert_full(&e);
+            assert!(e.text.contains("a batch can't be written"), "{e}");
+            assert_eq!(files_in(folder), before);
+            None
+        }
+    }
+}
+
+#[test]
+fn a_full_disk_is_read_and_goes_on_once_there_is_room() {
+    let Some(disk) = SmallDisk::mounted() else {
+        return;
+    };
+    disk.fill();
+    let engine = Engine::open(disk.path(), Options::new()).unwrap();
+    let (written, e) = write_until_full(&engine);
+    assert_full(&e);
+    assert!((10..20).contains(&written), "{written}");
+    assert_read(&engine, written);
+    let e = engine.sync().unwrap_err();
+    assert_eq!(e.kind, ErrorKind::Failed);
+    assert_read(&engine, written);
+    drop(engine);
+    // what was written of the last batch was taken back, so there is nothing to cut
+    let engine = Engine::open_read_only(disk.path(), Options::new()).unwrap();
+    assert_eq!(engine.recovered().cuts().count(), 0);
+    assert_eq!(engine.last_index(7).unwrap(), Some(written));
+    assert_read(&engine, written);
+    drop(engine);
+    if let Some(engine) = opened_if_nothing_is_written(&disk.path()) {
+        assert_eq!(engine.recovered().cuts().count(), 0);
+        assert_read(&engine, written);
+    }
+    disk.make_room();
+    let engine = Engine::open(disk.path(), Options::new()).unwrap();
+    assert_read(&engine, written);
+    let (more, e) = write_until_full(&engine);
+    assert_full(&e);
+    assert!(more > written + 4);
+    assert_read(&engine, more);
+}
+
+#[test]
+fn a_tail_that_finds_no_room_beside_its_file_stays_uncut() {
+    let Some(disk) = SmallDisk::mounted() else {
+        return;
+    };
+    disk.fill();
+    let engine = Engine::open(disk.path(), Options::new()).unwrap();
+    let (written, _) = write_until_full(&engine);
+    let whole = engine.stats().append.bytes;
+    drop(engine);
+    let path = disk.path().join("0000000000000001.raftlog");
+    let log = fs::OpenOptions::new().write(true).open(path).unwrap();
+    log.set_len(whole - 5).unwrap();
+    let before = files_in(&disk.path());
+    let e = Engine::open(disk.path(), Options::new()).unwrap_err();
+    assert_full(&e);
+    assert!(e.text.contains(".cut: "), "{e}");
+    let len = e.offset.unwrap();
+    assert_eq!(e.file, Some(FIRST));
+    assert_eq!(files_in(&disk.path()), before);
+    disk.make_room();
+    let engine = Engine::open(disk.path(), Options::new()).unwrap();
+    let cut = engine.recovered().append.as_ref().unwrap();
+    assert_eq!((cut.offset, cut.len), (len, whole - 5 - len));
+    assert_read(&engine, written - 1);
+    let kept = disk
+        .path()
+        .join(format!("0000000000000001.raftlog.{len}.cut"));
+    let log = &before["0000000000000001.raftlog"];
+    assert_eq!(fs::read(kept).unwrap(), log[len as usize..]);
+}
+
+#[test]
+fn bytes_that_find_no_room_are_taken_back() -> io::Result<()> {
+    let Some(disk) = SmallDisk::mounted() else {
+        return Ok(());
+    };
+    let files = FolderFiles::open(disk.path()).unwrap();
+    files.rotate(FIRST)?;
+    files.write(FIRST, &[1; 100_000])?;
+    let e = files.write(FIRST, &[2; 200_000]).unwrap_err();
+    assert_eq!(e.kind(), io::ErrorKind::StorageFull);
+    assert_eq!(files.list(Queue::Append)?, [(1, 100_000)]);
+    assert!(files.write(FIRST, b"..").is_err());
+    let mut bytes = vec![0; 100_000];
+    files.read(FIRST, 0, &mut bytes)?;
+    assert_eq!(bytes, [1; 100_000]);
+    Ok(())
+}
+
+#[test]
+fn a_purge_deletes_what_it_can_before_records_move() -> Result<()> {
+    // many small batches may be written to the rewrite queue, but no records may move
+    let files = MemoryFiles::new();
+    let hooked = Hooked::new(&files, |call: Call<'_>| match call {
+        Call::Write(file, bytes) if file.queue == Queue::Rewrite && bytes.len() > 500 => {
+            Err(io::ErrorKind::StorageFull.into())
+        }
+        _ => Ok(()),
+    });
+    let options = Options::new().target_file_size(100).purge_above(500);
+    let engine = Engine::with_files(hooked, options)?;
+    for region in [8, 7] {
+        for index in 1..=8 {
+            write(&engine, |batch| {
+                batch.add_entries(region, index, &[[7; 100]])
+            });
+        }
+    }
+    write(&engine, |batch| batch.clean(8)); // no record has to move out of the first eight files
+    let before = files.asked();
+    assert_full(&engine.purge().unwrap_err());
+    let deleted = asked_since(&files, before);
+    let deleted = deleted.iter().filter(|ask| ask.starts_with("delete"));
+    let expected = (1..=8).map(|seq| format!("delete append file {seq}"));
+    assert!(deleted.eq(&expected.collect::<Vec<_>>()));
+    assert_eq!(engine.entries(7, ..)?.count(), 8);
+    Ok(())
+}

@@ -14,7 +14,18 @@ const LOCK: &str = "LOCK";
 pub(super) struct LockedFolder {
     /// The folder itself, whose lock nobody can take away by deleting a file.
     pub(super) folder: File,
-    _lock: Option<File>,
+    lock: Option<File>,
+}
+
+impl Drop for LockedFolder {
+    /// Gives the locks back. That closing the files does so isn't enough: a process that another thread starts just then has them
+    /// too for a moment, until it runs its own program.
+    fn drop(&mut self) {
+        let _ = self.folder.unlock();
+        if let Some(lock) = &self.lock {
+            let _ = lock.unlock();
+        }
+    }
 }
 
 impl LockedFolder {
@@ -26,6 +37,7 @@ impl LockedFolder {
     pub(super) fn exclusive(path: &Path) -> Result<LockedFolder> {
         let folder = File::open(path).map_err(|e| Error::system(path.display(), e))?;
         taken(path, folder.try_lock())?;
+        let mut locked = LockedFolder { folder, lock: None };
         let lock_path = path.join(LOCK);
         let mut how = OpenOptions::new();
         how.create(true).truncate(false).read(true).write(true);
@@ -33,10 +45,8 @@ impl LockedFolder {
             .open(&lock_path)
             .map_err(|e| Error::system(lock_path.display(), e))?;
         taken(&lock_path, lock.try_lock())?;
-        Ok(LockedFolder {
-            folder,
-            _lock: Some(lock),
-        })
+        locked.lock = Some(lock);
+        Ok(locked)
     }
 
     /// Locks a folder for one who reads it, and may be allowed no more: others may read it at the same time.
@@ -47,18 +57,15 @@ impl LockedFolder {
     pub(super) fn shared(path: &Path) -> Result<LockedFolder> {
         let folder = File::open(path).map_err(|e| Error::system(path.display(), e))?;
         taken(path, folder.try_lock_shared())?;
+        let mut locked = LockedFolder { folder, lock: None };
         let lock_path = path.join(LOCK);
         let lock = match File::open(&lock_path) {
-            Err(e) if e.kind() == io::ErrorKind::NotFound => None,
-            lock => Some(lock.map_err(|e| Error::system(lock_path.display(), e))?),
+            Err(e) if e.kind() == io::ErrorKind::NotFound => return Ok(locked),
+            lock => lock.map_err(|e| Error::system(lock_path.display(), e))?,
         };
-        if let Some(lock) = &lock {
-            taken(&lock_path, lock.try_lock_shared())?;
-        }
-        Ok(LockedFolder {
-            folder,
-            _lock: lock,
-        })
+        taken(&lock_path, lock.try_lock_shared())?;
+        locked.lock = Some(lock);
+        Ok(locked)
     }
 }
 

@@ -164,7 +164,7 @@ fn read_behind<S: ReadFiles>(
         return Err(failure_at(alloc, file, offset, error));
     }
     if piece.len() != before + len {
-        let miscount = "another number of bytes was read than was asked for";
+        let miscount = "a read gave another number of bytes";
         let error = io::Error::new(ErrorKind::UnexpectedEof, miscount);
         return Err(failure_at(alloc, file, offset, error));
     }

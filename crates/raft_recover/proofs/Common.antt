@@ -1,11 +1,11 @@
 -- What proofs of this crate import of std, of the definitions and of the crates below, in one place.
 pub use Rattle.std.proofs.Common.{Bool, Bor, Err, not, IfErr, IfNone, IfOk, IfSome, List, MatchOption, None, Ok, OnOk, Option, Result, Some, Vec, [], ap, append-nil, append_assoc, arith, codes, drop, false, get_or, inl, inr, length, map}
-pub use Rattle.std.proofs.Common.{refl, rules, string_bytes, subst, suc, sym, take, true, zero, ℕ, ◌&&◌, ◌++◌, ◌+◌, ◌-◌, ◌<◌, ◌^◌, ◌↔◌, ◌∙◌, ◌∷◌, ◌≡◌, ◌≢◌, ◌≤◌, ◌⊎◌}
+pub use Rattle.std.proofs.Common.{refl, rules, string_bytes, subst, suc, sym, take, take-append-drop, true, zero, ℕ, ◌&&◌, ◌++◌, ◌+◌, ◌-◌, ◌<◌, ◌^◌, ◌↔◌, ◌∙◌, ◌∷◌, ◌≡◌, ◌≢◌, ◌≤◌, ◌⊎◌}
 pub use Rattle.std.proofs.lemmas.List.{drop_all, drop_more, get_or-map, length-drop, length-map, map-append, map_more, map_push, take_all}
 pub use Rattle.std.proofs.lemmas.List.Elements.{All-from_recursion, All-map, recursion_from_All}
 pub use Rattle.std.proofs.lemmas.List.Sorted.{IsNonDecreasingBy-from_sort_by_key, IsPermutation-map, IsPermutation-sym, IsPermutation-trans}
 pub use Rattle.std.proofs.lemmas.Option.{IfSome_then}
-pub use Rattle.std.proofs.lemmas.Result.{IfErr-weaker, IfOk-weaker, err_from_is_err_and}
+pub use Rattle.std.proofs.lemmas.Result.{IfErr-weaker, IfOk-weaker, err_from_is_err_and, on_ok_weaker}
 pub use Rattle.std.proofs.lemmas.Slice.Eq.{bytes_eq-Decides}
 pub use Rattle.std.proofs.lemmas.Str.Pattern.{IsSplitOnceResult, split_after}
 pub use Rattle.std.specs.List.{flat_map}
@@ -38,4 +38,5 @@ pub use Rattle.raft_replay.specs.Segments.{HoldsFrom}
 pub use Rattle.raft_reading.specs.IoErrors.{IoError}
 pub use Rattle.raft_reading.specs.QueueRead.{file_of}
 pub use Rattle.raft_reading.specs.declared.queue_files.FileSize.{FileSize}
-pub use Rattle.raft_recover.specs.Common.{AreAllRead, AreSizesOf, IsQueueReplayed, IsQueueStop, IsRecoveredFrom, PrintsFiles, PrintsFrontOfFiles, bytes_of_sizes}
+pub use Rattle.raft_recover.specs.Common.{AreAllRead, AreOverfull, AreSizesOf, IsAppended, IsFilesPrintFailure, IsFilesRefusal, IsNamed, IsQueueReplayed, IsQueueStop, IsRecoveredFrom, IsRecoveryFrontPrinted, IsRecoveryPrinted, NamedGives, PrintsFiles, PrintsFrontOfFiles, asks_for, bytes_of_sizes}
+pub use Rattle.raft_recover.specs.Common.{AskedRecovery}

@@ -1,7 +1,7 @@
 -- What the recovery of files gives that are read in pieces, and where it stops.
-use Rattle.raft_recover.proofs.Common.{◌≡◌, ◌⊎◌, ◌+◌, ◌<◌, ◌^◌, inl, inr, ℕ, List, [], ◌∷◌, ◌++◌, Option, Result, Ok, Err, IfOk, IfErr, OnOk, map, length, refl, sym, ap, ◌∙◌, subst, Error, FileId, LogQueue, Version, Event, Suits, files_of, IsSmall, IsOfQueue, IsOneReading}
+use Rattle.raft_recover.proofs.Common.{◌≡◌, ◌≢◌, ◌⊎◌, ◌+◌, ◌<◌, ◌^◌, inl, inr, ℕ, List, [], ◌∷◌, ◌++◌, Option, Result, Ok, Err, IfOk, IfErr, OnOk, map, refl, sym, ap, ◌∙◌, subst, Error, FileId, LogQueue, Version, Event, Suits, files_of, IsSmall, IsOfQueue, IsOneReading}
 use Rattle.raft_recover.proofs.Common.{Sound, Accessor, AreCountsOf, RecoverContext, HasRead, HasReadExactly, ContextStage, IsStoodFor, stands_sound, NumberedBytes, NumberedPath, FilesHold, whole_file, bytes_of_files, IsIoError, PrintsTables, PrintsFrontOfTables}
-use Rattle.raft_recover.proofs.Common.{PrintsRecovered, IsRecovered, AreAllRead, IsQueueReplayed, IsQueueStop, AreSizesOf, IsRecoveredFrom, PrintsFiles, PrintsFrontOfFiles, bytes_of_sizes, FileSize, IoError, HoldsFrom, GoneOn, IsNothing, AreOfQueue}
+use Rattle.raft_recover.proofs.Common.{AreAllRead, IsQueueReplayed, IsQueueStop, AreSizesOf, IsFilesPrintFailure, IsFilesRefusal, IsRecoveredFrom, PrintsFiles, bytes_of_sizes, FileSize, IoError, HoldsFrom, GoneOn, IsNothing, AreOfQueue}
 use Rattle.raft_recover.proofs.Common.{file_of, of_both, part_of, fault_after}
 use Rattle.raft_recover.proofs.FewFileLemmas.{small_files}
 use Rattle.raft_base.specs.declared.errors.Error.TheVariants as errors
@@ -84,6 +84,19 @@ module _ (Gives : FileId → ℕ → List ℕ → Type 0) (queue : LogQueue) (ve
           let reading = (replayed.stands (small_files queue version replayed.files replayed.history replayed.held bytes)).stage in
           absurd (subst is_failed (sym failed.1 ∙ reading) tt)
 
+      -- a context that is refused at its end has failed: its files name too many records
+      pub full_files : (Fails : FileId → ℕ → IoError → Type 0) (r : Result Accessor Error) → IfErr r (λ e. (e ≡ errors.Failed) × (m.stage ≡ stages.Failed))
+          → IfErr r (λ e. e ≢ errors.Memory → IsFilesRefusal Gives Fails queue version sizes e)
+      full_files Fails (Ok a) failed = tt
+      full_files Fails (Err e) failed = λ _. inr (record {
+        files = replayed.files;
+        read = replayed.read;
+        history = replayed.history;
+        held = replayed.held;
+        large = λ small. subst is_failed (sym failed.1 ∙ (replayed.stands small).stage) tt;
+        refusal = failed.0;
+      })
+
     -- what a context took in can be read
     pub stop_sound : (Fails : FileId → ℕ → IoError → Type 0) (e : Error) → IsQueueStop Gives Fails queue version sizes (IsStoodFor HasRead) e → IsQueueStop Gives Fails queue version sizes Sound e
     stop_sound Fails e stop = record {
@@ -116,11 +129,24 @@ module _ (Gives : FileId → ℕ → List ℕ → Type 0) (queue : LogQueue) (ve
       files_printed (Ok x) done = record { files = r.files; read = r.read; printed = record { accessor = a; recovered = r.recovered; printed = done } }
       files_printed (Err e) done = tt
 
-      kept_or_front : (K : Type 0) (e : Error) → ((IsIoError e → ⊥) → K) → (IsIoError e → PrintsFrontOfTables a old new) → K ⊎ PrintsFrontOfFiles Gives queue version sizes old new
-      kept_or_front K (errors.Io x) silent printed = inr (record { files = r.files; read = r.read; printed = record { accessor = a; recovered = r.recovered; printed = printed tt } })
-      kept_or_front K e silent printed = inl (silent (λ io. io))
+      print_failed : (e : Error) → IsIoError e → PrintsFrontOfTables a old new → IsFilesPrintFailure Gives queue version sizes old new e
+      print_failed e io front = record { io = io; printed = record { files = r.files; read = r.read; printed = record { accessor = a; recovered = r.recovered; printed = front } } }
+
+      kept_or_failed : (K : Type 0) (e : Error) → ((IsIoError e → ⊥) → K) → (IsIoError e → PrintsFrontOfTables a old new) → K ⊎ IsFilesPrintFailure Gives queue version sizes old new e
+      kept_or_failed K (errors.Io x) silent front = inr (print_failed (errors.Io x) tt (front tt))
+      kept_or_failed K e silent front = inl (silent (λ io. io))
 
       pub files_found : {X : Type 0} (printed : Result X Error) (K : Type 0) → IfErr printed (λ e. (IsIoError e → ⊥) → K) → IfErr printed (λ e. IsIoError e → PrintsFrontOfTables a old new)
-          → IfErr printed (λ e. K ⊎ PrintsFrontOfFiles Gives queue version sizes old new)
+          → IfErr printed (λ e. K ⊎ IsFilesPrintFailure Gives queue version sizes old new e)
       files_found (Ok x) K silent front = tt
-      files_found (Err e) K silent front = kept_or_front K e silent front
+      files_found (Err e) K silent front = kept_or_failed K e silent front
+
+      failed_by : (e : Error) → ((IsIoError e → ⊥) → e ≡ errors.Memory) → (IsIoError e → PrintsFrontOfTables a old new) → e ≢ errors.Memory → IsFilesPrintFailure Gives queue version sizes old new e
+      failed_by (errors.Io x) fault front not_memory = print_failed (errors.Io x) tt (front tt)
+      failed_by e fault front not_memory = absurd (not_memory (fault (λ io. io)))
+
+      pub files_unprinted : (Fails : FileId → ℕ → IoError → Type 0) {X : Type 0} (printed : Result X Error) → IfErr printed (λ e. (IsIoError e → ⊥) → e ≡ errors.Memory)
+          → IfErr printed (λ e. IsIoError e → PrintsFrontOfTables a old new)
+          → IfErr printed (λ e. e ≢ errors.Memory → IsFilesRefusal Gives Fails queue version sizes e ⊎ IsFilesPrintFailure Gives queue version sizes old new e)
+      files_unprinted Fails (Ok x) fault front = tt
+      files_unprinted Fails (Err e) fault front = λ not_memory. inr (failed_by e fault front not_memory)

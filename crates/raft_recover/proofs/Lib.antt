@@ -2,6 +2,7 @@ mod Common
 pub mod FewFileLemmas
 pub mod FileLemmas
 pub mod FileRecoveryLemmas
+pub mod NamedFileLemmas
 pub mod OrderLemmas
 pub mod RecoveryLemmas
 pub mod RequestLemmas

@@ -36,8 +36,10 @@ pub use Rattle.raft_replay.specs.Segments.{CannotBeRead, EachHolds, MayReplay, S
 pub use Rattle.raft_replay.specs.Stops.{GoneOn, IsNothing, IsStoodFor, StopsAmong}
 pub use Rattle.raft_replay.specs.WrittenParts.{bytes_of_segments}
 pub use Rattle.raft_recover.specs.AskedRequests.{IsAsked, asks_for, path_shown}
+pub use Rattle.raft_reading.specs.FilesRead.{IsAppended}
+pub use Rattle.raft_reading.specs.IoErrors.{IoError}
 pub use Rattle.raft_reading.specs.QueueRead.{AreAllRead, IsQueueReplayed, IsQueueStop}
-pub use Rattle.raft_recover.specs.FileRecovery.{AreSizesOf, IsRecoveredFrom, PrintsFiles, PrintsFrontOfFiles, bytes_of_sizes}
+pub use Rattle.raft_recover.specs.FileRecovery.{AreOverfull, AreSizesOf, IsFilesPrintFailure, IsFilesRefusal, IsNamed, IsRecoveredFrom, NamedGives, PrintsFiles, PrintsFrontOfFiles, bytes_of_sizes}
 pub use Rattle.raft_recover.specs.Files.{AreWholeFiles, FilesCannotBeRead, FilesHold, IsPrintFailure, PrintsRecovered, bytes_of_files, file_shown, segment_shown, whole_file}
 pub use Rattle.raft_recover.specs.Programs.{IsFrontPrinted, IsPrinted, IsRecoveryFrontPrinted, IsRecoveryPrinted}
 pub use Rattle.raft_recover.specs.Recovery.{AreBothRecovered, IsRecovered, MayReplayBoth}

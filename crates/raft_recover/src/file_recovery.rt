@@ -1,7 +1,7 @@
 //! From files, read in pieces, to the tables of all regions.
 
 ghost use Rattle.std.specs.Prelude.{◌≡◌, ◌≢◌, ◌⊎◌, ◌^◌, ◌<◌, ◌≤◌, IfOk, IfErr, OnOk};
-ghost use Rattle.raft_recover.specs.Common.{IsQueueStop, IsRecoveredFrom, Keeps, PrintsFiles, PrintsFrontOfFiles, Sound, bytes_of_sizes};
+ghost use Rattle.raft_recover.specs.Common.{IsFilesPrintFailure, IsFilesRefusal, IsQueueStop, IsRecoveredFrom, Keeps, PrintsFiles, Sound, bytes_of_sizes};
 
 use crate::recovered::print_recovered;
 use raft_accessor::MemTableAccessor;
@@ -18,7 +18,8 @@ use std::thread::Threads;
 ///
 /// # Errors
 ///
-/// Those of [`replay_files`](raft_reading::replay_files).
+/// Those of [`replay_files`](raft_reading::replay_files), and `Failed` where the files name 2^63 entries, key values and
+/// deletions together, or more.
 pub fn recover_files<R: Threads + Sync, S: ReadFiles>(
     rt: &R,
     alloc: Global,
@@ -32,6 +33,8 @@ pub fn recover_files<R: Threads + Sync, S: ReadFiles>(
     ensures ok { IfOk result (IsRecoveredFrom (S.gives source.now) queue version files.now) }
     ensures place { bytes_of_sizes files.now < 2 ^ 63 → IfErr result (λ e. e ≢ Error.Memory
         → IsQueueStop (S.gives source.now) (S.may_fail source.now) queue version files.now Sound e) }
+    ensures fault { IfErr result (λ e. e ≢ Error.Memory
+        → IsFilesRefusal (S.gives source.now) (S.may_fail source.now) queue version files.now e) }
 {
     let factory = MemTableRecoverContextFactory::new();
     let context = replay_files(rt, alloc, &factory, source, files, queue, version, workers)?;
@@ -57,9 +60,13 @@ pub fn print_files<R: Threads + Sync, S: ReadFiles, W: Write>(
     requires { (0 < workers) × (workers ≤ 256) }
     ensures ok { OnOk result (PrintsFiles (S.gives source.now) queue version files.now
         (W.contents writer.old) (W.contents writer.new)) }
-    ensures silent { IfErr result (λ _. Keeps (W.contents writer.old) (W.contents writer.new)
-        ⊎ PrintsFrontOfFiles (S.gives source.now) queue version files.now
-        (W.contents writer.old) (W.contents writer.new)) }
+    ensures silent { IfErr result (λ e. Keeps (W.contents writer.old) (W.contents writer.new)
+        ⊎ IsFilesPrintFailure (S.gives source.now) queue version files.now
+        (W.contents writer.old) (W.contents writer.new) e) }
+    ensures fault { IfErr result (λ e. e ≢ Error.Memory
+        → IsFilesRefusal (S.gives source.now) (S.may_fail source.now) queue version files.now e
+        ⊎ IsFilesPrintFailure (S.gives source.now) queue version files.now
+        (W.contents writer.old) (W.contents writer.new) e) }
 {
     let accessor = recover_files(rt, alloc, source, files, queue, version, workers)?;
     print_recovered(alloc, &accessor, writer)

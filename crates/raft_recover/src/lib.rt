@@ -5,18 +5,22 @@ mod ending;
 #[doc(hidden)]
 pub mod file_recovery;
 pub mod files;
+pub(crate) mod named_files;
 pub mod program;
+pub mod program_in_pieces;
 pub mod recovered;
 pub mod recovery;
 pub mod request;
 pub mod scan;
 pub mod scan_program;
+pub mod shared_files;
 pub mod shares;
 
 #[doc(hidden)]
 pub use ending::refusal;
 pub use files::{file_segments, files_hold_few_records};
 pub use program::{command_words, run, run_without_words};
+pub use program_in_pieces::run_in_pieces;
 pub use raft_accessor::MemTableAccessor;
 pub use raft_base::{
     AllocResult, EntryIndex, Error, Factory, FileId, FileSeq, LogQueue, Result, Version,
@@ -37,3 +41,4 @@ pub use recovered::print_recovered;
 pub use recovery::{recover, recover_both, recover_bytes, recover_segments};
 pub use scan::append_scan;
 pub use scan_program::{run_scan, scan_without_words};
+pub use shared_files::SharedFiles;

@@ -13,7 +13,7 @@ use std::rt::{Env, Files};
 use std::thread::Threads;
 use std::{env, io};
 
-const RAFTLOG: Program = Program {
+pub(crate) const RAFTLOG: Program = Program {
     name: "raftlog",
     usage: "\
 usage: raftlog batch <queue> <seq> <version>
@@ -32,7 +32,8 @@ recover prints the tables that log files give
 
 /// Does what the words of a command line ask for, and returns the status to end with: 0 where it is
 /// done, 1 where it is refused, 2 where the words ask for nothing. A refusal and a hint at the words
-/// are a line on `err`; where that can't be written, the status is the same.
+/// are a line on `err`; where that can't be written, the status is the same. Each file is read as a whole;
+/// [`run_in_pieces`](crate::run_in_pieces) needs less memory.
 pub fn run<S: Files + AllocGlobal + Threads + Sync, R: Read, W: Write, E: Write>(
     rt: &S,
     words: &[String],

@@ -1,7 +1,7 @@
 //! Whole runs: the status, what is printed, and what stands on the error stream.
 
 use raft_base::Result;
-use raft_recover::{run, run_without_words};
+use raft_recover::{SharedFiles, run, run_in_pieces, run_without_words};
 use raft_trials::again;
 use std::alloc::Global;
 use std::io::{ErrorKind, Read, Write};
@@ -18,7 +18,7 @@ const WORKERS: &str = "raftlog: refused: invalid-argument\n";
 /// Words, the input in base 16, the status, what is printed, and how the error stream begins.
 type Row = (&'static str, &'static str, u8, &'static str, &'static str);
 
-static ROWS: [Row; 34] = [
+static ROWS: [Row; 36] = [
     (OPEN, "010102015a800bdd", 0, "1 clean\nitems 1 rest 0\n", ""),
     (
         "batch append 0 1",
@@ -108,12 +108,35 @@ static ROWS: [Row; 34] = [
         "",
         "raftlog: refused: io\n",
     ),
+    (
+        "recover append 1 1 12=.",
+        "",
+        1,
+        "",
+        "raftlog: refused: io\n",
+    ),
+    (
+        "recover append 1 1 12=/dev/null",
+        "",
+        0,
+        "cleaned -\nlive 0 0\n",
+        "",
+    ),
     ("recover append 3 1", "", 2, "", "usage: raftlog"),
     ("recover append 1 -1", "", 2, "", "usage: raftlog"),
     ("recover append 1", "", 2, "", "usage: raftlog"),
     ("recover append 1 1 absent", "", 2, "", "usage: raftlog"),
     ("recover append 1 1 x=absent", "", 2, "", "usage: raftlog"),
 ];
+
+/// How the files are read that words name.
+#[derive(Clone, Copy, Debug)]
+enum Way {
+    Whole,
+    InPieces,
+}
+
+const WAYS: [Way; 2] = [Way::Whole, Way::InPieces];
 
 /// What a run left.
 #[derive(Drop)]
@@ -149,8 +172,9 @@ fn words_of(alloc: Global, line: &str, others: &[&str]) -> Result<Vec<String>> {
     Ok(words)
 }
 
-fn run_on<S: Files + AllocGlobal + Threads + Sync>(
+fn run_on<S: SharedFiles + Files + AllocGlobal + Threads + Sync>(
     rt: &S,
+    way: Way,
     line: &str,
     others: &[&str],
     input: &str,
@@ -158,30 +182,38 @@ fn run_on<S: Files + AllocGlobal + Threads + Sync>(
     let words = words_of(rt.alloc(), line, others).ok()?;
     let bytes = hex::decode(rt.alloc(), input).ok()?;
     let mut input = bytes.as_slice();
-    answer_of(rt, words.as_slice(), &mut input)
+    answer_of(rt, way, words.as_slice(), &mut input)
 }
 
 /// Returns the answer to these words.
-fn answer_of<S: Files + AllocGlobal + Threads + Sync, R: Read>(
+fn answer_of<S: SharedFiles + Files + AllocGlobal + Threads + Sync, R: Read>(
     rt: &S,
+    way: Way,
     words: &[String],
     input: &mut R,
 ) -> Option<Answer> {
     let mut err = Vec::with_capacity(rt.alloc(), 1024).ok()?;
     let mut out = Vec::new(rt.alloc());
-    let status = run(rt, words, input, &mut out, &mut err);
+    let status = match way {
+        Way::Whole => run(rt, words, input, &mut out, &mut err),
+        Way::InPieces => run_in_pieces(rt, words, input, &mut out, &mut err),
+    };
     Some(Answer { status, out, err })
 }
 
 /// Tests whether this is the answer to words. Where an allocation is refused they run again, and have to find memory.
-fn is_answered<S: Files + AllocGlobal + Threads + Sync>(rt: &S, row: &Row) -> bool {
+fn is_answered<S: SharedFiles + Files + AllocGlobal + Threads + Sync>(
+    rt: &S,
+    way: Way,
+    row: &Row,
+) -> bool {
     let (line, input, status, out, err) = *row;
-    let mut answer = run_on(rt, line, &[], input);
+    let mut answer = run_on(rt, way, line, &[], input);
     if answer
         .as_ref()
         .is_none_or(|answer| answer.found_no_memory())
     {
-        answer = run_on(rt, line, &[], input);
+        answer = run_on(rt, way, line, &[], input);
     }
     answer.is_some_and(|answer| answer.is(status, out, err))
 }
@@ -192,8 +224,10 @@ fn rows() -> &'static [Row] {
 
 #[test]
 fn words_are_answered(rt: HostRuntime) {
-    for row in rows() {
-        assert!(rt; is_answered(&rt, row), "{}: {}", row.0, row.1);
+    for way in WAYS {
+        for row in rows() {
+            assert!(rt; is_answered(&rt, way, row), "{way:?}, {}: {}", row.0, row.1);
+        }
     }
 }
 
@@ -239,13 +273,16 @@ fn failing_streams(rt: HostRuntime) {
 
 /// Tests whether a run whose input fails is refused so. Where an allocation is refused it runs again, and has to find
 /// memory.
-fn is_torn<S: Files + AllocGlobal + Threads + Sync>(rt: &S, words: &[String]) -> bool {
-    let mut answer = answer_of(rt, words, &mut Torn { read: false });
+fn is_torn<S: SharedFiles + Files + AllocGlobal + Threads + Sync>(
+    rt: &S,
+    words: &[String],
+) -> bool {
+    let mut answer = answer_of(rt, Way::Whole, words, &mut Torn { read: false });
     if answer
         .as_ref()
         .is_none_or(|answer| answer.found_no_memory())
     {
-        answer = answer_of(rt, words, &mut Torn { read: false });
+        answer = answer_of(rt, Way::Whole, words, &mut Torn { read: false });
     }
     answer.is_some_and(|answer| answer.is(1, "", "raftlog: refused: io\n"))
 }
@@ -269,7 +306,10 @@ fn words_that_cannot_be_read(rt: HostRuntime) {
 }
 
 /// Returns the status of a run that can't print.
-fn status_of_closed<S: Files + AllocGlobal + Threads + Sync>(rt: &S, words: &[String]) -> u8 {
+fn status_of_closed<S: SharedFiles + Files + AllocGlobal + Threads + Sync>(
+    rt: &S,
+    words: &[String],
+) -> u8 {
     let mut input = b"\x00\x8d\xef\x02\xd2".as_slice();
     run(rt, words, &mut input, &mut Closed, &mut Closed)
 }
@@ -303,7 +343,7 @@ type FileRow = (
     &'static str,
 );
 
-const FILE_ROWS: [FileRow; 6] = [
+const FILE_ROWS: [FileRow; 8] = [
     (&["12=two_entries.log"], 0, 0, "cleaned -\nlive 0 0\n", ""),
     (&["12=two_entries.log"], 33, 1, "", CORRUPTION),
     (&["12=two_entries.log"], 34, 0, TWO_LINES, ""),
@@ -316,11 +356,26 @@ const FILE_ROWS: [FileRow; 6] = [
         "",
     ),
     (&["12= spaced.log", "13=spaced.log "], 34, 0, BOTH_LINES, ""),
+    (
+        &["12=two_entries.log", "12=clean=1.log"],
+        34,
+        0,
+        BOTH_LINES,
+        "",
+    ),
+    (
+        &["13=clean=1.log", "12=two_entries.log"],
+        34,
+        1,
+        "",
+        CORRUPTION,
+    ),
 ];
 
 /// Returns the answer to words for files that hold the first bytes of their batches.
-fn run_on_files<S: Files + AllocGlobal + Threads + Sync>(
+fn run_on_files<S: SharedFiles + Files + AllocGlobal + Threads + Sync>(
     rt: &S,
+    way: Way,
     line: &str,
     files: &[&str],
     length: usize,
@@ -328,7 +383,7 @@ fn run_on_files<S: Files + AllocGlobal + Threads + Sync>(
     for &(path, digits) in &FILES {
         write(rt, path, digits, length)?;
     }
-    let answer = run_on(rt, line, files, "");
+    let answer = run_on(rt, way, line, files, "");
     for &(path, _) in &FILES {
         fs::remove_file(rt, path).ok()?;
     }
@@ -342,22 +397,37 @@ fn write<S: Files + AllocGlobal>(rt: &S, path: &str, digits: &str, length: usize
     fs::write(rt, path, bytes.as_slice()).ok()
 }
 
-/// Runs each row with one worker and with two, once more where an allocation is refused: it has to find memory then.
+/// Tests whether this is the answer to words for files. Where an allocation is refused they run again, and have to find
+/// memory.
+fn files_are_answered<S: SharedFiles + Files + AllocGlobal + Threads + Sync>(
+    rt: &S,
+    way: Way,
+    line: &str,
+    row: &FileRow,
+) -> bool {
+    let (files, length, status, out, err) = *row;
+    let mut answer = run_on_files(rt, way, line, files, length);
+    if answer
+        .as_ref()
+        .is_none_or(|answer| answer.found_no_memory())
+    {
+        answer = run_on_files(rt, way, line, files, length);
+    }
+    answer.is_some_and(|answer| answer.is(status, out, err))
+}
+
+/// Runs each row with one worker and with two.
 #[test]
 fn files_are_read_at_their_paths(rt: HostRuntime) {
     for &line in &["recover append 1 1", "recover append 1 2"] {
-        for &(files, length, status, out, err) in &FILE_ROWS {
-            let mut answer = run_on_files(&rt, line, files, length);
-            if answer
-                .as_ref()
-                .is_none_or(|answer| answer.found_no_memory())
-            {
-                answer = run_on_files(&rt, line, files, length);
+        for way in WAYS {
+            for row in &FILE_ROWS {
+                let (files, length, ..) = *row;
+                assert!(rt;
+                    files_are_answered(&rt, way, line, row),
+                    "{way:?}, {line} {files:?}: {length} bytes"
+                );
             }
-            assert!(rt;
-                answer.is_some_and(|answer| answer.is(status, out, err)),
-                "{line} {files:?}: {length} bytes"
-            );
         }
     }
 }

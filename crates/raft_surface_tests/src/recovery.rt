@@ -7,10 +7,11 @@ use raft_recover::shares::equal_shares;
 use raft_recover::{
     AllocResult, Error, Factory, FileId, FilePart, FileSeq, Gate, LogQueue, MAX_WORKERS, MemTable,
     MemTableAccessor, MemTableRecoverContext, MemTableRecoverContextFactory, OpenGate, Plan,
-    ReplayMachine, Result, Segment, TicketSeat, Tickets, Version, append_scan, command_words,
-    cut_part, merge_pieces, piece_count, print_recovered, recover, recover_both, recover_bytes,
-    recover_segments, replay_bytes, replay_scheduled, replay_segment, replay_segments, run,
-    run_scan, run_without_words, scan_without_words, segments_read_as_one_history,
+    ReplayMachine, Result, Segment, SharedFiles, TicketSeat, Tickets, Version, append_scan,
+    command_words, cut_part, merge_pieces, piece_count, print_recovered, recover, recover_both,
+    recover_bytes, recover_segments, replay_bytes, replay_scheduled, replay_segment,
+    replay_segments, run, run_in_pieces, run_scan, run_without_words, scan_without_words,
+    segments_read_as_one_history,
 };
 use std::alloc::Global;
 use std::io;
@@ -123,6 +124,26 @@ fn run_of_programs<S: Files + AllocGlobal + Threads + Sync, R: Read, W: Write, E
     err: &mut E,
 ) -> u8 {
     run::<S, R, W, E>(rt, words, input, out, err)
+}
+
+/// Returns the status that the program ends with where it reads files in pieces.
+fn run_of_programs_in_pieces<
+    S: SharedFiles + Files + AllocGlobal + Threads + Sync,
+    R: Read,
+    W: Write,
+    E: Write,
+>(rt: &S, words: &[String], input: &mut R, out: &mut W, err: &mut E) -> u8 {
+    run_in_pieces::<S, R, W, E>(rt, words, input, out, err)
+}
+
+/// Reads a byte of a file, and returns how many it has.
+fn read_of_files<S: SharedFiles>(
+    files: &S,
+    path: &str,
+    bytes: &mut Vec<u8>,
+) -> io::Result<Option<u64>> {
+    files.read_file(path, 0, 1, bytes)?;
+    files.file_len(path)
 }
 
 /// Returns the words of a command line, and what the program returns where there are none.

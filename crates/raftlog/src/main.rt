@@ -1,13 +1,13 @@
 //! Prints an item batch, or the tables that log files give.
 #![tactic(auto)]
 
-use raft_recover::{command_words, run, run_without_words};
+use raft_recover::{command_words, run_in_pieces, run_without_words};
 use std::process::ExitCode;
 
 fn main(rt: HostRuntime) -> ExitCode {
     let mut err = rt.stderr();
     let status = match command_words(&rt) {
-        Ok(words) => run(
+        Ok(words) => run_in_pieces(
             &rt,
             words.as_slice(),
             &mut rt.stdin(),

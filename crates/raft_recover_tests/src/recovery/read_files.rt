@@ -7,12 +7,13 @@ use raft_reading::{FileSize, ReadFiles};
 use raft_recover::file_recovery::recover_files;
 use raft_recover::files::file_segments;
 use raft_recover::recovered::recovered_text;
-use raft_recover::{MemTableAccessor, recover};
+use raft_recover::{MemTableAccessor, SharedFiles, recover, run_in_pieces};
 use raft_trials::again;
 use std::alloc::Global;
-use std::io;
 use std::io::ErrorKind;
+use std::rt::Files;
 use std::thread::Threads;
+use std::{fs, io};
 
 /// Files of the append queue that are held in memory.
 #[derive(Drop)]
@@ -132,15 +133,85 @@ fn stops_at_last_piece(alloc: Global, read: Result<MemTableAccessor>) -> Result<
     }
 }
 
-fn all_hold<R: Threads + Sync>(rt: &R, alloc: Global) -> Result<bool> {
+/// Returns the path at which a file is written.
+fn path_of(alloc: Global, seq: FileSeq) -> Result<String> {
+    Ok(format!(in alloc; "in_pieces.{seq}.log")?)
+}
+
+/// Writes the files, and returns the words that ask for their tables.
+fn words_for<S: Files + AllocGlobal>(rt: &S, files: &HeldFiles) -> Result<Vec<String>> {
+    let alloc = rt.alloc();
+    let mut words = Vec::new(alloc);
+    for &word in &["recover", "append", "2", "3"] {
+        words.push(String::from_str(alloc, word)?)?;
+    }
+    for (seq, bytes) in &files.0 {
+        let path = path_of(alloc, *seq)?;
+        fs::write(rt, path.as_str(), bytes.as_slice())?;
+        words.push(format!(in alloc; "{seq}={path}")?)?;
+    }
+    Ok(words)
+}
+
+fn remove<S: Files + AllocGlobal>(rt: &S, files: &HeldFiles) -> Result<()> {
+    for (seq, _) in &files.0 {
+        fs::remove_file(rt, path_of(rt.alloc(), *seq)?.as_str())?;
+    }
+    Ok(())
+}
+
+/// Tests whether the program prints the lines of files on a disk. A run that is refused counts as one that found no
+/// memory.
+fn program_prints_lines<S: SharedFiles + Files + AllocGlobal + Threads + Sync>(
+    rt: &S,
+    files: &HeldFiles,
+) -> Result<bool> {
+    let words = words_for(rt, files)?;
+    let mut input = b"".as_slice();
+    let mut out = Vec::new(rt.alloc());
+    let mut err = Vec::new(rt.alloc());
+    let status = run_in_pieces(rt, words.as_slice(), &mut input, &mut out, &mut err);
+    remove(rt, files)?;
+    if status != 0 {
+        return Err(Error::Memory);
+    }
+    Ok(out.as_slice() == LINES.as_bytes())
+}
+
+/// Tests whether a read at an offset gives what the file has there: fewer bytes where it ends, and nothing behind its end.
+fn reads_are_at_offsets<S: SharedFiles + Files + AllocGlobal>(rt: &S) -> Result<bool> {
+    let mut bytes = Vec::new(rt.alloc());
+    fs::write(rt, "at_offsets.log", b"0123456789".as_slice())?;
+    let len = rt.file_len("at_offsets.log")?;
+    rt.read_file("at_offsets.log", 3, 4, &mut bytes)?;
+    rt.read_file("at_offsets.log", 8, 4, &mut bytes)?;
+    rt.read_file("at_offsets.log", 11, 4, &mut bytes)?;
+    fs::remove_file(rt, "at_offsets.log")?;
+    let absent = rt.file_len("at_offsets.log");
+    Ok(
+        len == Some(10)
+            && bytes.as_slice() == b"345689"
+            && rt.file_len(".")?.is_none()
+            && absent.is_err_and(|error| error.kind() == ErrorKind::NotFound),
+    )
+}
+
+fn all_hold<S: SharedFiles + Files + AllocGlobal + Threads + Sync>(rt: &S) -> Result<bool> {
+    let alloc = rt.alloc();
     let files = made(alloc)?;
     let read = files_give_lines(rt, alloc, &files)?;
     let refused = shorter_file_is_refused(rt, alloc, &files)?;
+    let printed = program_prints_lines(rt, &files)?;
     let recovered = bytes_give_lines(rt, alloc, files)?;
-    Ok(read && refused && recovered)
+    Ok(read && refused && printed && recovered)
 }
 
 #[test]
 fn files_are_read_in_pieces(rt: HostRuntime) {
-    assert!(rt; matches!(again!(all_hold(&rt, rt.alloc())), Ok(true)));
+    assert!(rt; matches!(again!(all_hold(&rt)), Ok(true)));
+}
+
+#[test]
+fn files_are_read_at_offsets(rt: HostRuntime) {
+    assert!(rt; matches!(again!(reads_are_at_offsets(&rt)), Ok(true)));
 }

@@ -1,0 +1,112 @@
+//! The files that the words of a command line name.
+
+ghost use Rattle.std.specs.Prelude.{◌⊎◌, ℕ, List, IfErr, IfOk, IfSome, OnOk, map};
+ghost use Rattle.raft_recover.specs.Common.{AreSizesOf, AsksRecovery, IsFilesFault, IsNamed, IsRecoveryFrontPrinted, IsRecoveryPrinted, Keeps, NamedGives, PrintsFiles, asks_for, path_shown};
+
+use crate::file_recovery::print_files;
+use crate::request::RecoverWords;
+use crate::shared_files::SharedFiles;
+use raft_base::{FileId, FileSeq, Result};
+use raft_reading::{FileSize, ReadFiles};
+use raft_replay::check_arguments;
+use std::alloc::Global;
+use std::io;
+use std::io::{ErrorKind, Write};
+use std::thread::Threads;
+
+/// Files by their numbers, which rise, and their paths.
+#[derive(Drop)]
+pub(crate) struct NamedFiles<'a, D: SharedFiles> {
+    disk: &'a D,
+    paths: &'a [(FileSeq, &'a str)],
+}
+
+impl<D: SharedFiles> ReadFiles for NamedFiles<'_, D> {
+    ghost use Rattle.std.specs.Prelude.{map};
+    ghost use Rattle.raft_recover.specs.Common.{NamedGives, path_shown};
+
+    ghost gives = { λ files. NamedGives (D.gives files.disk.now) (map path_shown files.paths.now) };
+
+    fn read(&self, file: FileId, offset: u64, len: usize, bytes: &mut Vec<u8>) -> io::Result<()> {
+        let Some(path) = path_of(self.paths, file.seq) else {
+            return Err(io::Error::from(ErrorKind::NotFound));
+        };
+        self.disk.read_file(path, offset, len, bytes)
+    }
+}
+
+/// Returns the path of the file with this number, of files whose numbers rise.
+fn path_of<'a>(paths: &[(FileSeq, &'a str)], seq: FileSeq) -> Option<&'a str>
+    ensures { IfSome result (λ path. IsNamed (map path_shown paths.now) seq path.now) }
+{
+    match paths.binary_search_by_key(&seq, |named| named.0) {
+        Ok(index) => Some(paths[index].1),
+        Err(_) => None,
+    }
+}
+
+/// Returns the number and the length of each file. `None` where a file has none, or the numbers don't rise: then a number
+/// may be that of two files.
+///
+/// # Errors
+///
+/// `Io` where a file can't be read, `Memory`.
+pub(crate) fn sizes_of<D: SharedFiles>(
+    disk: &D,
+    alloc: Global,
+    paths: &[(FileSeq, &str)],
+) -> Result<Option<Vec<FileSize>>>
+    ensures ok { IfOk result (λ r. IfSome r (λ sizes. AreSizesOf (map path_shown paths.now) sizes.items)) }
+    ensures fault { IfErr result IsFilesFault }
+{
+    if !paths.is_sorted_by(|older, newer| older.0 < newer.0) {
+        return Ok(None);
+    }
+    let mut sizes = Vec::with_capacity(alloc, paths.len())?;
+    for &(seq, path) in paths {
+        let Some(len) = disk.file_len(path)? else {
+            return Ok(None);
+        };
+        sizes.push(FileSize { seq, len })?;
+    }
+    Ok(Some(sizes))
+}
+
+/// Prints the tables of files of these sizes, which workers read in pieces.
+///
+/// # Errors
+///
+/// `InvalidArgument` for another number of workers than 1 to 256, then those of [`print_files`].
+pub(crate) fn print_named<S: SharedFiles + Threads, W: Write>(
+    rt: &S,
+    alloc: Global,
+    ask: &RecoverWords<'_>,
+    sizes: &[FileSize],
+    out: &mut W,
+) -> Result<()>
+    requires sizes { AreSizesOf (map path_shown ask.now.paths.items) sizes.now }
+    ensures read { OnOk result (PrintsFiles
+        (NamedGives (S.gives rt.now) (map path_shown ask.now.paths.items)) ask.now.queue ask.now.version
+        sizes.now (W.contents out.old) (W.contents out.new)) }
+    ensures done { (words : List (List ℕ)) → AsksRecovery words (asks_for ask.now)
+        → OnOk result (IsRecoveryPrinted words (W.contents out.old) (W.contents out.new)) }
+    ensures silent { (words : List (List ℕ)) → AsksRecovery words (asks_for ask.now)
+        → IfErr result (λ _. Keeps (W.contents out.old) (W.contents out.new)
+        ⊎ IsRecoveryFrontPrinted words (W.contents out.old) (W.contents out.new)) }
+{
+    check_arguments(alloc, &[], ask.queue, ask.workers)?;
+    let files = NamedFiles {
+        disk: rt,
+        paths: ask.paths.as_slice(),
+    };
+    print_files(
+        rt,
+        alloc,
+        &files,
+        sizes,
+        ask.queue,
+        ask.version,
+        ask.workers,
+        out,
+    )
+}

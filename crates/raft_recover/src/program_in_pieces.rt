@@ -1,0 +1,88 @@
+//! What the program `raftlog` does where it reads files in pieces.
+
+ghost use Rattle.std.specs.Prelude.{◌≡◌, ◌≤◌, ◌↔◌, ◌⊎◌, ℕ, List, OnOk, IfErr, map, string_bytes};
+ghost use Rattle.raft_recover.specs.Common.{Keeps, AsksNothing, AsksRecovery, IsAsked, IsPrinted, IsFrontPrinted, IsRecoveryFrontPrinted, IsRecoveryPrinted, asks_for};
+
+use crate::ending::Status;
+use crate::named_files::{print_named, sizes_of};
+use crate::program::RAFTLOG;
+use crate::recovery::recover_bytes;
+use crate::request::{RecoverWords, Request, read_files};
+use crate::shared_files::SharedFiles;
+use raft_base::Result;
+use raft_records::print_batch;
+use std::io::{Read, Write};
+use std::rt::Files;
+use std::thread::Threads;
+
+/// Does what [`run`](crate::run) does, but workers read the files in pieces: no more than a piece of 4 MiB, or a longer
+/// batch, is in memory for each of them. Where a file can't be read at an offset, as a pipe, or the numbers of the files
+/// don't rise, all are read as by `run`. A file that ends before the length that it had at first is refused as `io`.
+pub fn run_in_pieces<
+    S: SharedFiles + Files + AllocGlobal + Threads + Sync,
+    R: Read,
+    W: Write,
+    E: Write,
+>(rt: &S, words: &[String], input: &mut R, out: &mut W, err: &mut E) -> u8
+    ensures known { result ≤ 2 }
+    ensures done { result ≡ 0 → IsPrinted (map string_bytes words.now)
+        (R.remaining input.old) (W.contents out.old) (W.contents out.new) }
+    ensures silent { result ≡ 1
+        → Keeps (W.contents out.old) (W.contents out.new)
+        ⊎ IsFrontPrinted (map string_bytes words.now) (R.remaining input.old)
+        (R.remaining input.new) (W.contents out.old) (W.contents out.new) }
+    ensures misused { (result ≡ 2) ↔ AsksNothing (map string_bytes words.now) }
+    ensures untouched { result ≡ 2 → Keeps (W.contents out.old) (W.contents out.new) }
+    ensures quiet { result ≡ 0 → Keeps (E.contents err.old) (E.contents err.new) }
+{
+    let request = match Request::parse(rt.alloc(), words) {
+        Ok(Some(request)) => request,
+        Ok(None) => return RAFTLOG.misused(err),
+        Err(memory) => return RAFTLOG.refused(&memory, err),
+    };
+    match answer(rt, request, input, out) {
+        Ok(()) => Status::Done as u8,
+        Err(error) => RAFTLOG.refused(&error, err),
+    }
+}
+
+fn answer<S: SharedFiles + Files + AllocGlobal + Threads + Sync, R: Read, W: Write>(
+    rt: &S,
+    request: Request<'_>,
+    input: &mut R,
+    out: &mut W,
+) -> Result<()>
+    ensures done { (words : List (List ℕ)) → IsAsked words request.entry
+        → OnOk result
+        (IsPrinted words (R.remaining input.old) (W.contents out.old) (W.contents out.new)) }
+    ensures silent { (words : List (List ℕ)) → IsAsked words request.entry
+        → IfErr result (λ _. Keeps (W.contents out.old) (W.contents out.new)
+        ⊎ IsFrontPrinted words (R.remaining input.old) (R.remaining input.new) (W.contents out.old)
+        (W.contents out.new)) }
+{
+    match request {
+        Request::Batch(context) => print_batch(rt.alloc(), input, out, &context),
+        Request::Recover(ask) => print_tables(rt, &ask, out),
+    }
+}
+
+/// Prints the tables of the files that words name. They are read as a whole where they can't be read in pieces.
+fn print_tables<S: SharedFiles + Files + AllocGlobal + Threads + Sync, W: Write>(
+    rt: &S,
+    ask: &RecoverWords<'_>,
+    out: &mut W,
+) -> Result<()>
+    ensures done { (words : List (List ℕ)) → AsksRecovery words (asks_for ask.now)
+        → OnOk result (IsRecoveryPrinted words (W.contents out.old) (W.contents out.new)) }
+    ensures silent { (words : List (List ℕ)) → AsksRecovery words (asks_for ask.now)
+        → IfErr result (λ _. Keeps (W.contents out.old) (W.contents out.new)
+        ⊎ IsRecoveryFrontPrinted words (W.contents out.old) (W.contents out.new)) }
+{
+    let alloc = rt.alloc();
+    let paths = ask.paths.as_slice();
+    if let Some(sizes) = sizes_of(rt, alloc, paths)? {
+        return print_named(rt, alloc, ask, sizes.as_slice(), out);
+    }
+    let files = read_files(rt, paths)?;
+    recover_bytes(rt, alloc, ask.queue, ask.version, ask.workers, files, out)
+}

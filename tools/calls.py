@@ -57,7 +57,7 @@ def signature(text, start):
         at += 1
     found = " ".join(text[begun:at].split())
     found = re.sub(r",? where .*", "", found)
-    found = found.replace("( ", "(").replace(", )", ")")
+    found = found.replace("( ", "(").replace(", )", ")").replace("< ", "<").replace(", >", ">")
     return found.replace("<, ", "<")
 
 

@@ -190,7 +190,7 @@ fn reads_are_at_offsets<S: SharedFiles + Files + AllocGlobal>(rt: &S) -> Result<
     let absent = rt.file_len("at_offsets.log");
     Ok(
         len == Some(10)
-            && bytes.as_slice() == b"345689"
+            && bytes.as_slice() == b"345689".as_slice()
             && rt.file_len(".")?.is_none()
             && absent.is_err_and(|error| error.kind() == ErrorKind::NotFound),
     )

@@ -14,6 +14,7 @@ mod folder_files;
 mod found;
 mod locks;
 mod memory_files;
+mod messages;
 mod numbers;
 mod options;
 mod orders;

@@ -58,6 +58,7 @@ mod entries;
 mod error;
 mod files;
 mod log_batch;
+mod messages;
 mod recovery;
 mod slot;
 #[allow(unsafe_code)]
@@ -76,6 +77,7 @@ pub use entries::{Block, Entry, Pair};
 pub use error::{Error, ErrorKind, Result};
 pub use files::{FileId, FilePart, LogFile, Queue, Version};
 pub use log_batch::{LogBatch, Stage};
+pub use messages::Message;
 pub use recovery::{recover, recover_both};
 pub use slot::{SLOTS, Slot, slot_of};
 pub use tables::{Summary, Tables};

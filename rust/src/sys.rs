@@ -33,6 +33,7 @@ mod items;
 mod lists;
 mod log_batch;
 mod numbers;
+mod packed;
 mod table_calls;
 mod tables;
 
@@ -40,10 +41,12 @@ pub(crate) use context::ContextHandle;
 pub(crate) use engine::{EngineHandle, Order, block_entries};
 pub(crate) use found::FoundHandle;
 pub(crate) use items::ItemsHandle;
+pub(crate) use lists::PackedPairs;
 pub(crate) use log_batch::LogBatchHandle;
+pub(crate) use packed::Packed;
 pub(crate) use tables::TablesHandle;
 
-use lists::{found, listed, make_room, pairs};
+use lists::{found, listed, make_room, packed_pairs, pairs};
 use numbers::{EntryNumbers, File, Maybe, SummaryNumbers, entries, numbers};
 
 /// The pointer of a box in the library, null where there is none.

@@ -45,8 +45,16 @@ impl Commit {
     /// Writes the batch to the tables, and notes a refusal.
     pub(super) fn write(&mut self, tables: &mut EngineHandle) {
         let has_items = !self.batch.is_empty();
-        self.result = tables.write(self.batch.handle_mut()).err().map(Err);
-        self.is_written = has_items && self.result.is_none();
+        match tables.write(self.batch.handle_mut()) {
+            Ok(()) => {
+                self.batch.note_written();
+                self.is_written = has_items;
+            }
+            Err(e) => {
+                let summary = |region| tables.summary(region);
+                self.result = Some(Err(self.batch.misfit(e, |_| true, summary)));
+            }
+        }
     }
 }
 

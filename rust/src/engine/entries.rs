@@ -27,6 +27,8 @@ use std::vec;
 /// assert_eq!((entries.next(), entries.index()), (None, None));
 /// # Ok::<(), raft_recover::Error>(())
 /// ```
+///
+/// Each item is a copy of the entry's bytes; [`Entries::iter`] lends them.
 #[derive(Clone, Default)]
 pub struct Entries {
     /// The entry bytes of the blocks that hold them.
@@ -93,9 +95,31 @@ impl Entries {
         self.rest.as_slice().first().map(|place| place.index)
     }
 
+    /// Lends the entries that are left, each with its index, from the first one on or from the last. No byte is copied.
+    ///
+    /// ```
+    /// # use raft_recover::{Engine, LogBatch, MemoryFiles, Options};
+    /// # let engine = Engine::with_files(MemoryFiles::new(), Options::new())?;
+    /// # let mut batch = LogBatch::new()?;
+    /// batch.add_entries(7, 10, &["one", "two", "three"])?;
+    /// engine.write(&mut batch, true)?;
+    /// let entries = engine.entries(7, ..)?;
+    /// let shortest = entries.iter().rev().min_by_key(|(_, bytes)| bytes.len());
+    /// assert_eq!(shortest, Some((11, &b"two"[..])));
+    /// assert_eq!(entries.len(), 3); // none was taken
+    /// # Ok::<(), raft_recover::Error>(())
+    /// ```
+    pub fn iter(
+        &self,
+    ) -> impl DoubleEndedIterator<Item = (u64, &[u8])> + ExactSizeIterator + FusedIterator + Clone
+    {
+        let places = self.rest.as_slice().iter();
+        places.map(|place| (place.index, self.bytes(place)))
+    }
+
     /// Returns the bytes at a place.
-    fn bytes(&self, place: Place) -> Vec<u8> {
-        self.blocks[place.block][place.bytes].to_vec()
+    fn bytes(&self, place: &Place) -> &[u8] {
+        &self.blocks[place.block][place.bytes.clone()]
     }
 }
 
@@ -104,7 +128,7 @@ impl Iterator for Entries {
 
     fn next(&mut self) -> Option<Vec<u8>> {
         let place = self.rest.next()?;
-        Some(self.bytes(place))
+        Some(self.bytes(&place).to_vec())
     }
 
     fn size_hint(&self) -> (usize, Option<usize>) {
@@ -115,7 +139,7 @@ impl Iterator for Entries {
 impl DoubleEndedIterator for Entries {
     fn next_back(&mut self) -> Option<Vec<u8>> {
         let place = self.rest.next_back()?;
-        Some(self.bytes(place))
+        Some(self.bytes(&place).to_vec())
     }
 }
 

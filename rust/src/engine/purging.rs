@@ -252,9 +252,6 @@ fn rewritten_in(tables: &mut EngineHandle, region: u64) -> Result<u64> {
         .iter()
         .filter(|entry| entry.block.file.queue == Queue::Rewrite)
         .map(|entry| u64::from(entry.len));
-    let pairs = tables.scan(region, b"", None)?;
-    let of_pairs = pairs
-        .iter()
-        .map(|pair| (pair.key.len() + pair.value.len()) as u64);
-    Ok(rewritten.chain(of_pairs).sum())
+    let of_pairs = tables.scan(region, b"", None)?.bytes.len() as u64;
+    Ok(rewritten.sum::<u64>() + of_pairs)
 }

@@ -27,6 +27,61 @@ impl<F: Files> Engine<F> {
         Ok(entries.next())
     }
 
+    /// Lends an entry of a region to a call, if there is one, and returns what that returns. The bytes aren't copied.
+    ///
+    /// ```
+    /// # use raft_recover::{Engine, LogBatch, MemoryFiles, Options};
+    /// # let engine = Engine::with_files(MemoryFiles::new(), Options::new())?;
+    /// # let mut batch = LogBatch::new()?;
+    /// batch.add_entries(7, 10, &["one", "two", "three"])?;
+    /// engine.write(&mut batch, true)?;
+    /// assert_eq!(engine.entry_with(7, 12, |bytes| bytes.len())?, Some(5));
+    /// assert_eq!(engine.entry_with(7, 13, |bytes| bytes.len())?, None);
+    /// # Ok::<(), raft_recover::Error>(())
+    /// ```
+    ///
+    /// # Errors
+    ///
+    /// Those of [`Engine::entry`].
+    pub fn entry_with<T>(
+        &self,
+        region: u64,
+        index: u64,
+        call: impl FnOnce(&[u8]) -> T,
+    ) -> Result<Option<T>> {
+        let entries = self.read(|tables| Ok(Vec::from_iter(tables.entry(region, index))))?;
+        Ok(entries.iter().next().map(|(_, bytes)| call(bytes)))
+    }
+
+    /// Lends the entries of a range of indexes to a call, one after another, each with its index. They aren't copied, and all of
+    /// them were read before the first call. [`Entries::iter`] lends them so too, and can end early or go back.
+    ///
+    /// ```
+    /// # use raft_recover::{Engine, LogBatch, MemoryFiles, Options};
+    /// # let engine = Engine::with_files(MemoryFiles::new(), Options::new())?;
+    /// # let mut batch = LogBatch::new()?;
+    /// batch.add_entries(7, 10, &["one", "two", "three"])?;
+    /// engine.write(&mut batch, true)?;
+    /// let mut sum = 0;
+    /// engine.for_each_entry(7, 11.., |index, bytes| sum += index as usize * bytes.len())?;
+    /// assert_eq!(sum, 11 * 3 + 12 * 5);
+    /// # Ok::<(), raft_recover::Error>(())
+    /// ```
+    ///
+    /// # Errors
+    ///
+    /// Those of [`Engine::entries`]. Nothing was lent then.
+    pub fn for_each_entry(
+        &self,
+        region: u64,
+        range: impl RangeBounds<u64>,
+        mut call: impl FnMut(u64, &[u8]),
+    ) -> Result<()> {
+        let entries = self.entries(region, range)?;
+        entries.iter().for_each(|(index, bytes)| call(index, bytes));
+        Ok(())
+    }
+
     /// Returns the entries of a range of indexes. A bound that is left open is that of the region's entries.
     ///
     /// ```
@@ -117,7 +172,7 @@ impl<F: Files> Engine<F> {
     pub fn scan<'a>(&self, region: u64, range: impl RangeBounds<&'a [u8]>) -> Result<Pairs> {
         let (start, end) = pairs::ends_of(&range);
         let found = self.look_up(|tables| tables.scan(region, &start, end.as_deref()))?;
-        Ok(Pairs::of(found))
+        Pairs::of(found)
     }
 
     /// Returns the least index of a region's entries, if it has some.

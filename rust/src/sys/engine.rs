@@ -11,10 +11,10 @@ use super::engine_calls::{
     raft_ffi_engine_value, raft_ffi_engine_write,
 };
 use super::{
-    EntryNumbers, Handle, LogBatchHandle, Status, SummaryNumbers, checked, entries, listed,
-    make_room, pairs, remembered,
+    EntryNumbers, Handle, LogBatchHandle, PackedPairs, Status, SummaryNumbers, checked, entries,
+    listed, make_room, packed_pairs, remembered,
 };
-use crate::{Block, Entry, FileId, Pair, Queue, Result, Summary};
+use crate::{Block, Entry, FileId, Queue, Result, Summary};
 use std::ops::Range;
 
 /// What is to be done to the files of a queue.
@@ -243,9 +243,9 @@ impl EngineHandle {
         region: u64,
         start: &[u8],
         end: Option<&[u8]>,
-    ) -> Result<Vec<Pair>> {
+    ) -> Result<PackedPairs> {
         let (is_bounded, end) = (end.is_some(), end.unwrap_or_default());
-        pairs(|lens, lens_len, count, bytes, bytes_len, len| {
+        packed_pairs(|lens, lens_len, count, bytes, bytes_len, len| {
             // SAFETY: the handle holds an engine.
             remembered(unsafe {
                 raft_ffi_engine_scan(

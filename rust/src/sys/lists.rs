@@ -42,10 +42,19 @@ pub(super) fn found<T: Copy + Default>(
     }
 }
 
+/// Keys with their values, one behind the other, as the library puts them.
+#[derive(Clone, Debug, Default)]
+pub(crate) struct PackedPairs {
+    /// The length of each key and of its value, in turn.
+    pub(crate) lens: Vec<usize>,
+    /// The bytes of all.
+    pub(crate) bytes: Vec<u8>,
+}
+
 /// Lists keys with their values, which a call finds as the length of each and the bytes of all.
-pub(super) fn pairs(
+pub(super) fn packed_pairs(
     mut call: impl FnMut(*mut usize, usize, &mut usize, *mut u8, usize, &mut usize) -> Result<()>,
-) -> Result<Vec<Pair>> {
+) -> Result<PackedPairs> {
     let (mut lens, mut bytes) = (Vec::new(), Vec::new());
     loop {
         let (mut count, mut len) = (0, 0);
@@ -59,24 +68,27 @@ pub(super) fn pairs(
         )?;
         if count <= lens.len() && len <= bytes.len() {
             lens.truncate(count);
-            return Ok(split(&lens, &bytes));
+            return Ok(PackedPairs { lens, bytes });
         }
         make_room(&mut lens, count)?;
         make_room(&mut bytes, len)?;
     }
 }
 
-/// Splits bytes into keys and values of these lengths, in turn.
-fn split(lens: &[usize], mut bytes: &[u8]) -> Vec<Pair> {
+/// Lists keys with their values, as [`packed_pairs`] does, each as bytes of its own.
+pub(super) fn pairs(
+    call: impl FnMut(*mut usize, usize, &mut usize, *mut u8, usize, &mut usize) -> Result<()>,
+) -> Result<Vec<Pair>> {
+    let PackedPairs { lens, bytes } = packed_pairs(call)?;
+    let mut rest = &bytes[..];
     let mut next = |len| {
-        let (front, rest) = bytes.split_at(len);
-        bytes = rest;
+        let (front, behind) = rest.split_at(len);
+        rest = behind;
         front.to_vec()
     };
-    lens.chunks_exact(2)
-        .map(|lens| Pair {
-            key: next(lens[0]),
-            value: next(lens[1]),
-        })
-        .collect()
+    let pairs = lens.chunks_exact(2).map(|lens| Pair {
+        key: next(lens[0]),
+        value: next(lens[1]),
+    });
+    Ok(pairs.collect())
 }

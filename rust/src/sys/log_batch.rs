@@ -1,6 +1,6 @@
 //! The handle of a batch that is written.
 
-use super::{File, Handle, ItemsHandle, Status, checked, listed, remembered, with};
+use super::{File, Handle, ItemsHandle, Packed, Status, checked, listed, remembered, with};
 use crate::{Error, FileId, LogFile, Queue, Result, Stage};
 use std::cell::Cell;
 use std::mem;
@@ -132,20 +132,25 @@ impl LogBatchHandle {
         with(&self.0, |batch| unsafe { raft_ffi_batch_size(batch) })
     }
 
-    /// Adds entries with their bytes.
-    pub(crate) fn add_entries<E: AsRef<[u8]>>(
-        &mut self,
-        region: u64,
-        first: u64,
-        entries: &[E],
-    ) -> Result<()> {
+    /// Adds entries that are packed.
+    pub(crate) fn add_packed(&mut self, region: u64, first: u64, packed: &Packed) -> Result<()> {
+        let (lens, bytes) = packed.parts();
+        self.add(region, first, lens, bytes)
+    }
+
+    /// Adds an entry.
+    pub(crate) fn add_entry(&mut self, region: u64, index: u64, entry: &[u8]) -> Result<()> {
+        self.add(region, index, &[entry.len()], entry)
+    }
+
+    /// Adds entries of these lengths, which are those of the bytes.
+    fn add(&mut self, region: u64, first: u64, lens: &[usize], bytes: &[u8]) -> Result<()> {
         self.check_open()?;
-        if first.checked_add(entries.len() as u64).is_none() {
+        if first.checked_add(lens.len() as u64).is_none() {
             return Err(Error::invalid_argument(
                 "an index would be 2^64 - 1 or more",
             ));
         }
-        let (lens, bytes) = gathered(entries)?;
         // SAFETY: the handle holds an open batch, the last index is below 2^64 - 1, and the lengths are those of the bytes.
         checked(|text, text_len| unsafe {
             raft_ffi_batch_add_entries(
@@ -282,22 +287,6 @@ impl LogBatchHandle {
         remembered(unsafe { raft_ffi_batch_into_items(batch, &mut items) })?;
         Ok(ItemsHandle(Cell::new(items)))
     }
-}
-
-/// Returns the length of each string, and the bytes of all.
-fn gathered<E: AsRef<[u8]>>(strings: &[E]) -> Result<(Vec<usize>, Vec<u8>)> {
-    let (mut lens, mut bytes) = (Vec::new(), Vec::new());
-    lens.try_reserve_exact(strings.len())
-        .map_err(|_| Error::memory())?;
-    for string in strings {
-        let string = string.as_ref();
-        lens.push(string.len());
-        bytes
-            .try_reserve(string.len())
-            .map_err(|_| Error::memory())?;
-        bytes.extend_from_slice(string);
-    }
-    Ok((lens, bytes))
 }
 
 impl Drop for LogBatchHandle {

@@ -24,6 +24,7 @@ mod purging;
 mod reading;
 mod recovered;
 mod stats;
+mod unwritten;
 mod writing;
 
 pub use entries::Entries;
@@ -40,6 +41,7 @@ use commit::Commits;
 use failure::Failure;
 use found::Found;
 use numbers::Numbers;
+use unwritten::Unwritten;
 
 /// The logs of many regions: tables in memory, and the files of all batches that were written, in a folder or behind any
 /// [`Files`].
@@ -130,6 +132,8 @@ pub struct Engine<F: Files = FolderFiles> {
     /// It is held from a call that orders something until that is carried out.
     turn: Mutex<()>,
     numbers: Mutex<Numbers>,
+    /// What was ordered and isn't in the files yet.
+    unwritten: Unwritten,
     commits: Commits,
     /// Whether it takes no change.
     is_read_only: bool,
@@ -212,7 +216,7 @@ impl<F: Files> Engine<F> {
     /// is left has the records that were found.
     pub fn with_files(files: F, options: Options) -> Result<Engine<F>> {
         let (engine, orders) = Engine::of_found(files, options)?;
-        engine.turn()?.carry_out(orders)?;
+        engine.turn()?.open(orders)?;
         Ok(engine)
     }
 
@@ -260,6 +264,7 @@ impl<F: Files> Engine<F> {
             tables: Mutex::new(opened.tables),
             turn: Mutex::new(()),
             numbers: Mutex::new(opened.numbers),
+            unwritten: Unwritten::default(),
             commits: Commits::default(),
             is_read_only: false,
             failure: OnceLock::new(),

@@ -1,11 +1,10 @@
 //! What an engine orders is carried out, in turn.
 
-use super::failure::Unwritten;
 use super::{Engine, locks};
 use crate::sys::{EngineHandle, Order};
 use crate::{Error, ErrorKind, FileId, Files, Queue, Result};
 use std::sync::MutexGuard;
-use std::{iter, thread};
+use std::thread;
 
 /// The turn of a thread, which has it to itself: it makes calls that order something, and carries the orders out. An engine
 /// on which it panics has failed.
@@ -54,10 +53,27 @@ impl<F: Files> Turn<'_, F> {
             let reason = result.err().unwrap_or_else(Error::failed);
             return Err(self.engine.fail(reason));
         }
-        let orders = tables.take_orders();
+        let orders = tables.take_orders().map_err(|e| self.engine.fail(e))?;
+        self.note(&orders); // before a reader can find what isn't written yet
         drop(tables);
-        self.carry_out(orders.map_err(|e| self.engine.fail(e))?)?;
+        self.carry_out(orders)?;
         result
+    }
+
+    /// Carries out what an opening orders.
+    ///
+    /// # Errors
+    ///
+    /// Those of [`Turn::carry_out`].
+    pub(super) fn open(&self, orders: Vec<Order>) -> Result<()> {
+        self.note(&orders);
+        self.carry_out(orders)
+    }
+
+    /// Notes the bytes of orders, which are read from memory until they are written.
+    fn note(&self, orders: &[Order]) {
+        let numbers = locks::lock(&self.engine.numbers);
+        self.engine.unwritten.note(orders, &numbers);
     }
 
     /// Carries orders out, one after another.
@@ -65,14 +81,10 @@ impl<F: Files> Turn<'_, F> {
     /// # Errors
     ///
     /// `Io` where one can't be carried out: the engine has failed then, and keeps the bytes of that one and of those after it.
-    pub(super) fn carry_out(&self, orders: Vec<Order>) -> Result<()> {
-        let mut orders = orders.into_iter();
-        while let Some(order) = orders.next() {
-            if let Err(e) = self.carry_out_one(&order) {
-                let left = iter::once(order).chain(orders);
-                let unwritten = Unwritten::of(left, &locks::lock(&self.engine.numbers));
-                return Err(self.engine.fail_files(e, unwritten));
-            }
+    fn carry_out(&self, orders: Vec<Order>) -> Result<()> {
+        for order in orders {
+            self.carry_out_one(&order)
+                .map_err(|e| self.engine.fail_files(e))?;
         }
         Ok(())
     }
@@ -93,6 +105,7 @@ impl<F: Files> Turn<'_, F> {
         written.map_err(|e| Error::system("a batch can't be written", e).at(file, len))?;
         let len = len + bytes.len() as u64;
         locks::lock(&self.engine.numbers).set_len(file, len);
+        self.engine.unwritten.forget_oldest();
         Ok(())
     }
 

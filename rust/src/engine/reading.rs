@@ -5,6 +5,9 @@ use crate::sys::EngineHandle;
 use crate::{Entry, Files, Result, Summary};
 use std::ops::{Bound, Range, RangeBounds};
 
+/// How often entries are found and read before a reader waits for a turn.
+const LOOK_UPS: usize = 4;
+
 impl<F: Files> Engine<F> {
     /// Returns an entry of a region, if there is one.
     ///
@@ -253,11 +256,19 @@ impl<F: Files> Engine<F> {
         self.look_up(EngineHandle::regions)
     }
 
-    /// Reads the entries that a call finds. Their bytes may not be written yet, or have moved meanwhile: in a turn neither is so.
+    /// Reads the entries that a call finds. Their bytes may move before they are read: then they are found again, at last in a
+    /// turn, in which none moves.
     fn read(&self, find: impl Fn(&mut EngineHandle) -> Result<Vec<Entry>>) -> Result<Entries> {
-        let found = self.look_up(&find)?;
-        if let Ok(entries) = Entries::read(self, &found) {
-            return Ok(entries);
+        let mut before = None;
+        for _ in 0..LOOK_UPS {
+            let found = self.look_up(&find)?;
+            if before.as_ref() == Some(&found) {
+                break; // they haven't moved
+            }
+            if let Ok(entries) = Entries::read(self, &found) {
+                return Ok(entries);
+            }
+            before = Some(found);
         }
         let _turn = locks::lock(&self.turn);
         let found = self.look_up(&find)?;

@@ -15,13 +15,15 @@ use super::{
     listed, make_room, packed_pairs, remembered,
 };
 use crate::{Block, Entry, FileId, Queue, Result, Summary};
+use std::mem;
 use std::ops::Range;
+use std::sync::Arc;
 
 /// What is to be done to the files of a queue.
 #[derive(Debug)]
 pub(crate) enum Order {
     /// These bytes behind those of the last file.
-    Write(Queue, Vec<u8>),
+    Write(Queue, Arc<Vec<u8>>),
     /// A new file of this number.
     Begin(FileId),
     /// All of the queue is to last.
@@ -122,7 +124,7 @@ impl EngineHandle {
         let mut none = Vec::new();
         loop {
             let bytes = match orders.last_mut() {
-                Some(Order::Write(_, bytes)) => bytes,
+                Some(Order::Write(_, bytes)) => Arc::make_mut(bytes), // it is nobody else's yet
                 _ => &mut none,
             };
             let len = bytes.len();
@@ -133,10 +135,10 @@ impl EngineHandle {
             match (order.kind, orders.last_mut()) {
                 (0, Some(Order::Write(last, _))) if *last == queue => {}
                 (0, Some(Order::Write(_, bytes))) => {
-                    let bytes = bytes.split_off(len);
-                    orders.push(Order::Write(queue, bytes));
+                    let bytes = Arc::make_mut(bytes).split_off(len);
+                    orders.push(Order::Write(queue, bytes.into()));
                 }
-                (0, _) => orders.push(Order::Write(queue, std::mem::take(&mut none))),
+                (0, _) => orders.push(Order::Write(queue, mem::take(&mut none).into())),
                 (1, _) => orders.push(Order::Begin(FileId::new(queue, order.number))),
                 (2, _) => orders.push(Order::Sync(queue)),
                 (3, _) => orders.push(Order::DeleteOldest(queue)),

@@ -70,8 +70,8 @@ pub use batches::{
 };
 pub use context::{Context, Kept};
 pub use engine::{
-    Ask, CutTail, Engine, Entries, Files, FolderFiles, MemoryFiles, Options, Pairs, Purged,
-    QueueStats, Recovered, Stats, Unsynced,
+    Ask, CutTail, Engine, Entries, Files, FolderFiles, Holder, Listener, MemoryFiles, Options,
+    Pairs, Purged, QueueStats, QueueUsage, Recovered, Stats, Unsynced, Usage,
 };
 pub use entries::{Block, Entry, Pair};
 pub use error::{Error, ErrorKind, Result};

@@ -1,10 +1,11 @@
 //! What an engine orders is carried out, in turn.
 
-use super::{Engine, locks};
+use super::{Engine, Event, locks};
 use crate::sys::{EngineHandle, Order};
 use crate::{Error, ErrorKind, FileId, Files, Queue, Result};
 use std::sync::MutexGuard;
 use std::thread;
+use std::time::Instant;
 
 /// The turn of a thread, which has it to itself: it makes calls that order something, and carries the orders out. An engine
 /// on which it panics has failed.
@@ -113,14 +114,21 @@ impl<F: Files> Turn<'_, F> {
         let begun = self.engine.files.rotate(file);
         begun.map_err(|e| Error::system("the file can't be begun", e).at(file, 0))?;
         locks::lock(&self.engine.numbers).set_len(file, 0);
+        self.engine.events.note(Event::Begun(file));
         Ok(())
     }
 
     fn sync(&self, queue: Queue) -> Result<()> {
         let (file, len) = self.last(queue)?;
+        let begun = Instant::now();
         let synced = self.engine.files.sync(queue);
         synced.map_err(|e| Error::system("the file can't be synced", e).at(file, len))?;
-        locks::lock(&self.engine.numbers).syncs += 1;
+        let took = begun.elapsed();
+        let mut numbers = locks::lock(&self.engine.numbers);
+        numbers.syncs += 1;
+        numbers.sync_time += took;
+        drop(numbers);
+        self.engine.events.note(Event::Synced(queue, took));
         Ok(())
     }
 
@@ -130,6 +138,7 @@ impl<F: Files> Turn<'_, F> {
         let deleted = self.engine.files.delete(file);
         deleted.map_err(|e| Error::system("the file can't be deleted", e).at(file, 0))?;
         locks::lock(&self.engine.numbers).forget(file);
+        self.engine.events.note(Event::Deleted(file));
         Ok(())
     }
 
@@ -138,6 +147,10 @@ impl<F: Files> Turn<'_, F> {
         let cut = self.engine.files.truncate(file, len);
         cut.map_err(|e| Error::system("the file can't be cut", e).at(file, len))?;
         locks::lock(&self.engine.numbers).cut(queue, len);
+        let recovered = &self.engine.recovered;
+        for cut in recovered.cuts().filter(|cut| cut.file == file) {
+            self.engine.events.note(Event::Cut(cut.clone()));
+        }
         Ok(())
     }
 

@@ -45,7 +45,7 @@
 //!
 //! The library is compiled for Linux with glibc, on x86-64 with the instructions of x86-64-v2. It doesn't test for them.
 
-#![deny(unsafe_code)]
+#![deny(unsafe_code, clippy::undocumented_unsafe_blocks)]
 #![warn(missing_docs, missing_debug_implementations, unreachable_pub)]
 
 #[cfg(not(all(target_os = "linux", target_arch = "x86_64", target_env = "gnu")))]

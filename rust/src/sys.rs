@@ -126,7 +126,7 @@ fn with<A>(cell: &Cell<Handle>, call: impl FnOnce(*mut Handle) -> A) -> A {
 pub(crate) fn readable_front(part: FilePart<'_>) -> (usize, Option<Error>) {
     part.check().expect("a part ends where an offset can");
     let mut len = 0;
-    // SAFETY: the bytes end where an offset can.
+    // SAFETY: `ends`: the bytes end where an offset can.
     let refused = refusal(|text, text_len| unsafe {
         raft_ffi_readable_front(
             part.file.into(),

@@ -56,14 +56,14 @@ impl EngineHandle {
 
     /// Says whether every batch whose bytes were ordered was applied.
     pub(crate) fn is_intact(&mut self) -> bool {
-        // SAFETY: the handle holds an engine.
+        // SAFETY: `held`: the handle holds an engine.
         unsafe { raft_ffi_engine_is_intact(&mut self.handle) }
     }
 
     /// Writes an open batch, which is empty afterwards.
     pub(crate) fn write(&mut self, batch: &mut LogBatchHandle) -> Result<()> {
         batch.check_open()?;
-        // SAFETY: the handles hold an engine and an open batch.
+        // SAFETY: `held`, `batch`, `open`: the handles hold an engine and an open batch.
         checked(|text, text_len| unsafe {
             raft_ffi_engine_write(&mut self.handle, batch.as_ptr(), false, text, text_len)
         })
@@ -71,11 +71,13 @@ impl EngineHandle {
 
     /// Orders that all that was written lasts.
     pub(crate) fn sync(&mut self) -> Result<()> {
+        // SAFETY: `held`: the handle holds an engine.
         self.call(|engine, text, text_len| unsafe { raft_ffi_engine_sync(engine, text, text_len) })
     }
 
     /// Begins an append file.
     pub(crate) fn rotate(&mut self) -> Result<()> {
+        // SAFETY: `held`: the handle holds an engine.
         self.call(|engine, text, text_len| unsafe {
             raft_ffi_engine_rotate(engine, text, text_len)
         })
@@ -83,6 +85,7 @@ impl EngineHandle {
 
     /// Moves what append files up to the gate have, as far as its blocks are lent.
     pub(crate) fn rewrite(&mut self, gate: u64) -> Result<()> {
+        // SAFETY: `held`: the handle holds an engine.
         self.call(|engine, text, text_len| unsafe {
             raft_ffi_engine_rewrite(engine, gate, text, text_len)
         })
@@ -90,6 +93,7 @@ impl EngineHandle {
 
     /// Moves what rewrite files have to a new one, as far as its blocks are lent.
     pub(crate) fn rewrite_again(&mut self) -> Result<()> {
+        // SAFETY: `held`: the handle holds an engine.
         self.call(|engine, text, text_len| unsafe {
             raft_ffi_engine_rewrite_again(engine, text, text_len)
         })
@@ -98,6 +102,7 @@ impl EngineHandle {
     /// Deletes the append files that no table needs.
     pub(crate) fn purge_expired_files(&mut self) -> Result<usize> {
         let mut count = 0;
+        // SAFETY: `held`: the handle holds an engine.
         self.call(|engine, text, text_len| unsafe {
             raft_ffi_engine_purge_expired_files(engine, &mut count, text, text_len)
         })?;
@@ -107,6 +112,7 @@ impl EngineHandle {
     /// Deletes the rewrite files that no table needs.
     pub(crate) fn purge_rewrite_files(&mut self) -> Result<usize> {
         let mut count = 0;
+        // SAFETY: `held`: the handle holds an engine.
         self.call(|engine, text, text_len| unsafe {
             raft_ffi_engine_purge_rewrite_files(engine, &mut count, text, text_len)
         })?;
@@ -153,7 +159,7 @@ impl EngineHandle {
         loop {
             let (mut order, mut is_taken) = (OrderNumbers::default(), false);
             let room = &mut bytes[len..];
-            // SAFETY: the handle holds an engine.
+            // SAFETY: `held`: the handle holds an engine.
             let is_found = unsafe {
                 raft_ffi_engine_take_order(
                     &mut self.handle,
@@ -187,7 +193,7 @@ impl EngineHandle {
         max_size: usize,
     ) -> Result<Vec<Block>> {
         let places = listed(|room, len, count| {
-            // SAFETY: the handle holds an engine.
+            // SAFETY: `held`: the handle holds an engine.
             remembered(unsafe {
                 raft_ffi_engine_moving_blocks(
                     &mut self.handle,
@@ -205,7 +211,7 @@ impl EngineHandle {
     /// Lends the bytes of a block to the next call.
     pub(crate) fn lend(&mut self, block: Block, bytes: &[u8]) -> Result<()> {
         let is_rewrite = block.file.queue == Queue::Rewrite;
-        // SAFETY: the handle holds an engine.
+        // SAFETY: `held`: the handle holds an engine.
         remembered(unsafe {
             raft_ffi_engine_lend(
                 &mut self.handle,
@@ -222,7 +228,7 @@ impl EngineHandle {
     pub(crate) fn value(&mut self, region: u64, key: &[u8]) -> Result<Option<Vec<u8>>> {
         let mut is_found = false;
         let value = listed(|room, len, count| {
-            // SAFETY: the handle holds an engine.
+            // SAFETY: `held`: the handle holds an engine.
             is_found = unsafe {
                 raft_ffi_engine_value(
                     &mut self.handle,
@@ -248,7 +254,7 @@ impl EngineHandle {
     ) -> Result<PackedPairs> {
         let (is_bounded, end) = (end.is_some(), end.unwrap_or_default());
         packed_pairs(|lens, lens_len, count, bytes, bytes_len, len| {
-            // SAFETY: the handle holds an engine.
+            // SAFETY: `held`: the handle holds an engine.
             remembered(unsafe {
                 raft_ffi_engine_scan(
                     &mut self.handle,
@@ -272,7 +278,7 @@ impl EngineHandle {
     /// Finds what a region's table has.
     pub(crate) fn summary(&mut self, region: u64) -> Option<Summary> {
         let mut summary = SummaryNumbers::default();
-        // SAFETY: the handle holds an engine.
+        // SAFETY: `held`: the handle holds an engine.
         let is_found = unsafe { raft_ffi_engine_summary(&mut self.handle, region, &mut summary) };
         is_found.then(|| summary.into())
     }
@@ -280,7 +286,7 @@ impl EngineHandle {
     /// Finds the least index of a region's entries.
     pub(crate) fn first_index(&mut self, region: u64) -> Option<u64> {
         let mut index = 0;
-        // SAFETY: the handle holds an engine.
+        // SAFETY: `held`: the handle holds an engine.
         let is_found = unsafe { raft_ffi_engine_first_index(&mut self.handle, region, &mut index) };
         is_found.then_some(index)
     }
@@ -288,7 +294,7 @@ impl EngineHandle {
     /// Finds the greatest index of a region's entries.
     pub(crate) fn last_index(&mut self, region: u64) -> Option<u64> {
         let mut index = 0;
-        // SAFETY: the handle holds an engine.
+        // SAFETY: `held`: the handle holds an engine.
         let is_found = unsafe { raft_ffi_engine_last_index(&mut self.handle, region, &mut index) };
         is_found.then_some(index)
     }
@@ -296,7 +302,7 @@ impl EngineHandle {
     /// Finds an entry.
     pub(crate) fn entry(&mut self, region: u64, index: u64) -> Option<Entry> {
         let mut entry = EntryNumbers::default();
-        // SAFETY: the handle holds an engine.
+        // SAFETY: `held`: the handle holds an engine.
         let is_found =
             unsafe { raft_ffi_engine_entry(&mut self.handle, region, index, &mut entry) };
         is_found.then(|| entry.into())
@@ -310,7 +316,7 @@ impl EngineHandle {
         max_size: Option<u64>,
     ) -> Result<Vec<Entry>> {
         let list = listed(|room, len, count| {
-            // SAFETY: the handle holds an engine.
+            // SAFETY: `held`: the handle holds an engine.
             checked(|text, text_len| unsafe {
                 raft_ffi_engine_entries(
                     &mut self.handle,
@@ -332,21 +338,21 @@ impl EngineHandle {
     /// Lists the regions.
     pub(crate) fn regions(&mut self) -> Result<Vec<u64>> {
         listed(|room, len, count| {
-            // SAFETY: the handle holds an engine.
+            // SAFETY: `held`: the handle holds an engine.
             remembered(unsafe { raft_ffi_engine_regions(&mut self.handle, room, len, count) })
         })
     }
 
     /// Counts the live records of a queue.
     pub(crate) fn live(&mut self, queue: Queue) -> usize {
-        // SAFETY: the handle holds an engine.
+        // SAFETY: `held`: the handle holds an engine.
         unsafe { raft_ffi_engine_live(&mut self.handle, queue == Queue::Rewrite) }
     }
 }
 
 impl Drop for EngineHandle {
     fn drop(&mut self) {
-        // SAFETY: the handle holds an engine, which is given away.
+        // SAFETY: `held`: the handle holds an engine, which is given away.
         unsafe { raft_ffi_engine_drop(self.handle) }
     }
 }

@@ -43,13 +43,11 @@
 //!
 //! # Machines
 //!
-//! The library is compiled for Linux with glibc, on x86-64 with the instructions of x86-64-v2. It doesn't test for them.
+//! The library is compiled for Linux with glibc, on x86-64 with the instructions of x86-64-v2. It doesn't test for them. Elsewhere
+//! the crate can be checked and documented, and a build says by one line what is missing.
 
 #![deny(unsafe_code, clippy::undocumented_unsafe_blocks)]
 #![warn(missing_docs, missing_debug_implementations, unreachable_pub)]
-
-#[cfg(not(all(target_os = "linux", target_arch = "x86_64", target_env = "gnu")))]
-compile_error!("raft-recover is for x86_64-unknown-linux-gnu alone, as its library is");
 
 mod batches;
 mod context;

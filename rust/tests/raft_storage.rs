@@ -92,7 +92,7 @@ impl Model {
     }
 
     fn snapshot_at(&self, index: u64, term: u64, members: u64) -> SnapshotMetadata {
-        let conf_state = ConfState((0..members).collect());
+        let conf_state: ConfState = (0..members).collect();
         SnapshotMetadata {
             conf_state,
             index,

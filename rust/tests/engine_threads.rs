@@ -276,6 +276,24 @@ fn the_newest_entry_is_read_while_its_bytes_are_on_their_way() {
 }
 
 #[test]
+fn what_is_written_is_read_from_its_file() {
+    let reads = AtomicUsize::new(0);
+    let hooked = Hooked::new(&MemoryFiles::new(), |call: Call<'_>| {
+        reads.fetch_add(usize::from(matches!(call, Call::Read(..))), SeqCst);
+        Ok(())
+    });
+    let engine = Engine::with_files(hooked, Options::new().target_file_size(100)).unwrap();
+    for index in 1..=9 {
+        engine.write(&mut batch(7, index), index % 2 == 0).unwrap();
+        assert_eq!(
+            engine.entry(7, index).unwrap(),
+            Some(index.to_string().into())
+        );
+        assert_eq!(reads.load(SeqCst) as u64, index, "it isn't kept in memory");
+    }
+}
+
+#[test]
 fn an_entry_is_read_while_its_bytes_move() {
     let [writes, syncs] = [Gate::default(), Gate::default()];
     let engine = gated(&writes, &syncs);

@@ -238,7 +238,7 @@ impl<F: Files> Engine<F> {
         let begun = Instant::now();
         let (mut engine, orders) = Engine::of_found(files, options)?;
         engine.events = Events::of(listener);
-        engine.telling(|| engine.turn()?.open(orders))?;
+        engine.tell_after(|| engine.turn()?.open(orders))?;
         engine.opening = begun.elapsed();
         Ok(engine)
     }

@@ -154,22 +154,34 @@ fn a_purge_asks_something_of_the_files_where_one_is_needed_and_else_nothing() {
     assert!(needed > 100 && needless > 100, "{needed} {needless}");
 }
 
+/// An engine of a drawn history, and who needs its oldest file.
+fn drawn_holders(seed: u64) -> (Engine<MemoryFiles>, Vec<Holder>) {
+    let mut draw = Draw::new(seed);
+    let options = Options::new().target_file_size(300);
+    let engine = Engine::with_files(MemoryFiles::new(), options).unwrap();
+    let mut model = BTreeMap::new();
+    for _ in 0..60 {
+        change(&engine, &mut model, &mut draw);
+        if draw.once_in(20) {
+            let first = engine.stats().append.first_file;
+            engine.rewrite(first).unwrap();
+        }
+    }
+    let holders = engine.purge().unwrap().holders;
+    (engine, holders)
+}
+
+/// The regions of holders of a file.
+fn regions<'a>(holders: impl IntoIterator<Item = &'a Holder>, file: FileId) -> Vec<u64> {
+    let of_file = holders.into_iter().filter(|holder| holder.file == file);
+    of_file.map(|holder| holder.region).collect()
+}
+
 #[test]
 fn once_its_holders_let_go_the_oldest_file_goes_and_nothing_moves() {
     let mut held = 0;
     for seed in 0..60 {
-        let mut draw = Draw::new(seed);
-        let options = Options::new().target_file_size(300);
-        let engine = Engine::with_files(MemoryFiles::new(), options).unwrap();
-        let mut model = BTreeMap::new();
-        for _ in 0..60 {
-            change(&engine, &mut model, &mut draw);
-            if draw.once_in(20) {
-                let first = engine.stats().append.first_file;
-                engine.rewrite(first).unwrap();
-            }
-        }
-        let holders = engine.purge().unwrap().holders;
+        let (engine, holders) = drawn_holders(seed);
         let Some(file) = holders.first().map(|holder| holder.file) else {
             continue;
         };
@@ -177,28 +189,24 @@ fn once_its_holders_let_go_the_oldest_file_goes_and_nothing_moves() {
         assert_eq!(file.seq, engine.stats().append.first_file);
         let mut batch = LogBatch::new().unwrap();
         for holder in &holders {
-            let Holder { region, .. } = *holder;
-            for (key, value) in engine.scan(region, ..).unwrap() {
-                batch.put(region, &key, &value).unwrap();
+            for (key, value) in engine.scan(holder.region, ..).unwrap() {
+                batch.put(holder.region, &key, &value).unwrap();
             }
             if let Some(index) = holder.compact_to {
-                let first = engine.first_index(region).unwrap().unwrap();
+                let first = engine.first_index(holder.region).unwrap().unwrap();
                 assert_eq!(holder.entries, index - first, "seed {seed}");
-                batch.compact(region, index - 1).unwrap();
+                batch.compact(holder.region, index - 1).unwrap();
             }
         }
         // the last of the entries still stands there
         engine.write(&mut batch, false).unwrap();
         let left = engine.purge().unwrap().holders;
         let with_entries = holders.iter().filter(|holder| holder.compact_to.is_some());
-        let kept: Vec<_> = with_entries.clone().map(|holder| holder.region).collect();
-        let of_file = left.iter().filter(|holder| holder.file == file);
-        let left: Vec<_> = of_file.map(|holder| holder.region).collect();
-        assert_eq!(left, kept, "seed {seed}: {holders:?}");
+        let kept = regions(with_entries.clone(), file);
+        assert_eq!(regions(&left, file), kept, "seed {seed}: {holders:?}");
         for holder in with_entries {
-            batch
-                .compact(holder.region, holder.compact_to.unwrap())
-                .unwrap();
+            let index = holder.compact_to.unwrap();
+            batch.compact(holder.region, index).unwrap();
         }
         let rewritten = engine.stats().rewrite.records;
         engine.write(&mut batch, false).unwrap();

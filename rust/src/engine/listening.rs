@@ -256,7 +256,7 @@ impl<F: Files> Engine<F> {
     }
 
     /// Makes a call that may change something, and then tells the listener what was done.
-    pub(super) fn telling<T>(&self, call: impl FnOnce() -> Result<T>) -> Result<T> {
+    pub(super) fn tell_after<T>(&self, call: impl FnOnce() -> Result<T>) -> Result<T> {
         let result = call();
         self.events.tell();
         result

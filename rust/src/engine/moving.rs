@@ -29,7 +29,7 @@ impl<F: Files> Engine<F> {
     /// `Full` where the last file has the greatest number, `Memory`. `Io`, `Failed`: the engine has failed.
     pub fn rotate(&self) -> Result<()> {
         self.changeable("rotate")?;
-        self.telling(|| self.turn()?.call(EngineHandle::rotate))
+        self.tell_after(|| self.turn()?.call(EngineHandle::rotate))
     }
 
     /// Begins a new file of the append queue where the last one is long enough. Where that is refused a later write tries again, or
@@ -67,7 +67,7 @@ impl<F: Files> Engine<F> {
     /// moved then. `Io` of a change, `Failed`: the engine has failed.
     pub fn rewrite(&self, gate: u64) -> Result<()> {
         self.changeable("rewrite")?;
-        self.telling(|| self.rewrite_up_to(gate))
+        self.tell_after(|| self.rewrite_up_to(gate))
     }
 
     fn rewrite_up_to(&self, gate: u64) -> Result<()> {
@@ -88,7 +88,7 @@ impl<F: Files> Engine<F> {
         before: &[Block],
     ) -> Result<Option<Vec<Block>>> {
         let lent = self.lend(Some(gate), BLOCKS_AT_ONCE)?;
-        match self.noting_moves(turn, Queue::Append, |tables| tables.rewrite(gate)) {
+        match self.count_moves(turn, Queue::Append, |tables| tables.rewrite(gate)) {
             Err(e) if e.kind == ErrorKind::TryAgain && lent != before => Ok(Some(lent)),
             Err(e) => Err(self.placed(e, &lent)),
             Ok(()) => Ok(None),
@@ -120,16 +120,16 @@ impl<F: Files> Engine<F> {
     /// Those of [`Engine::rewrite`]; but a region whose entries fit no batch moves in several.
     pub fn rewrite_again(&self) -> Result<()> {
         self.changeable("rewrite_again")?;
-        self.telling(|| {
+        self.tell_after(|| {
             let turn = self.turn()?;
             let lent = self.lend(None, usize::MAX)?;
-            self.noting_moves(&turn, Queue::Rewrite, EngineHandle::rewrite_again)
+            self.count_moves(&turn, Queue::Rewrite, EngineHandle::rewrite_again)
                 .map_err(|e| self.placed(e, &lent))
         })
     }
 
     /// Makes a call that moves records of a queue, and notes how many.
-    fn noting_moves(
+    fn count_moves(
         &self,
         turn: &Turn<'_, F>,
         from: Queue,
@@ -140,7 +140,7 @@ impl<F: Files> Engine<F> {
             let before = tables.live(from);
             let result = call(tables);
             moved = match from {
-                Queue::Append => before - tables.live(from),
+                Queue::Append => before.saturating_sub(tables.live(from)),
                 Queue::Rewrite if result.is_ok() => before,
                 Queue::Rewrite => 0,
             };

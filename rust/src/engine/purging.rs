@@ -85,7 +85,7 @@ impl<F: Files> Engine<F> {
 
     /// Deletes the files that no table needs.
     fn delete_files(&self) -> Result<Purged> {
-        self.telling(|| {
+        self.tell_after(|| {
             let turn = self.turn()?;
             let files = |queue| locks::lock(&self.numbers).files(queue).collect::<Vec<_>>();
             let (append, rewrite) = (files(Queue::Append), files(Queue::Rewrite));
@@ -104,7 +104,7 @@ impl<F: Files> Engine<F> {
     }
 
     /// Returns the oldest file of a queue, if there is another one behind it.
-    fn oldest_closed(&self, queue: Queue) -> Option<FileId> {
+    fn oldest_closed_file(&self, queue: Queue) -> Option<FileId> {
         let numbers = locks::lock(&self.numbers);
         let mut files = numbers.files(queue);
         let (oldest, _) = files.next()?;
@@ -113,7 +113,7 @@ impl<F: Files> Engine<F> {
 
     /// Tests whether no table needs the oldest file of a queue, which isn't its last one.
     fn has_needless_file(&self, queue: Queue) -> Result<bool> {
-        let Some(oldest) = self.oldest_closed(queue) else {
+        let Some(oldest) = self.oldest_closed_file(queue) else {
             return Ok(false);
         };
         let regions = self.tables().regions()?;
@@ -124,7 +124,7 @@ impl<F: Files> Engine<F> {
 
     /// Returns the regions that need the oldest append file, if there is another one behind it.
     fn holders(&self) -> Result<Vec<Holder>> {
-        let Some(oldest) = self.oldest_closed(Queue::Append) else {
+        let Some(oldest) = self.oldest_closed_file(Queue::Append) else {
             return Ok(Vec::new());
         };
         let regions = self.tables().regions()?;

@@ -13,6 +13,7 @@ mod failure;
 mod files;
 mod folder_files;
 mod found;
+mod kept_blocks;
 mod listening;
 mod locks;
 mod memory_files;
@@ -46,6 +47,7 @@ pub use usage::{QueueUsage, Usage};
 use commit::Commits;
 use failure::Failure;
 use found::Found;
+use kept_blocks::KeptBlocks;
 use listening::{Event, Events};
 use numbers::Numbers;
 use unwritten::Unwritten;
@@ -143,6 +145,7 @@ pub struct Engine<F: Files = FolderFiles> {
     numbers: Mutex<Numbers>,
     /// What was ordered and isn't in the files yet.
     unwritten: Unwritten,
+    kept_blocks: KeptBlocks,
     commits: Commits,
     /// What the listener is told.
     events: Events,
@@ -291,6 +294,7 @@ impl<F: Files> Engine<F> {
             turn: Mutex::new(()),
             numbers: Mutex::new(opened.numbers),
             unwritten: Unwritten::default(),
+            kept_blocks: KeptBlocks::default(),
             commits: Commits::default(),
             events: Events::default(),
             is_read_only: false,

@@ -46,7 +46,7 @@ pub(crate) use log_batch::LogBatchHandle;
 pub(crate) use packed::Packed;
 pub(crate) use tables::TablesHandle;
 
-use lists::{found, listed, make_room, packed_pairs, pairs};
+use lists::{found, listed, listed_in, make_room, packed_pairs, pairs};
 use numbers::{EntryNumbers, File, Maybe, SummaryNumbers, entries, numbers};
 
 /// The pointer of a box in the library, null where there is none.

@@ -6,6 +6,7 @@ use crate::{Block, Entry, Error, Files, Result};
 use std::fmt;
 use std::iter::FusedIterator;
 use std::ops::Range;
+use std::sync::Arc;
 use std::vec;
 
 /// The bytes of entries of a region, in the order of their indexes.
@@ -32,7 +33,7 @@ use std::vec;
 #[derive(Clone, Default)]
 pub struct Entries {
     /// The entry bytes of the blocks that hold them.
-    blocks: Vec<Vec<u8>>,
+    blocks: Vec<Arc<Vec<u8>>>,
     rest: vec::IntoIter<Place>,
 }
 
@@ -51,14 +52,14 @@ impl Entries {
     ///
     /// `Corruption` where no sound block with the bytes of an entry stands at its place, `Io`, `Memory`.
     pub(super) fn read<F: Files>(engine: &Engine<F>, entries: &[Entry]) -> Result<Entries> {
-        let (mut blocks, mut last) = (Vec::<Vec<u8>>::new(), None);
+        let (mut blocks, mut last) = (Vec::<Arc<Vec<u8>>>::new(), None);
         let mut places = Vec::new();
         places
             .try_reserve_exact(entries.len())
             .map_err(|_| Error::memory())?;
         for entry in entries {
             if last != Some(entry.block) {
-                blocks.push(read_entry_bytes(engine, entry.block)?);
+                blocks.push(entry_bytes(engine, entry.block)?);
                 last = Some(entry.block);
             }
             let block = blocks.len() - 1;
@@ -69,6 +70,9 @@ impl Entries {
                 block,
                 bytes,
             });
+        }
+        if let Some((block, bytes)) = last.zip(blocks.last()) {
+            engine.kept_blocks.keep(block, bytes);
         }
         Ok(Entries {
             blocks,
@@ -184,6 +188,14 @@ pub(super) fn read_block<F: Files>(engine: &Engine<F>, block: Block) -> Result<V
             })?;
     }
     Ok(bytes)
+}
+
+/// Returns the entry bytes of a block that is kept, or reads them.
+fn entry_bytes<F: Files>(engine: &Engine<F>, block: Block) -> Result<Arc<Vec<u8>>> {
+    match engine.kept_blocks.get(block) {
+        Some(kept) => Ok(kept),
+        None => Ok(Arc::new(read_entry_bytes(engine, block)?)),
+    }
 }
 
 /// Reads the entry bytes of a block, and tests their checksum. A block of no bytes has none.

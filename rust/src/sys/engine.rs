@@ -12,12 +12,15 @@ use super::engine_calls::{
 };
 use super::{
     EntryNumbers, Handle, LogBatchHandle, PackedPairs, Status, SummaryNumbers, checked, entries,
-    listed, make_room, packed_pairs, remembered,
+    listed, listed_in, make_room, packed_pairs, remembered,
 };
 use crate::{Block, Entry, FileId, Queue, Result, Summary};
 use std::mem;
 use std::ops::Range;
 use std::sync::Arc;
+
+/// How many bytes most values have at most: these are copied by one call.
+const MOST_VALUES: usize = 64;
 
 /// What is to be done to the files of a queue.
 #[derive(Debug)]
@@ -227,7 +230,9 @@ impl EngineHandle {
     /// Finds the value of a key.
     pub(crate) fn value(&mut self, region: u64, key: &[u8]) -> Result<Option<Vec<u8>>> {
         let mut is_found = false;
-        let value = listed(|room, len, count| {
+        let mut room = Vec::new();
+        make_room(&mut room, MOST_VALUES)?;
+        let value = listed_in(room, |room, len, count| {
             // SAFETY: `held`: the handle holds an engine.
             is_found = unsafe {
                 raft_ffi_engine_value(

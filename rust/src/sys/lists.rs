@@ -5,9 +5,16 @@ use std::alloc::{Layout, handle_alloc_error};
 
 /// Lists what a call finds: it gets room, puts as much there as fits, and says how much there is.
 pub(super) fn listed<T: Copy + Default>(
+    call: impl FnMut(*mut T, usize, &mut usize) -> Result<()>,
+) -> Result<Vec<T>> {
+    listed_in(Vec::new(), call)
+}
+
+/// Lists what a call finds, as [`listed`] does, by one call where this room is enough.
+pub(super) fn listed_in<T: Copy + Default>(
+    mut room: Vec<T>,
     mut call: impl FnMut(*mut T, usize, &mut usize) -> Result<()>,
 ) -> Result<Vec<T>> {
-    let mut room = Vec::new();
     loop {
         let mut count = 0;
         call(room.as_mut_ptr(), room.len(), &mut count)?;

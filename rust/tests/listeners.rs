@@ -36,9 +36,9 @@ impl Listener for Noting {
         self.note(format!("begin {file}"));
     }
 
-    fn on_sync(&self, queue: Queue, took: Duration) {
+    fn on_sync(&self, file: FileId, took: Duration) {
         *self.sync_time.lock().unwrap() += took;
-        self.note(format!("sync {queue}"));
+        self.note(format!("sync {}", file.queue));
     }
 
     fn on_delete(&self, file: FileId) {
@@ -197,7 +197,7 @@ impl Listener for Calling {
         self.call();
     }
 
-    fn on_sync(&self, _: Queue, _: Duration) {
+    fn on_sync(&self, _: FileId, _: Duration) {
         self.call();
     }
 
@@ -242,7 +242,7 @@ fn a_listener_that_panics_harms_its_caller_alone() {
     #[derive(Default)]
     struct Panicking(AtomicUsize);
     impl Listener for Panicking {
-        fn on_sync(&self, _: Queue, _: Duration) {
+        fn on_sync(&self, _: FileId, _: Duration) {
             if self.0.fetch_add(1, SeqCst) == 3 {
                 panic!("the fourth sync is told");
             }

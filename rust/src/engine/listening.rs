@@ -15,7 +15,7 @@ use std::time::Duration;
 /// its own thread's. A call that takes long holds back the thread that makes it, and the calls behind it.
 ///
 /// ```
-/// use raft_recover::{Engine, FileId, Listener, LogBatch, MemoryFiles, Options, Queue};
+/// use raft_recover::{Engine, FileId, Listener, LogBatch, MemoryFiles, Options};
 /// use std::sync::{Arc, Mutex};
 /// use std::time::Duration;
 ///
@@ -27,9 +27,9 @@ use std::time::Duration;
 ///         self.0.lock().unwrap().push(format!("begun: {file}"));
 ///     }
 ///
-///     fn on_sync(&self, queue: Queue, took: Duration) {
+///     fn on_sync(&self, file: FileId, took: Duration) {
 ///         assert!(took < Duration::from_secs(60));
-///         self.0.lock().unwrap().push(format!("synced: {queue}"));
+///         self.0.lock().unwrap().push(format!("synced: {file}"));
 ///     }
 /// }
 ///
@@ -40,7 +40,7 @@ use std::time::Duration;
 /// batch.put(7, b"key", b"value")?;
 /// engine.write(&mut batch, false)?;
 /// engine.rotate()?;
-/// assert_eq!(*told.0.lock().unwrap(), ["synced: append", "begun: append file 2"]);
+/// assert_eq!(*told.0.lock().unwrap(), ["synced: append file 1", "begun: append file 2"]);
 /// # Ok::<(), raft_recover::Error>(())
 /// ```
 pub trait Listener: Send + Sync {
@@ -54,16 +54,16 @@ pub trait Listener: Send + Sync {
     /// ```
     fn on_begin(&self, _file: FileId) {}
 
-    /// Is told that all of a queue was synced, and how long that took.
+    /// Is told that all of a queue was synced, up to the end of this file, its last one, and how long that took.
     ///
     /// ```
-    /// # use raft_recover::{Listener, Queue};
+    /// # use raft_recover::{FileId, Listener, Queue};
     /// # use std::time::Duration;
     /// # struct Quiet;
     /// # impl Listener for Quiet {}
-    /// Quiet.on_sync(Queue::Append, Duration::from_millis(2));
+    /// Quiet.on_sync(FileId::new(Queue::Append, 1), Duration::from_millis(2));
     /// ```
-    fn on_sync(&self, _queue: Queue, _took: Duration) {}
+    fn on_sync(&self, _file: FileId, _took: Duration) {}
 
     /// Is told that a file was deleted.
     ///
@@ -105,7 +105,7 @@ pub trait Listener: Send + Sync {
 #[derive(Debug)]
 pub(super) enum Event {
     Begun(FileId),
-    Synced(Queue, Duration),
+    Synced(FileId, Duration),
     Deleted(FileId),
     Moved(Queue, usize),
     Cut(CutTail),
@@ -158,7 +158,7 @@ impl Events {
         while let Some((event, _telling)) = self.next() {
             match event {
                 Event::Begun(file) => listener.on_begin(file),
-                Event::Synced(queue, took) => listener.on_sync(queue, took),
+                Event::Synced(file, took) => listener.on_sync(file, took),
                 Event::Deleted(file) => listener.on_delete(file),
                 Event::Moved(from, records) => listener.on_move(from, records),
                 Event::Cut(cut) => listener.on_cut(&cut),
@@ -222,7 +222,7 @@ impl<F: Files> Engine<F> {
     /// from then on.
     ///
     /// ```
-    /// use raft_recover::{Engine, Listener, MemoryFiles, Options, Queue};
+    /// use raft_recover::{Engine, FileId, Listener, MemoryFiles, Options};
     /// use std::sync::Arc;
     /// use std::sync::atomic::{AtomicUsize, Ordering::Relaxed};
     /// use std::time::Duration;
@@ -231,7 +231,7 @@ impl<F: Files> Engine<F> {
     /// struct Syncs(AtomicUsize);
     ///
     /// impl Listener for Syncs {
-    ///     fn on_sync(&self, _queue: Queue, _took: Duration) {
+    ///     fn on_sync(&self, _file: FileId, _took: Duration) {
     ///         self.0.fetch_add(1, Relaxed);
     ///     }
     /// }

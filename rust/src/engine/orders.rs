@@ -128,7 +128,7 @@ impl<F: Files> Turn<'_, F> {
         numbers.syncs += 1;
         numbers.sync_time += took;
         drop(numbers);
-        self.engine.events.note(Event::Synced(queue, took));
+        self.engine.events.note(Event::Synced(file, took));
         Ok(())
     }
 

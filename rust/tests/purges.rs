@@ -44,6 +44,23 @@ fn the_files_are_named_that_went() {
 }
 
 #[test]
+fn a_needless_file_of_either_queue_is_something_to_do() {
+    let engine = engine();
+    write(&engine, |batch| batch.add_entries(7, 1, &["an entry"]));
+    engine.rotate().unwrap();
+    assert!(!engine.needs_purge().unwrap());
+    engine.rewrite(1).unwrap();
+    assert!(engine.needs_purge().unwrap());
+    assert_eq!(engine.purge().unwrap().files, [append(1)]);
+    assert!(!engine.needs_purge().unwrap());
+    engine.rewrite_again().unwrap();
+    assert!(engine.needs_purge().unwrap());
+    let files = engine.purge().unwrap().files;
+    assert_eq!(files, [FileId::new(Queue::Rewrite, 1)]);
+    assert!(!engine.needs_purge().unwrap());
+}
+
+#[test]
 fn the_holders_of_the_oldest_file_are_named_with_what_they_have_there() {
     let engine = engine();
     write(&engine, |batch| {

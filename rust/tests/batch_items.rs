@@ -164,6 +164,23 @@ fn the_item_is_named_that_is_refused() {
     }
 }
 
+#[test]
+fn a_written_batch_has_no_items_and_those_that_come_are_counted_anew() {
+    let engine = engine();
+    let mut batch = LogBatch::new().unwrap();
+    for sync in [true, false] {
+        batch.put(7, b"key", b"value").unwrap();
+        batch.add_entries(7, 1, &["1", "2"]).unwrap();
+        engine.write(&mut batch, sync).unwrap();
+        assert_eq!((batch.len(), batch.is_empty()), (0, true));
+        batch.add_entries(7, 9, &["hole"]).unwrap();
+        assert_eq!(batch.len(), 1);
+        let e = engine.write(&mut batch, sync).unwrap_err();
+        assert_eq!(e.item, Some(0));
+        batch.clear().unwrap();
+    }
+}
+
 /// Draws changes of regions, not all of which fit.
 fn drawn(draw: &mut Draw) -> Vec<(u64, Change)> {
     let count = 1 + draw.below(8);

@@ -84,6 +84,13 @@ fn so_many_blocks_and_bytes_are_kept_and_no_more() {
         assert_eq!(reads(), 1);
         read_all(0..1);
         assert_eq!(reads(), 1);
+        read_all(2..3); // it was read longest ago, and isn't any more
+        read_all(17..18); // in place of the block of region 3
+        reads();
+        read_all(2..3);
+        assert_eq!(reads(), 0);
+        read_all(3..4);
+        assert_eq!(reads(), 1);
 
         for region in 30..35 {
             write(engine, |batch| {
@@ -102,9 +109,13 @@ fn so_many_blocks_and_bytes_are_kept_and_no_more() {
         write(engine, |batch| {
             batch.add_entries(40, 1, &[vec![7; 9 << 20]])
         });
+        read_all(30..31);
+        reads();
         read_all(40..41);
         read_all(40..41);
         assert_eq!(reads(), 2);
+        read_all(30..31); // what is too large takes nobody's place
+        assert_eq!(reads(), 0);
     });
 }
 

@@ -23,13 +23,12 @@ struct Kept {
 impl KeptBlocks {
     /// Returns the entry bytes of a block, if they are kept.
     pub(super) fn get(&self, block: Block) -> Option<Arc<Vec<u8>>> {
-        let mut all = locks::lock(&self.0);
-        let at = all.iter().rposition(|kept| kept.block == block)?;
-        all[at..].rotate_left(1); // it goes last
-        all.last().map(|kept| kept.bytes.clone())
+        let all = locks::lock(&self.0);
+        let found = all.iter().rfind(|kept| kept.block == block)?;
+        Some(found.bytes.clone())
     }
 
-    /// Keeps the entry bytes of a block, in place of those that were read longest ago.
+    /// Keeps the entry bytes of a block that was read, in place of those that were read longest ago.
     pub(super) fn keep(&self, block: Block, bytes: &Arc<Vec<u8>>) {
         let mut all = locks::lock(&self.0);
         let is_kept = all.last().is_some_and(|kept| kept.block == block);

@@ -28,6 +28,7 @@ mod purging;
 mod reading;
 mod recovered;
 mod stats;
+mod turns;
 mod unwritten;
 mod usage;
 mod writing;
@@ -50,6 +51,7 @@ use found::Found;
 use kept_blocks::KeptBlocks;
 use listening::{Event, Events};
 use numbers::Numbers;
+use turns::Turns;
 use unwritten::Unwritten;
 
 /// The logs of many regions: tables in memory, and the files of all batches that were written, in a folder or behind any
@@ -141,7 +143,7 @@ pub struct Engine<F: Files = FolderFiles> {
     /// The tables, locked for single calls.
     tables: Mutex<EngineHandle>,
     /// It is held from a call that orders something until that is carried out.
-    turn: Mutex<()>,
+    turns: Turns,
     numbers: Mutex<Numbers>,
     /// What was ordered and isn't in the files yet.
     unwritten: Unwritten,
@@ -291,7 +293,7 @@ impl<F: Files> Engine<F> {
             recovered: opened.recovered,
             opening: Duration::ZERO,
             tables: Mutex::new(opened.tables),
-            turn: Mutex::new(()),
+            turns: Turns::default(),
             numbers: Mutex::new(opened.numbers),
             unwritten: Unwritten::default(),
             kept_blocks: KeptBlocks::default(),

@@ -5,9 +5,13 @@ use super::orders::Turn;
 use super::{Engine, Event, locks};
 use crate::sys::EngineHandle;
 use crate::{Block, Error, ErrorKind, Files, Queue, Result};
+use std::collections::HashMap;
 
-/// How many bytes of blocks a rewriting reads at once, and of one region at least.
-const BLOCKS_AT_ONCE: usize = 8 << 20;
+/// How many bytes of blocks a rewriting reads and moves in a turn, and those of one region at least.
+const BLOCKS_AT_ONCE: usize = 1 << 20;
+
+/// Blocks that were read before the turn in which they move.
+type ReadBlocks = HashMap<Block, Vec<u8>>;
 
 impl<F: Files> Engine<F> {
     /// Begins a new file of the append queue. All that was written lasts then.
@@ -74,21 +78,18 @@ impl<F: Files> Engine<F> {
         let last = locks::lock(&self.numbers).last(Queue::Append);
         let gate = last.map_or(gate, |(file, _)| gate.min(file.seq));
         let mut lent = Vec::new();
-        while let Some(more) = self.rewrite_some(&self.turn()?, gate, &lent)? {
+        while let Some(more) = self.rewrite_some(gate, &lent)? {
             lent = more;
         }
         Ok(())
     }
 
     /// Moves some regions past a gate. Where there are more it returns the blocks that these had, which aren't those of before.
-    fn rewrite_some(
-        &self,
-        turn: &Turn<'_, F>,
-        gate: u64,
-        before: &[Block],
-    ) -> Result<Option<Vec<Block>>> {
-        let lent = self.lend(Some(gate), BLOCKS_AT_ONCE)?;
-        match self.count_moves(turn, Queue::Append, |tables| tables.rewrite(gate)) {
+    fn rewrite_some(&self, gate: u64, before: &[Block]) -> Result<Option<Vec<Block>>> {
+        let read = self.read_ahead(Some(gate), BLOCKS_AT_ONCE)?;
+        let turn = self.turn()?;
+        let lent = self.lend(Some(gate), BLOCKS_AT_ONCE, read)?;
+        match self.count_moves(&turn, Queue::Append, |tables| tables.rewrite(gate)) {
             Err(e) if e.kind == ErrorKind::TryAgain && lent != before => Ok(Some(lent)),
             Err(e) => Err(self.placed(e, &lent)),
             Ok(()) => Ok(None),
@@ -121,8 +122,9 @@ impl<F: Files> Engine<F> {
     pub fn rewrite_again(&self) -> Result<()> {
         self.changeable("rewrite_again")?;
         self.tell_after(|| {
+            let read = self.read_ahead(None, usize::MAX)?;
             let turn = self.turn()?;
-            let lent = self.lend(None, usize::MAX)?;
+            let lent = self.lend(None, usize::MAX, read)?;
             self.count_moves(&turn, Queue::Rewrite, EngineHandle::rewrite_again)
                 .map_err(|e| self.placed(e, &lent))
         })
@@ -152,12 +154,24 @@ impl<F: Files> Engine<F> {
         result
     }
 
+    /// Reads the blocks that [`Engine::lend`] is to lend, while others may write. One that can't be read now is left to it.
+    fn read_ahead(&self, gate: Option<u64>, max_size: usize) -> Result<ReadBlocks> {
+        let blocks = self.tables().moving_blocks(gate, max_size)?;
+        let read = blocks
+            .into_iter()
+            .filter_map(|block| Some((block, read_block(self, block).ok()?)));
+        Ok(read.collect())
+    }
+
     /// Lends the tables the blocks that are read by a rewriting up to the gate, or by one of rewritten records: those of whole
-    /// regions, up to so many bytes. Returns them.
-    fn lend(&self, gate: Option<u64>, max_size: usize) -> Result<Vec<Block>> {
+    /// regions, up to so many bytes. Returns them. It reads those that weren't read before.
+    fn lend(&self, gate: Option<u64>, max_size: usize, mut read: ReadBlocks) -> Result<Vec<Block>> {
         let blocks = self.tables().moving_blocks(gate, max_size)?;
         for block in &blocks {
-            let bytes = read_block(self, *block)?;
+            let bytes = match read.remove(block) {
+                Some(bytes) => bytes,
+                None => read_block(self, *block)?,
+            };
             self.tables().lend(*block, &bytes)?;
         }
         Ok(blocks)

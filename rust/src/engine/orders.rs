@@ -1,9 +1,9 @@
 //! What an engine orders is carried out, in turn.
 
+use super::turns::Having;
 use super::{Engine, Event, locks};
 use crate::sys::{EngineHandle, Order};
 use crate::{Error, ErrorKind, FileId, Files, Queue, Result};
-use std::sync::MutexGuard;
 use std::thread;
 use std::time::Instant;
 
@@ -11,7 +11,7 @@ use std::time::Instant;
 /// on which it panics has failed.
 pub(super) struct Turn<'a, F: Files> {
     engine: &'a Engine<F>,
-    _guard: MutexGuard<'a, ()>,
+    _turn: Having<'a>,
 }
 
 impl<F: Files> Drop for Turn<'_, F> {
@@ -34,7 +34,7 @@ impl<F: Files> Engine<F> {
     pub(super) fn turn(&self) -> Result<Turn<'_, F>> {
         let turn = Turn {
             engine: self,
-            _guard: locks::lock(&self.turn),
+            _turn: self.turns.take(),
         };
         self.intact()?;
         Ok(turn)

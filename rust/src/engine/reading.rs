@@ -1,6 +1,6 @@
 //! An engine is read.
 
-use super::{Engine, Entries, Pairs, locks, pairs};
+use super::{Engine, Entries, Pairs, pairs};
 use crate::sys::EngineHandle;
 use crate::{Entry, Files, Result, Summary};
 use std::ops::{Bound, Range, RangeBounds};
@@ -270,7 +270,7 @@ impl<F: Files> Engine<F> {
             }
             before = Some(found);
         }
-        let _turn = locks::lock(&self.turn);
+        let _turn = self.turns.take();
         let found = self.look_up(&find)?;
         Entries::read(self, &found)
     }

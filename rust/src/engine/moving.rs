@@ -5,13 +5,13 @@ use super::orders::Turn;
 use super::{Engine, Event, locks};
 use crate::sys::EngineHandle;
 use crate::{Block, Error, ErrorKind, Files, Queue, Result};
-use std::collections::HashMap;
+use std::collections::VecDeque;
 
 /// How many bytes of blocks a rewriting reads and moves in a turn, and those of one region at least.
 const BLOCKS_AT_ONCE: usize = 1 << 20;
 
-/// Blocks that were read before the turn in which they move.
-type ReadBlocks = HashMap<Block, Vec<u8>>;
+/// Blocks that were read before the turn in which they move, in the order in which they are lent, unless they change meanwhile.
+type ReadBlocks = VecDeque<(Block, Vec<u8>)>;
 
 impl<F: Files> Engine<F> {
     /// Begins a new file of the append queue. All that was written lasts then.
@@ -168,8 +168,9 @@ impl<F: Files> Engine<F> {
     fn lend(&self, gate: Option<u64>, max_size: usize, mut read: ReadBlocks) -> Result<Vec<Block>> {
         let blocks = self.tables().moving_blocks(gate, max_size)?;
         for block in &blocks {
-            let bytes = match read.remove(block) {
-                Some(bytes) => bytes,
+            let at = read.iter().position(|(of, _)| of == block);
+            let bytes = match at.and_then(|at| read.remove(at)) {
+                Some((_, bytes)) => bytes,
                 None => read_block(self, *block)?,
             };
             self.tables().lend(*block, &bytes)?;

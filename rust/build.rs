@@ -5,7 +5,8 @@
 //! - `RAFT_FFI_ARCHIVE`: an archive of the library.
 //! - `RATTLE_HEAP_ARCHIVE`: the toolchain's `liblibc_c.a`. It isn't read with the feature `global-allocator`.
 //!
-//! Where an archive isn't there, a warning says how to get it. What links nothing (`cargo check`, `clippy`, `doc`) goes on.
+//! Where an archive isn't there, a warning says how to get it. What links nothing (`cargo check`, `clippy`, `doc`) goes on, on other
+//! machines than those of the library too.
 
 use std::env;
 use std::path::{Path, PathBuf};
@@ -17,7 +18,21 @@ const LIBRARY: &str = concat!(
     "/../crates/raft_ffi/out/libraft_ffi.a"
 );
 
+/// What the library is compiled for, as cargo names the parts of a target.
+const TARGET: [(&str, &str); 3] = [
+    ("CARGO_CFG_TARGET_OS", "linux"),
+    ("CARGO_CFG_TARGET_ARCH", "x86_64"),
+    ("CARGO_CFG_TARGET_ENV", "gnu"),
+];
+
 fn main() {
+    let is_ours = |(variable, value)| env::var(variable).is_ok_and(|of_target| of_target == value);
+    if !TARGET.into_iter().all(is_ours) {
+        return println!(
+            "cargo::warning=the proved library is for x86_64-unknown-linux-gnu alone: \
+             for this target the crate can be checked and documented, and not linked"
+        );
+    }
     link("RAFT_FFI_ARCHIVE", || {
         let library = PathBuf::from(LIBRARY);
         if !library.is_file() {

@@ -4,7 +4,7 @@
 //! An entry's term stands in front of its data. The hard state and what is known of the snapshot are key values. Terms are kept in
 //! memory, so `term` reads no block. The region is the log's alone.
 
-use StorageError::{Compacted, SnapshotOutOfDate, SnapshotTemporarilyUnavailable, Unavailable};
+use StorageError::*;
 use raft_recover::{Engine, Files, LogBatch, Options};
 use std::{env, sync::Arc};
 
@@ -17,8 +17,7 @@ pub struct HardState {
 }
 
 /// The members who vote.
-#[derive(Clone, PartialEq, Eq, Debug, Default)]
-pub struct ConfState(pub Vec<u64>);
+pub type ConfState = Vec<u64>;
 
 /// An entry of the log.
 #[derive(Clone, PartialEq, Eq, Debug)]
@@ -78,20 +77,33 @@ const SNAPSHOT: &[u8] = b"snapshot";
 impl<F: Files> RaftStorage<F> {
     /// Opens the log in a region, or begins one, and reads the terms of its entries.
     pub fn open(engine: Arc<Engine<F>>, region: u64) -> Result<RaftStorage<F>> {
-        let mut snapshot = SnapshotMetadata::default();
-        if let [index, term, voters @ ..] = &numbers_in(engine.get(region, SNAPSHOT)?)[..] {
-            (snapshot.index, snapshot.term) = (*index, *term);
-            snapshot.conf_state.0 = voters.to_vec();
-        }
-        let found = (0..).zip(engine.entries(region, ..)?);
-        let mut terms = vec![snapshot.term];
-        terms.extend(found.map(|found| entry_of(found).term));
-        Ok(RaftStorage {
+        let mut log = RaftStorage {
             engine,
             region,
-            snapshot,
-            terms,
-        })
+            snapshot: SnapshotMetadata::default(),
+            terms: vec![0],
+        };
+        if let [index, term, voters @ ..] = &log.numbers(SNAPSHOT)?[..] {
+            (log.snapshot.index, log.snapshot.term) = (*index, *term);
+            (log.snapshot.conf_state, log.terms) = (voters.to_vec(), vec![*term]);
+        }
+        let found = log.engine.entries(region, ..).map_err(Other)?;
+        log.terms.extend(found.iter().map(|e| entry_of(e).term));
+        Ok(log)
+    }
+
+    /// Returns the numbers in a value, none where there is no value.
+    fn numbers(&self, key: &[u8]) -> Result<Vec<u64>> {
+        let value = self.engine.get(self.region, key).map_err(Other)?;
+        let numbers = value.as_deref().unwrap_or_default().as_chunks().0;
+        Ok(numbers.iter().map(|n| u64::from_le_bytes(*n)).collect())
+    }
+
+    /// Writes what a call adds to a batch, all of it or nothing.
+    fn write(&self, add: impl FnOnce(&mut LogBatch) -> raft_recover::Result<()>) -> Result<()> {
+        let mut batch = LogBatch::new().map_err(Other)?;
+        add(&mut batch).map_err(Other)?;
+        self.engine.write(&mut batch, true).map_err(Other)
     }
 
     /// Appends entries with consecutive indexes, in place of those from the first one's on.
@@ -100,9 +112,7 @@ impl<F: Files> RaftStorage<F> {
         self.term(first.wrapping_sub(1))?;
         let bytes = |entry: &Entry| [&entry.term.to_le_bytes(), &entry.data[..]].concat();
         let bytes: Vec<_> = entries.iter().map(bytes).collect();
-        let mut batch = LogBatch::new()?;
-        batch.add_entries(self.region, first, &bytes)?;
-        self.engine.write(&mut batch, true)?;
+        self.write(|batch| batch.add_entries(self.region, first, &bytes))?;
         self.terms.truncate((first - self.snapshot.index) as usize);
         self.terms.extend(entries.iter().map(|entry| entry.term));
         Ok(())
@@ -111,35 +121,31 @@ impl<F: Files> RaftStorage<F> {
     /// Replaces the hard state.
     pub fn set_hard_state(&mut self, state: HardState) -> Result<()> {
         let bytes = [state.term, state.vote, state.commit].map(u64::to_le_bytes);
-        let mut batch = LogBatch::new()?;
-        batch.put(self.region, HARD_STATE, &bytes.concat())?;
-        Ok(self.engine.write(&mut batch, true)?)
+        self.write(|batch| batch.put(self.region, HARD_STATE, &bytes.concat()))
     }
 
     /// Lets the entries go that are in a snapshot which the node made. Its term is that of the log.
     pub fn compact(&mut self, mut snapshot: SnapshotMetadata) -> Result<()> {
         snapshot.term = self.term(snapshot.index)?;
         let terms = self.terms[(snapshot.index - self.snapshot.index) as usize..].to_vec();
-        self.put_snapshot(snapshot.index + 1, snapshot, terms)
+        self.put_snapshot(snapshot.index + 1, terms, snapshot)
     }
 
     /// Puts a snapshot that was sent to the node in place of all entries.
     pub fn apply_snapshot(&mut self, snapshot: SnapshotMetadata) -> Result<()> {
-        if snapshot.index <= self.snapshot.index {
-            return Err(SnapshotOutOfDate);
-        }
-        let terms = vec![snapshot.term];
-        self.put_snapshot(self.last_index()? + 1, snapshot, terms)
+        let newer = Some(snapshot).filter(|new| new.index > self.snapshot.index);
+        let snapshot = newer.ok_or(SnapshotOutOfDate)?;
+        self.put_snapshot(self.last_index()? + 1, vec![snapshot.term], snapshot)
     }
 
     /// Writes that the entries below `end` go, and what is known of the snapshot that they are in.
-    fn put_snapshot(&mut self, end: u64, of: SnapshotMetadata, terms: Vec<u64>) -> Result<()> {
-        let numbers = [&[of.index, of.term], &of.conf_state.0[..]].concat();
+    fn put_snapshot(&mut self, end: u64, terms: Vec<u64>, of: SnapshotMetadata) -> Result<()> {
+        let numbers = [&[of.index, of.term], &of.conf_state[..]].concat();
         let bytes: Vec<_> = numbers.iter().flat_map(|n| n.to_le_bytes()).collect();
-        let mut batch = LogBatch::new()?;
-        batch.compact(self.region, end)?;
-        batch.put(self.region, SNAPSHOT, &bytes)?;
-        self.engine.write(&mut batch, true)?;
+        self.write(|batch| {
+            batch.compact(self.region, end)?;
+            batch.put(self.region, SNAPSHOT, &bytes)
+        })?;
         (self.snapshot, self.terms) = (of, terms);
         Ok(())
     }
@@ -147,19 +153,18 @@ impl<F: Files> RaftStorage<F> {
 
 impl<F: Files> Storage for RaftStorage<F> {
     fn initial_state(&self) -> Result<(HardState, ConfState)> {
-        let numbers = numbers_in(self.engine.get(self.region, HARD_STATE)?);
-        let [term, vote, commit] = numbers.try_into().unwrap_or_default();
+        let [term, vote, commit] = self.numbers(HARD_STATE)?.try_into().unwrap_or_default();
         let commit = commit.max(self.snapshot.index); // what is in a snapshot is committed
-        let hard_state = HardState { term, vote, commit };
-        Ok((hard_state, self.snapshot.conf_state.clone()))
+        let conf_state = self.snapshot.conf_state.clone();
+        Ok((HardState { term, vote, commit }, conf_state))
     }
 
     fn entries(&self, low: u64, high: u64, max_size: impl Into<Option<u64>>) -> Result<Vec<Entry>> {
         self.term(low.wrapping_sub(1))?;
         self.term(high.wrapping_sub(1))?;
         let size = max_size.into().unwrap_or(u64::MAX);
-        let found = self.engine.entries_up_to(self.region, low..high, size)?;
-        Ok((low..).zip(found).map(entry_of).collect())
+        let found = self.engine.entries_up_to(self.region, low..high, size);
+        Ok(found.map_err(Other)?.iter().map(entry_of).collect())
     }
 
     fn term(&self, index: u64) -> Result<u64> {
@@ -181,29 +186,17 @@ impl<F: Files> Storage for RaftStorage<F> {
     }
 }
 
-impl From<raft_recover::Error> for StorageError {
-    fn from(e: raft_recover::Error) -> StorageError {
-        StorageError::Other(e)
-    }
-}
-
 /// Makes an entry of its index and bytes, which `append` wrote.
-fn entry_of((index, bytes): (u64, Vec<u8>)) -> Entry {
+fn entry_of((index, bytes): (u64, &[u8])) -> Entry {
     let (term, data) = bytes.split_first_chunk().expect("a term stands in front");
     let (term, data) = (u64::from_le_bytes(*term), data.to_vec());
     Entry { index, term, data }
 }
 
-/// Returns the numbers in a value, none where there is no value.
-fn numbers_in(value: Option<Vec<u8>>) -> Vec<u64> {
-    let bytes = value.unwrap_or_default();
-    let numbers = bytes.as_chunks().0.iter();
-    numbers.map(|bytes| u64::from_le_bytes(*bytes)).collect()
-}
-
 fn main() -> Result<()> {
     let folder = env::args().nth(1).expect("raft_storage <folder>");
-    let mut log = RaftStorage::open(Arc::new(Engine::open(folder, Options::new())?), 1)?;
+    let engine = Engine::open(folder, Options::new()).map_err(Other)?;
+    let mut log = RaftStorage::open(Arc::new(engine), 1)?;
     let (index, term, data) = (log.last_index()? + 1, 1, b"an entry".to_vec());
     println!("entry {index}");
     log.append(&[Entry { index, term, data }])

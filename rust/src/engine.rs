@@ -4,7 +4,8 @@ use crate::sys::{EngineHandle, Order};
 use crate::{Error, Queue, Result};
 use std::fmt;
 use std::path::Path;
-use std::sync::{Mutex, MutexGuard, OnceLock};
+use std::sync::{Arc, Mutex, MutexGuard, OnceLock};
+use std::time::{Duration, Instant};
 
 mod commit;
 mod entries;
@@ -12,8 +13,12 @@ mod failure;
 mod files;
 mod folder_files;
 mod found;
+mod kept_blocks;
+mod listening;
 mod locks;
 mod memory_files;
+mod messages;
+mod moving;
 mod numbers;
 mod options;
 mod orders;
@@ -23,22 +28,31 @@ mod purging;
 mod reading;
 mod recovered;
 mod stats;
+mod turns;
+mod unwritten;
+mod usage;
 mod writing;
 
 pub use entries::Entries;
 pub use files::Files;
 pub use folder_files::FolderFiles;
+pub use listening::Listener;
 pub use memory_files::{Ask, MemoryFiles, Unsynced};
 pub use options::Options;
 pub use pairs::Pairs;
-pub use purged::Purged;
+pub use purged::{Holder, Purged};
 pub use recovered::{CutTail, Recovered};
 pub use stats::{QueueStats, Stats};
+pub use usage::{QueueUsage, Usage};
 
 use commit::Commits;
 use failure::Failure;
 use found::Found;
+use kept_blocks::KeptBlocks;
+use listening::{Event, Events};
 use numbers::Numbers;
+use turns::Turns;
+use unwritten::Unwritten;
 
 /// The logs of many regions: tables in memory, and the files of all batches that were written, in a folder or behind any
 /// [`Files`].
@@ -124,12 +138,19 @@ pub struct Engine<F: Files = FolderFiles> {
     options: Options,
     /// What was cut when the files were opened.
     recovered: Recovered,
+    /// How long that took.
+    opening: Duration,
     /// The tables, locked for single calls.
     tables: Mutex<EngineHandle>,
     /// It is held from a call that orders something until that is carried out.
-    turn: Mutex<()>,
+    turns: Turns,
     numbers: Mutex<Numbers>,
+    /// What was ordered and isn't in the files yet.
+    unwritten: Unwritten,
+    kept_blocks: KeptBlocks,
     commits: Commits,
+    /// What the listener is told.
+    events: Events,
     /// Whether it takes no change.
     is_read_only: bool,
     /// Why the engine failed.
@@ -210,8 +231,20 @@ impl<F: Files> Engine<F> {
     /// stand in a row in one file; `Codec`, `Full`. Nothing was asked of the files then but to be read. `Io`, `Memory`: whatever
     /// is left has the records that were found.
     pub fn with_files(files: F, options: Options) -> Result<Engine<F>> {
-        let (engine, orders) = Engine::of_found(files, options)?;
-        engine.turn()?.carry_out(orders)?;
+        Engine::with_files_and(files, options, None)
+    }
+
+    /// Opens an engine over files, with a listener or without.
+    fn with_files_and(
+        files: F,
+        options: Options,
+        listener: Option<Arc<dyn Listener>>,
+    ) -> Result<Engine<F>> {
+        let begun = Instant::now();
+        let (mut engine, orders) = Engine::of_found(files, options)?;
+        engine.events = Events::of(listener);
+        engine.tell_after(|| engine.turn()?.open(orders))?;
+        engine.opening = begun.elapsed();
         Ok(engine)
     }
 
@@ -237,6 +270,7 @@ impl<F: Files> Engine<F> {
     ///
     /// Those of [`Engine::with_files`], but for those of changes.
     pub fn with_files_read_only(files: F, options: Options) -> Result<Engine<F>> {
+        let begun = Instant::now();
         let (engine, orders) = Engine::of_found(files, options)?;
         for order in orders {
             if let Order::Cut(queue, len) = order {
@@ -245,6 +279,7 @@ impl<F: Files> Engine<F> {
         }
         Ok(Engine {
             is_read_only: true,
+            opening: begun.elapsed(),
             ..engine
         })
     }
@@ -256,10 +291,14 @@ impl<F: Files> Engine<F> {
             files,
             options,
             recovered: opened.recovered,
+            opening: Duration::ZERO,
             tables: Mutex::new(opened.tables),
-            turn: Mutex::new(()),
+            turns: Turns::default(),
             numbers: Mutex::new(opened.numbers),
+            unwritten: Unwritten::default(),
+            kept_blocks: KeptBlocks::default(),
             commits: Commits::default(),
+            events: Events::default(),
             is_read_only: false,
             failure: OnceLock::new(),
         };
@@ -363,6 +402,9 @@ impl<F: Files> Engine<F> {
             rewrite: numbers.of(Queue::Rewrite, live[1]),
             batches: numbers.batches,
             syncs: numbers.syncs,
+            sync_time: numbers.sync_time,
+            opening: self.opening,
+            cut_bytes: self.recovered.cuts().map(|cut| cut.len).sum(),
         }
     }
 }

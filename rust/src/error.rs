@@ -1,6 +1,7 @@
 //! Why a call was refused.
 
 use crate::FileId;
+use std::error;
 use std::hash::{Hash, Hasher};
 use std::sync::Arc;
 use std::{fmt, io};
@@ -27,7 +28,7 @@ pub enum ErrorKind {
     Io,
     /// A number's spelling is cut short or is none.
     Codec,
-    /// A message refused to write itself. No call of this crate returns it.
+    /// A message can't be encoded, or bytes aren't a message.
     Message,
     /// The call may succeed later: another engine has the folder open.
     TryAgain,
@@ -132,8 +133,13 @@ pub struct Error {
     pub file: Option<FileId>,
     /// Where in that file.
     pub offset: Option<u64>,
-    source: Option<Arc<io::Error>>,
+    /// Which item of a batch, the first one of which is 0, doesn't fit the entries of its region.
+    pub item: Option<usize>,
+    source: Option<Source>,
 }
+
+/// The refusal that is the reason of another one.
+type Source = Arc<dyn error::Error + Send + Sync>;
 
 /// What a call returns that may be refused.
 ///
@@ -172,6 +178,7 @@ impl Error {
             text: text.into(),
             file: None,
             offset: None,
+            item: None,
             source: None,
         }
     }
@@ -217,6 +224,28 @@ impl Error {
         }
     }
 
+    /// Makes the refusal of a message, about something that these words name.
+    pub(crate) fn message(
+        about: impl fmt::Display,
+        source: impl Into<Box<dyn error::Error + Send + Sync>>,
+    ) -> Error {
+        let source = source.into();
+        let text = format!("Message Error: {about}: {source}");
+        Error {
+            source: Some(source.into()),
+            ..Error::new(ErrorKind::Message, text)
+        }
+    }
+
+    /// Says which item of a batch the refusal is about.
+    pub(crate) fn of_item(mut self, item: usize) -> Error {
+        if let Some((kind, reason)) = self.text.split_once(": ") {
+            self.text = format!("{kind}: item {item}: {reason}");
+        }
+        self.item = Some(item);
+        self
+    }
+
     /// Says which byte of a file the refusal is about.
     pub(crate) fn at(mut self, file: FileId, offset: u64) -> Error {
         if let Some((kind, reason)) = self.text.split_once(": ") {
@@ -240,7 +269,7 @@ fn place_in(text: &str) -> Option<(FileId, u64)> {
 impl PartialEq for Error {
     /// Compares kinds, words and places.
     fn eq(&self, other: &Error) -> bool {
-        let seen = |e: &Error| (e.kind, e.file, e.offset);
+        let seen = |e: &Error| (e.kind, e.file, e.offset, e.item);
         seen(self) == seen(other) && self.text == other.text
     }
 }
@@ -249,7 +278,7 @@ impl Eq for Error {}
 
 impl Hash for Error {
     fn hash<H: Hasher>(&self, state: &mut H) {
-        (self.kind, &self.text, self.file, self.offset).hash(state);
+        (self.kind, &self.text, self.file, self.offset, self.item).hash(state);
     }
 }
 
@@ -259,9 +288,9 @@ impl fmt::Display for Error {
     }
 }
 
-impl std::error::Error for Error {
-    /// Returns the refusal of the system, if that is the reason.
-    fn source(&self) -> Option<&(dyn std::error::Error + 'static)> {
+impl error::Error for Error {
+    /// Returns the refusal of the system, or of a message, if that is the reason.
+    fn source(&self) -> Option<&(dyn error::Error + 'static)> {
         let source = self.source.as_deref()?;
         Some(source)
     }

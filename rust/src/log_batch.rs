@@ -1,29 +1,15 @@
 //! Batches that are written.
 
-use crate::sys::LogBatchHandle;
-use crate::{Batch, Error, FileId, LogFile, Result};
+use crate::sys::{LogBatchHandle, Packed};
+use crate::{Batch, Error, ErrorKind, FileId, LogFile, Result, Summary};
 use std::fmt;
 
-/// How far a batch has come.
-///
-/// ```
-/// use raft_recover::{LogBatch, Stage};
-///
-/// let mut batch = LogBatch::new()?;
-/// assert_eq!(batch.stage(), Stage::Open);
-/// batch.finish()?;
-/// assert_eq!(batch.stage(), Stage::Encoded);
-/// # Ok::<(), raft_recover::Error>(())
-/// ```
-#[derive(Clone, Copy, PartialEq, Eq, PartialOrd, Ord, Hash, Debug)]
-pub enum Stage {
-    /// Items may be added.
-    Open,
-    /// Its bytes are made.
-    Encoded,
-    /// Its bytes are signed for a file.
-    Signed,
-}
+mod adding;
+mod shapes;
+mod stage;
+
+use shapes::{Shape, Shapes};
+pub use stage::Stage;
 
 /// Log items and the bytes of their entries. While it is open items are added; then its bytes are made, signed for a file and
 /// written there, and its items applied to tables.
@@ -71,15 +57,30 @@ pub enum Stage {
 pub struct LogBatch {
     handle: LogBatchHandle,
     signed: Option<FileId>,
+    /// What its items are.
+    shapes: Shapes,
+    /// Entries are packed here before they are added.
+    room: Packed,
 }
 
 impl LogBatch {
-    /// Makes one of a handle.
-    pub(crate) fn of(handle: LogBatchHandle) -> LogBatch {
+    /// Makes one of a handle without items.
+    fn of(handle: LogBatchHandle) -> LogBatch {
         LogBatch {
             handle,
             signed: None,
+            shapes: Shapes::default(),
+            room: Packed::default(),
         }
+    }
+
+    /// Makes one of a handle that has a `Clean` for each of these regions.
+    pub(crate) fn of_cleans(handle: LogBatchHandle, regions: &[u64]) -> LogBatch {
+        let mut batch = LogBatch::of(handle);
+        for region in regions {
+            batch.shapes.note(*region, Shape::Clean);
+        }
+        batch
     }
 
     /// Returns the handle.
@@ -106,6 +107,25 @@ impl LogBatch {
     /// `Memory`.
     pub fn new() -> Result<LogBatch> {
         Ok(LogBatch::of(LogBatchHandle::new()?))
+    }
+
+    /// Makes an open batch without items that has room to pack so many bytes of entries, so that
+    /// [`LogBatch::add_entries`] and [`LogBatch::add_messages`] need no more of it for them. It keeps this room when it is written.
+    ///
+    /// ```
+    /// # use raft_recover::LogBatch;
+    /// let mut batch = LogBatch::with_capacity(1 << 16)?;
+    /// batch.add_entries(7, 1, &["one", "two"])?;
+    /// # Ok::<(), raft_recover::Error>(())
+    /// ```
+    ///
+    /// # Errors
+    ///
+    /// `Memory`.
+    pub fn with_capacity(bytes: usize) -> Result<LogBatch> {
+        let mut batch = LogBatch::new()?;
+        batch.room = Packed::with_capacity(bytes)?;
+        Ok(batch)
     }
 
     /// Returns how far the batch has come.
@@ -138,6 +158,65 @@ impl LogBatch {
         self.approximate_size() == 0
     }
 
+    /// Returns how many items were added: each call that adds something adds one, whatever the number of its entries.
+    ///
+    /// ```
+    /// # use raft_recover::LogBatch;
+    /// # let mut batch = LogBatch::new()?;
+    /// batch.add_entries(7, 1, &["one", "two"])?;
+    /// batch.compact(7, 2)?;
+    /// assert_eq!(batch.len(), 2);
+    /// # Ok::<(), raft_recover::Error>(())
+    /// ```
+    #[must_use]
+    pub fn len(&self) -> usize {
+        self.shapes.len()
+    }
+
+    /// Takes all items away. The batch is open again, whatever its stage was.
+    ///
+    /// ```
+    /// # use raft_recover::{LogBatch, Stage};
+    /// # let mut batch = LogBatch::new()?;
+    /// batch.clean(7)?;
+    /// batch.finish()?;
+    /// batch.clear()?;
+    /// assert_eq!((batch.len(), batch.stage()), (0, Stage::Open));
+    /// # Ok::<(), raft_recover::Error>(())
+    /// ```
+    ///
+    /// # Errors
+    ///
+    /// `Memory`. The batch is then as it was.
+    pub fn clear(&mut self) -> Result<()> {
+        self.handle = LogBatchHandle::new()?;
+        self.signed = None;
+        self.shapes.clear();
+        Ok(())
+    }
+
+    /// Notes that the library has taken all items.
+    pub(crate) fn note_written(&mut self) {
+        self.shapes.clear();
+    }
+
+    /// Says of a refusal which item of the regions that are tested doesn't fit the entries of its own. A call finds what a region
+    /// has.
+    pub(crate) fn misfit(
+        &self,
+        refused: Error,
+        is_tested: impl Fn(u64) -> bool,
+        summary: impl FnMut(u64) -> Option<Summary>,
+    ) -> Error {
+        if refused.kind != ErrorKind::Corruption {
+            return refused;
+        }
+        match self.shapes.misfit(is_tested, summary) {
+            Some(item) => refused.of_item(item),
+            None => refused,
+        }
+    }
+
     /// Returns about how many bytes the batch will have, and how many it has once they are made: 0 without items.
     ///
     /// ```
@@ -151,118 +230,6 @@ impl LogBatch {
     #[must_use]
     pub fn approximate_size(&self) -> usize {
         self.handle.size()
-    }
-
-    /// Adds entries of a region: their bytes in the order of their indexes, which rise by one from `first` on. No entries add
-    /// nothing.
-    ///
-    /// ```
-    /// # use raft_recover::LogBatch;
-    /// # let mut batch = LogBatch::new()?;
-    /// batch.add_entries(7, 10, &["one", "two"])?;
-    /// batch.add_entries(8, 1, &[vec![0; 100]])?;
-    /// batch.add_entries(7, u64::MAX, &["the last index is kept free"]).unwrap_err();
-    /// assert_eq!(batch.into_items()?.len(), 2);
-    /// # Ok::<(), raft_recover::Error>(())
-    /// ```
-    ///
-    /// # Errors
-    ///
-    /// `InvalidArgument` where the batch is no longer open or an index would be 2^64 - 1 or more, `Full` where the entry bytes
-    /// of the batch would pass 2^31 - 1, `Memory`.
-    pub fn add_entries<E: AsRef<[u8]>>(
-        &mut self,
-        region: u64,
-        first: u64,
-        entries: &[E],
-    ) -> Result<()> {
-        self.handle.add_entries(region, first, entries)
-    }
-
-    /// Adds that all records of a region go.
-    ///
-    /// ```
-    /// # use raft_recover::{Content, LogBatch};
-    /// # let mut batch = LogBatch::new()?;
-    /// batch.clean(7)?;
-    /// assert_eq!(batch.into_items()?.get(0).unwrap().content, Content::Clean);
-    /// # Ok::<(), raft_recover::Error>(())
-    /// ```
-    ///
-    /// # Errors
-    ///
-    /// `InvalidArgument` where the batch is no longer open, `Memory`.
-    pub fn clean(&mut self, region: u64) -> Result<()> {
-        self.handle.clean(region)
-    }
-
-    /// Adds that the entries of a region below an index go.
-    ///
-    /// ```
-    /// # use raft_recover::{Content, LogBatch};
-    /// # let mut batch = LogBatch::new()?;
-    /// batch.compact(7, 10)?;
-    /// assert_eq!(batch.into_items()?.get(0).unwrap().content, Content::Compact { index: 10 });
-    /// # Ok::<(), raft_recover::Error>(())
-    /// ```
-    ///
-    /// # Errors
-    ///
-    /// `InvalidArgument` where the batch is no longer open, `Memory`.
-    pub fn compact(&mut self, region: u64, index: u64) -> Result<()> {
-        self.handle.compact(region, index)
-    }
-
-    /// Adds that the entries of a region from an index on go.
-    ///
-    /// ```
-    /// # use raft_recover::{Content, LogBatch};
-    /// # let mut batch = LogBatch::new()?;
-    /// batch.truncate(7, 10)?;
-    /// assert_eq!(batch.into_items()?.get(0).unwrap().content, Content::Truncate { index: 10 });
-    /// # Ok::<(), raft_recover::Error>(())
-    /// ```
-    ///
-    /// # Errors
-    ///
-    /// `InvalidArgument` where the batch is no longer open, `Memory`.
-    pub fn truncate(&mut self, region: u64, index: u64) -> Result<()> {
-        self.handle.truncate(region, index)
-    }
-
-    /// Adds that a key of a region gets a value.
-    ///
-    /// ```
-    /// # use raft_recover::LogBatch;
-    /// # let mut batch = LogBatch::new()?;
-    /// batch.put(7, b"key", b"value")?;
-    /// batch.put(7, b"__\x01", b"of a group").unwrap_err();
-    /// assert_eq!(batch.into_items()?.len(), 1);
-    /// # Ok::<(), raft_recover::Error>(())
-    /// ```
-    ///
-    /// # Errors
-    ///
-    /// `InvalidArgument` where the batch is no longer open or the key is that of the group markers, `Memory`.
-    pub fn put(&mut self, region: u64, key: &[u8], value: &[u8]) -> Result<()> {
-        self.handle.put(region, key, value)
-    }
-
-    /// Adds that a key of a region goes.
-    ///
-    /// ```
-    /// # use raft_recover::{Content, LogBatch};
-    /// # let mut batch = LogBatch::new()?;
-    /// batch.delete(7, b"key")?;
-    /// assert_eq!(batch.into_items()?.get(0).unwrap().content, Content::Delete { key: b"key".to_vec() });
-    /// # Ok::<(), raft_recover::Error>(())
-    /// ```
-    ///
-    /// # Errors
-    ///
-    /// `InvalidArgument` where the batch is no longer open, `Memory`.
-    pub fn delete(&mut self, region: u64, key: &[u8]) -> Result<()> {
-        self.handle.delete(region, key)
     }
 
     /// Moves all items of another batch to the end of this one. The other one is then empty.
@@ -282,7 +249,10 @@ impl LogBatch {
     /// `InvalidArgument` where one of the two is no longer open, `Full` where the entry bytes would pass 2^31 - 1, `Memory`.
     /// Both are then as they were.
     pub fn merge(&mut self, more: &mut LogBatch) -> Result<()> {
-        self.handle.merge(&mut more.handle)
+        self.shapes.reserve_for(&more.shapes)?;
+        self.handle.merge(&mut more.handle)?;
+        self.shapes.append(&mut more.shapes);
+        Ok(())
     }
 
     /// Makes the bytes, and returns how many they are: none without items. Nothing is added from then on.
@@ -400,6 +370,7 @@ impl fmt::Debug for LogBatch {
     fn fmt(&self, f: &mut fmt::Formatter<'_>) -> fmt::Result {
         f.debug_struct("LogBatch")
             .field("stage", &self.stage())
+            .field("len", &self.len())
             .field("approximate_size", &self.approximate_size())
             .finish_non_exhaustive()
     }

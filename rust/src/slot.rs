@@ -356,7 +356,9 @@ impl Slot {
     ///
     /// `Corruption` where an item would be refused: the text names the region, the index and the reason. `Memory`.
     pub fn check_append(&self, batch: &LogBatch) -> Result<()> {
-        self.tables.handle.check_share(self.number, batch.handle())
+        let checked = self.tables.handle.check_share(self.number, batch.handle());
+        let is_here = |region| slot_of(region) == self.number;
+        checked.map_err(|e| batch.misfit(e, is_here, |region| self.summary(region)))
     }
 
     /// Writes those items of a batch of the append queue whose regions are of the slot, in order. The others are those of other

@@ -33,6 +33,7 @@ mod items;
 mod lists;
 mod log_batch;
 mod numbers;
+mod packed;
 mod table_calls;
 mod tables;
 
@@ -40,10 +41,12 @@ pub(crate) use context::ContextHandle;
 pub(crate) use engine::{EngineHandle, Order, block_entries};
 pub(crate) use found::FoundHandle;
 pub(crate) use items::ItemsHandle;
+pub(crate) use lists::PackedPairs;
 pub(crate) use log_batch::LogBatchHandle;
+pub(crate) use packed::Packed;
 pub(crate) use tables::TablesHandle;
 
-use lists::{found, listed, make_room, pairs};
+use lists::{found, listed, listed_in, make_room, packed_pairs, pairs};
 use numbers::{EntryNumbers, File, Maybe, SummaryNumbers, entries, numbers};
 
 /// The pointer of a box in the library, null where there is none.
@@ -123,7 +126,7 @@ fn with<A>(cell: &Cell<Handle>, call: impl FnOnce(*mut Handle) -> A) -> A {
 pub(crate) fn readable_front(part: FilePart<'_>) -> (usize, Option<Error>) {
     part.check().expect("a part ends where an offset can");
     let mut len = 0;
-    // SAFETY: the bytes end where an offset can.
+    // SAFETY: `ends`: the bytes end where an offset can.
     let refused = refusal(|text, text_len| unsafe {
         raft_ffi_readable_front(
             part.file.into(),

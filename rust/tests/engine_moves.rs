@@ -81,7 +81,7 @@ fn a_large_region_moves_again_in_a_group_of_batches() {
 
 #[test]
 fn a_rewriting_of_more_than_is_read_at_once_moves_all() {
-    // 30 MiB, where 8 MiB are read at once: so the blocks are listed several times
+    // 30 MiB, where 1 MiB or a region is read at once: so the blocks are listed many times
     let engine = engine();
     let entry = |region: u64| vec![region as u8; 3 << 20];
     for region in 1..=10 {

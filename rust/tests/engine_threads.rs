@@ -233,26 +233,84 @@ fn reading_waits_for_no_sync() {
     });
 }
 
-#[test]
-fn an_entry_whose_bytes_are_on_their_way_is_waited_for() {
-    let gate = Arc::new(Gate::default());
+/// Files whose writes wait at one gate and whose syncs at another one.
+fn gated(
+    writes: &Gate,
+    syncs: &Gate,
+) -> Engine<Hooked<impl Fn(Call<'_>) -> io::Result<()> + Send + Sync>> {
     let hooked = Hooked::new(&MemoryFiles::new(), |call: Call<'_>| {
-        if matches!(call, Call::Write(..)) {
-            gate.pass();
+        match call {
+            Call::Write(..) => writes.pass(),
+            Call::Sync(_) => syncs.pass(),
+            _ => {}
         }
         Ok(())
     });
-    let engine = Engine::with_files(hooked, Options::new()).unwrap();
+    Engine::with_files(hooked, Options::new()).unwrap()
+}
+
+#[test]
+fn the_newest_entry_is_read_while_its_bytes_are_on_their_way() {
+    let [writes, syncs] = [Gate::default(), Gate::default()];
+    let engine = gated(&writes, &syncs);
+    let read = |newest: u64| {
+        let text = newest.to_string().into_bytes();
+        assert_eq!(engine.entry(7, newest).unwrap(), Some(text));
+        assert_eq!(engine.entries(7, ..).unwrap().len() as u64, newest);
+        assert_eq!(engine.last_index(7).unwrap(), Some(newest));
+    };
     thread::scope(|scope| {
-        let closed = gate.close();
-        scope.spawn(|| engine.write(&mut batch(7, 1), false).unwrap());
-        gate.wait_for(1);
-        let reading = scope.spawn(|| engine.entry(7, 1));
-        thread::sleep(Duration::from_millis(20));
-        assert!(!reading.is_finished());
-        drop(closed);
-        assert_eq!(reading.join().unwrap().unwrap().unwrap(), b"1");
+        for index in 1..=3 {
+            let (written, synced) = (writes.close(), syncs.close());
+            let engine = &engine;
+            scope.spawn(move || engine.write(&mut batch(7, index), true).unwrap());
+            writes.wait_for(index as usize);
+            read(index); // its bytes aren't in the file
+            drop(written);
+            syncs.wait_for(index as usize);
+            read(index); // they are, and are synced just now
+            drop(synced);
+            engine.sync().unwrap();
+        }
     });
+}
+
+#[test]
+fn what_is_written_is_read_from_its_file() {
+    let reads = AtomicUsize::new(0);
+    let hooked = Hooked::new(&MemoryFiles::new(), |call: Call<'_>| {
+        reads.fetch_add(usize::from(matches!(call, Call::Read(..))), SeqCst);
+        Ok(())
+    });
+    let engine = Engine::with_files(hooked, Options::new().target_file_size(100)).unwrap();
+    for index in 1..=9 {
+        engine.write(&mut batch(7, index), index % 2 == 0).unwrap();
+        assert_eq!(
+            engine.entry(7, index).unwrap(),
+            Some(index.to_string().into())
+        );
+        assert_eq!(reads.load(SeqCst) as u64, index, "it isn't kept in memory");
+    }
+}
+
+#[test]
+fn an_entry_is_read_while_its_bytes_move() {
+    let [writes, syncs] = [Gate::default(), Gate::default()];
+    let engine = gated(&writes, &syncs);
+    for index in 1..=3 {
+        engine.write(&mut batch(7, index), false).unwrap();
+    }
+    engine.rotate().unwrap();
+    thread::scope(|scope| {
+        let closed = writes.close();
+        scope.spawn(|| engine.rewrite(1).unwrap());
+        writes.wait_for(1);
+        let texts: Vec<_> = engine.entries(7, ..).unwrap().collect();
+        assert_eq!(texts, [b"1", b"2", b"3"]);
+        drop(closed);
+    });
+    assert_eq!(engine.purge().unwrap().append_files, 1);
+    assert_eq!(engine.entries(7, ..).unwrap().len(), 3);
 }
 
 #[test]
@@ -284,7 +342,7 @@ fn an_entry_that_moves_while_it_is_read_is_found() {
 }
 
 #[test]
-fn an_entry_that_is_looked_up_again_moves_no_more() {
+fn an_entry_that_moves_twice_while_it_is_read_is_found() {
     let (gate, looked_again) = (Gate::default(), Gate::default());
     let [is_held, is_moved] = [false, false].map(AtomicBool::new);
     let hooked = Hooked::new(&MemoryFiles::new(), |call: Call<'_>| {

@@ -205,6 +205,7 @@ impl Disk {
             ("openat", "") if !call.rest.contains("O_DIRECTORY") => {
                 (self.is_found, self.locks) = (true, 0);
             }
+            ("flock", _) if call.rest.contains("LOCK_UN") => {} // the engine is dropped
             ("flock", _) => self.locks += 1,
             ("openat", "LOCK") => assert_eq!(self.locks, 1, "the folder itself is locked first"),
             _ => assert_eq!(self.locks, 2, "{} {name}", call.what),

@@ -251,3 +251,18 @@ fn files_behind_an_arc_are_asked_the_same() {
     let opened = Engine::with_files(left, Options::new()).unwrap();
     assert_eq!(region_of(&opened, 7).unwrap(), expected);
 }
+
+#[test]
+fn each_ask_is_of_a_queue() {
+    for queue in [Queue::Append, Queue::Rewrite] {
+        let file = FileId::new(queue, 1);
+        let asks = [
+            Ask::Write(file, b"bytes".to_vec()),
+            Ask::Sync(queue),
+            Ask::Begin(file),
+            Ask::Delete(file),
+            Ask::Cut(file, 3),
+        ];
+        assert!(asks.iter().all(|ask| ask.queue() == queue));
+    }
+}

@@ -92,7 +92,7 @@ impl Model {
     }
 
     fn snapshot_at(&self, index: u64, term: u64, members: u64) -> SnapshotMetadata {
-        let conf_state = ConfState((0..members).collect());
+        let conf_state: ConfState = (0..members).collect();
         SnapshotMetadata {
             conf_state,
             index,
@@ -317,14 +317,24 @@ fn killed(folder: &TempFolder, seed: u64, taken: u64, draw: &mut Draw) -> u64 {
     numbers.last().or(heard).unwrap()
 }
 
+/// How often a process that writes a history is killed.
+const KILLS: u64 = 10;
+
+/// A number of the environment, or another one where it isn't set.
+fn number_of(variable: &str, otherwise: u64) -> u64 {
+    env::var(variable).map_or(otherwise, |number| number.parse().unwrap())
+}
+
+/// As `SEED=100 HISTORIES=20` it writes twenty histories of these seeds, and kills their processes two hundred times.
 #[test]
 fn a_log_has_what_was_acknowledged_whenever_its_process_is_killed() {
-    let mut draw = Draw::new(1);
-    for seed in 0..3 {
+    let (first, count) = (number_of("SEED", 0), number_of("HISTORIES", 3));
+    let (mut draw, mut steps) = (Draw::new(first), 0);
+    for seed in first..first + count {
         let room = TempFolder::new();
         let mut history = History::new(seed);
         let mut taken = 0;
-        for _ in 0..10 {
+        for _ in 0..KILLS {
             let said = killed(&room, seed, taken, &mut draw);
             assert!(said > taken);
             while taken < said {
@@ -340,5 +350,7 @@ fn a_log_has_what_was_acknowledged_whenever_its_process_is_killed() {
                 assert!(has(&log, &history.model), "seed {seed}, step {said}");
             }
         }
+        steps += taken;
     }
+    println!("{} kills, {steps} steps that lasted", count * KILLS);
 }

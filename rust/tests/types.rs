@@ -2,9 +2,9 @@
 
 use raft_recover::{
     Ask, Batch, BatchIntoIter, BatchIter, Batches, Block, Content, Context, Engine, Entries, Entry,
-    Error, ErrorKind, FileId, FilePart, Files, FolderFiles, Item, Kept, LogBatch, LogFile,
-    MemoryFiles, Options, Pair, Pairs, Purged, Queue, QueueStats, Slot, Stage, Stats, Summary,
-    Tables, Unsynced, Version,
+    Error, ErrorKind, FileId, FilePart, Files, FolderFiles, Holder, Item, Kept, Listener, LogBatch,
+    LogFile, MemoryFiles, Message, Options, Pair, Pairs, Purged, Queue, QueueStats, QueueUsage,
+    Slot, Stage, Stats, Summary, Tables, Unsynced, Usage, Version,
 };
 use std::collections::{BTreeSet, HashSet};
 use std::fmt::{Debug, Display};
@@ -68,7 +68,12 @@ all_are!(std::error::Error => Error);
 all_are!(Iterator, FusedIterator, Debug => BatchIter<'static>, BatchIntoIter, Batches<'static>);
 all_are!(Iterator, FusedIterator, ExactSizeIterator, DoubleEndedIterator => Entries, Pairs);
 all_are!(ExactSizeIterator, DoubleEndedIterator => BatchIter<'static>, BatchIntoIter);
-all_are!(Copy, Default => Purged, QueueStats, Stats, Unsynced);
+all_are!(Copy, Default => QueueStats, QueueUsage, Stats, Summary, Unsynced, Usage);
+all_are!(Send, Sync, Debug, Clone, PartialEq, Eq, Hash => Holder, QueueUsage, Usage);
+all_are!(Default => Purged);
+all_are!(Copy => Holder);
+all_are!(Message => String, Vec<u8>);
+all_are!(Send, Sync => Arc<dyn Listener>);
 all_are!(Send, Sync, Clone => Batches<'static>);
 
 #[test]

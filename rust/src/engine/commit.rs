@@ -26,6 +26,8 @@ struct Line {
     over: Vec<Commit>,
     /// Whether a thread leads.
     is_led: bool,
+    /// How many threads wait for the one that leads.
+    sleepers: usize,
 }
 
 /// A batch that was handed in.
@@ -45,8 +47,16 @@ impl Commit {
     /// Writes the batch to the tables, and notes a refusal.
     pub(super) fn write(&mut self, tables: &mut EngineHandle) {
         let has_items = !self.batch.is_empty();
-        self.result = tables.write(self.batch.handle_mut()).err().map(Err);
-        self.is_written = has_items && self.result.is_none();
+        match tables.write(self.batch.handle_mut()) {
+            Ok(()) => {
+                self.batch.note_written();
+                self.is_written = has_items;
+            }
+            Err(e) => {
+                let summary = |region| tables.summary(region);
+                self.result = Some(Err(self.batch.misfit(e, |_| true, summary)));
+            }
+        }
     }
 }
 
@@ -71,13 +81,26 @@ impl Commits {
                 return over.result.unwrap_or_else(|| Err(Error::failed()));
             }
             if line.is_led {
+                line.sleepers += 1;
                 line = locks::wait(&self.is_over, line);
+                line.sleepers -= 1;
                 continue;
             }
             line.is_led = true;
             drop(line);
             lead(&mut Group::of(self));
             line = locks::lock(&self.line);
+        }
+    }
+
+    /// Makes a change of the line, and wakes the threads that wait, if any do: to wake nobody would cost a call of the system.
+    fn change(&self, change: impl FnOnce(&mut Line)) {
+        let mut line = locks::lock(&self.line);
+        change(&mut line);
+        let is_awaited = line.sleepers > 0;
+        drop(line);
+        if is_awaited {
+            self.is_over.notify_all();
         }
     }
 }

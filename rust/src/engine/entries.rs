@@ -6,6 +6,7 @@ use crate::{Block, Entry, Error, Files, Result};
 use std::fmt;
 use std::iter::FusedIterator;
 use std::ops::Range;
+use std::sync::Arc;
 use std::vec;
 
 /// The bytes of entries of a region, in the order of their indexes.
@@ -27,10 +28,12 @@ use std::vec;
 /// assert_eq!((entries.next(), entries.index()), (None, None));
 /// # Ok::<(), raft_recover::Error>(())
 /// ```
+///
+/// Each item is a copy of the entry's bytes; [`Entries::iter`] lends them.
 #[derive(Clone, Default)]
 pub struct Entries {
     /// The entry bytes of the blocks that hold them.
-    blocks: Vec<Vec<u8>>,
+    blocks: Vec<Arc<Vec<u8>>>,
     rest: vec::IntoIter<Place>,
 }
 
@@ -49,14 +52,14 @@ impl Entries {
     ///
     /// `Corruption` where no sound block with the bytes of an entry stands at its place, `Io`, `Memory`.
     pub(super) fn read<F: Files>(engine: &Engine<F>, entries: &[Entry]) -> Result<Entries> {
-        let (mut blocks, mut last) = (Vec::<Vec<u8>>::new(), None);
+        let (mut blocks, mut last) = (Vec::<Arc<Vec<u8>>>::new(), None);
         let mut places = Vec::new();
         places
             .try_reserve_exact(entries.len())
             .map_err(|_| Error::memory())?;
         for entry in entries {
             if last != Some(entry.block) {
-                blocks.push(read_entry_bytes(engine, entry.block)?);
+                blocks.push(entry_bytes(engine, entry.block)?);
                 last = Some(entry.block);
             }
             let block = blocks.len() - 1;
@@ -67,6 +70,9 @@ impl Entries {
                 block,
                 bytes,
             });
+        }
+        if let Some((block, bytes)) = last.zip(blocks.last()) {
+            engine.kept_blocks.keep(block, bytes);
         }
         Ok(Entries {
             blocks,
@@ -93,9 +99,31 @@ impl Entries {
         self.rest.as_slice().first().map(|place| place.index)
     }
 
+    /// Lends the entries that are left, each with its index, from the first one on or from the last. No byte is copied.
+    ///
+    /// ```
+    /// # use raft_recover::{Engine, LogBatch, MemoryFiles, Options};
+    /// # let engine = Engine::with_files(MemoryFiles::new(), Options::new())?;
+    /// # let mut batch = LogBatch::new()?;
+    /// batch.add_entries(7, 10, &["one", "two", "three"])?;
+    /// engine.write(&mut batch, true)?;
+    /// let entries = engine.entries(7, ..)?;
+    /// let shortest = entries.iter().rev().min_by_key(|(_, bytes)| bytes.len());
+    /// assert_eq!(shortest, Some((11, &b"two"[..])));
+    /// assert_eq!(entries.len(), 3); // none was taken
+    /// # Ok::<(), raft_recover::Error>(())
+    /// ```
+    pub fn iter(
+        &self,
+    ) -> impl DoubleEndedIterator<Item = (u64, &[u8])> + ExactSizeIterator + FusedIterator + Clone
+    {
+        let places = self.rest.as_slice().iter();
+        places.map(|place| (place.index, self.bytes(place)))
+    }
+
     /// Returns the bytes at a place.
-    fn bytes(&self, place: Place) -> Vec<u8> {
-        self.blocks[place.block][place.bytes].to_vec()
+    fn bytes(&self, place: &Place) -> &[u8] {
+        &self.blocks[place.block][place.bytes.clone()]
     }
 }
 
@@ -104,7 +132,7 @@ impl Iterator for Entries {
 
     fn next(&mut self) -> Option<Vec<u8>> {
         let place = self.rest.next()?;
-        Some(self.bytes(place))
+        Some(self.bytes(&place).to_vec())
     }
 
     fn size_hint(&self) -> (usize, Option<usize>) {
@@ -115,7 +143,7 @@ impl Iterator for Entries {
 impl DoubleEndedIterator for Entries {
     fn next_back(&mut self) -> Option<Vec<u8>> {
         let place = self.rest.next_back()?;
-        Some(self.bytes(place))
+        Some(self.bytes(&place).to_vec())
     }
 }
 
@@ -160,6 +188,14 @@ pub(super) fn read_block<F: Files>(engine: &Engine<F>, block: Block) -> Result<V
             })?;
     }
     Ok(bytes)
+}
+
+/// Returns the entry bytes of a block that is kept, or reads them.
+fn entry_bytes<F: Files>(engine: &Engine<F>, block: Block) -> Result<Arc<Vec<u8>>> {
+    match engine.kept_blocks.get(block) {
+        Some(kept) => Ok(kept),
+        None => Ok(Arc::new(read_entry_bytes(engine, block)?)),
+    }
 }
 
 /// Reads the entry bytes of a block, and tests their checksum. A block of no bytes has none.

@@ -6,17 +6,18 @@ use std::collections::{BTreeMap, BTreeSet};
 use std::fmt;
 use std::fs::{self, File, OpenOptions};
 use std::io;
-use std::os::unix::fs::FileExt;
 use std::path::{Path, PathBuf};
 use std::sync::{Arc, Mutex, RwLock};
 
 mod aside;
 mod locking;
 mod names;
+mod reading;
 mod writing;
 
 use locking::LockedFolder;
 use names::{id_of, name_of};
+use reading::read_at;
 use writing::write_all_or_nothing;
 
 /// The files of both queues in a folder, as `0000000000000001.raftlog` and `0000000000000001.rewrite`, and a file `LOCK`. It and
@@ -246,7 +247,7 @@ impl Files for FolderFiles {
             let old = opened.metadata()?.len();
             if len < old {
                 let mut tail = vec![0; (old - len) as usize];
-                opened.read_exact_at(&mut tail, len)?;
+                read_at(&opened, &mut tail, len)?;
                 aside::keep(&self.path, file, len, &tail)?;
                 self.locked.folder.sync_all()?;
                 opened.set_len(len)?;
@@ -258,7 +259,7 @@ impl Files for FolderFiles {
     }
 
     fn read(&self, file: FileId, offset: u64, bytes: &mut [u8]) -> io::Result<()> {
-        self.file(file)?.read_exact_at(bytes, offset)
+        read_at(self.file(file)?.as_ref(), bytes, offset)
     }
 }
 

@@ -3,6 +3,7 @@
 use super::QueueStats;
 use crate::{FileId, Queue};
 use std::collections::BTreeMap;
+use std::time::Duration;
 
 /// The files of both queues by their orders, and what was done with them.
 #[derive(Debug, Default)]
@@ -14,6 +15,7 @@ pub(super) struct Numbers {
     pub(super) needed_rewritten: Option<u64>,
     pub(super) batches: u64,
     pub(super) syncs: u64,
+    pub(super) sync_time: Duration,
 }
 
 impl Numbers {

@@ -25,10 +25,13 @@ pub struct Options {
     pub target_file_size: u64,
     /// Where the files of a queue have more bytes than this, `Engine::purge` moves what it needs to let old ones go.
     pub purge_above: u64,
+    /// Of the rewrite queue it does so where at least so many of a hundred bytes aren't needed. Above 100 it never does.
+    pub purge_garbage: u8,
 }
 
 impl Options {
-    /// Files of version 2 of 64 MiB, read on up to four threads, with up to 1 GiB in each queue.
+    /// Files of version 2 of 64 MiB, read on up to four threads, with up to 1 GiB in each queue, or more where half of it or more is
+    /// needed.
     ///
     /// ```
     /// # use raft_recover::Options;
@@ -42,6 +45,7 @@ impl Options {
                 .min(4),
             target_file_size: 64 << 20,
             purge_above: 1 << 30,
+            purge_garbage: 50,
         }
     }
 
@@ -90,6 +94,19 @@ impl Options {
     pub fn purge_above(self, purge_above: u64) -> Options {
         Options {
             purge_above,
+            ..self
+        }
+    }
+
+    /// Sets from how many needless ones of a hundred bytes on `Engine::purge` moves the records of the rewrite queue again.
+    ///
+    /// ```
+    /// # use raft_recover::Options;
+    /// assert_eq!(Options::new().purge_garbage(60).purge_garbage, 60);
+    /// ```
+    pub fn purge_garbage(self, purge_garbage: u8) -> Options {
+        Options {
+            purge_garbage,
             ..self
         }
     }

@@ -1,17 +1,17 @@
 //! What an engine orders is carried out, in turn.
 
-use super::failure::Unwritten;
-use super::{Engine, locks};
+use super::turns::Having;
+use super::{Engine, Event, locks};
 use crate::sys::{EngineHandle, Order};
 use crate::{Error, ErrorKind, FileId, Files, Queue, Result};
-use std::sync::MutexGuard;
-use std::{iter, thread};
+use std::thread;
+use std::time::Instant;
 
 /// The turn of a thread, which has it to itself: it makes calls that order something, and carries the orders out. An engine
 /// on which it panics has failed.
 pub(super) struct Turn<'a, F: Files> {
     engine: &'a Engine<F>,
-    _guard: MutexGuard<'a, ()>,
+    _turn: Having<'a>,
 }
 
 impl<F: Files> Drop for Turn<'_, F> {
@@ -34,7 +34,7 @@ impl<F: Files> Engine<F> {
     pub(super) fn turn(&self) -> Result<Turn<'_, F>> {
         let turn = Turn {
             engine: self,
-            _guard: locks::lock(&self.turn),
+            _turn: self.turns.take(),
         };
         self.intact()?;
         Ok(turn)
@@ -54,10 +54,27 @@ impl<F: Files> Turn<'_, F> {
             let reason = result.err().unwrap_or_else(Error::failed);
             return Err(self.engine.fail(reason));
         }
-        let orders = tables.take_orders();
+        let orders = tables.take_orders().map_err(|e| self.engine.fail(e))?;
+        self.note(&orders); // before a reader can find what isn't written yet
         drop(tables);
-        self.carry_out(orders.map_err(|e| self.engine.fail(e))?)?;
+        self.carry_out(orders)?;
         result
+    }
+
+    /// Carries out what an opening orders.
+    ///
+    /// # Errors
+    ///
+    /// Those of [`Turn::carry_out`].
+    pub(super) fn open(&self, orders: Vec<Order>) -> Result<()> {
+        self.note(&orders);
+        self.carry_out(orders)
+    }
+
+    /// Notes the bytes of orders, which are read from memory until they are written.
+    fn note(&self, orders: &[Order]) {
+        let numbers = locks::lock(&self.engine.numbers);
+        self.engine.unwritten.note(orders, &numbers);
     }
 
     /// Carries orders out, one after another.
@@ -65,14 +82,10 @@ impl<F: Files> Turn<'_, F> {
     /// # Errors
     ///
     /// `Io` where one can't be carried out: the engine has failed then, and keeps the bytes of that one and of those after it.
-    pub(super) fn carry_out(&self, orders: Vec<Order>) -> Result<()> {
-        let mut orders = orders.into_iter();
-        while let Some(order) = orders.next() {
-            if let Err(e) = self.carry_out_one(&order) {
-                let left = iter::once(order).chain(orders);
-                let unwritten = Unwritten::of(left, &locks::lock(&self.engine.numbers));
-                return Err(self.engine.fail_files(e, unwritten));
-            }
+    fn carry_out(&self, orders: Vec<Order>) -> Result<()> {
+        for order in orders {
+            self.carry_out_one(&order)
+                .map_err(|e| self.engine.fail_files(e))?;
         }
         Ok(())
     }
@@ -93,6 +106,7 @@ impl<F: Files> Turn<'_, F> {
         written.map_err(|e| Error::system("a batch can't be written", e).at(file, len))?;
         let len = len + bytes.len() as u64;
         locks::lock(&self.engine.numbers).set_len(file, len);
+        self.engine.unwritten.forget_oldest();
         Ok(())
     }
 
@@ -100,14 +114,21 @@ impl<F: Files> Turn<'_, F> {
         let begun = self.engine.files.rotate(file);
         begun.map_err(|e| Error::system("the file can't be begun", e).at(file, 0))?;
         locks::lock(&self.engine.numbers).set_len(file, 0);
+        self.engine.events.note(Event::Begun(file));
         Ok(())
     }
 
     fn sync(&self, queue: Queue) -> Result<()> {
         let (file, len) = self.last(queue)?;
+        let begun = Instant::now();
         let synced = self.engine.files.sync(queue);
         synced.map_err(|e| Error::system("the file can't be synced", e).at(file, len))?;
-        locks::lock(&self.engine.numbers).syncs += 1;
+        let took = begun.elapsed();
+        let mut numbers = locks::lock(&self.engine.numbers);
+        numbers.syncs += 1;
+        numbers.sync_time += took;
+        drop(numbers);
+        self.engine.events.note(Event::Synced(file, took));
         Ok(())
     }
 
@@ -117,6 +138,7 @@ impl<F: Files> Turn<'_, F> {
         let deleted = self.engine.files.delete(file);
         deleted.map_err(|e| Error::system("the file can't be deleted", e).at(file, 0))?;
         locks::lock(&self.engine.numbers).forget(file);
+        self.engine.events.note(Event::Deleted(file));
         Ok(())
     }
 
@@ -125,6 +147,10 @@ impl<F: Files> Turn<'_, F> {
         let cut = self.engine.files.truncate(file, len);
         cut.map_err(|e| Error::system("the file can't be cut", e).at(file, len))?;
         locks::lock(&self.engine.numbers).cut(queue, len);
+        let recovered = &self.engine.recovered;
+        for cut in recovered.cuts().filter(|cut| cut.file == file) {
+            self.engine.events.note(Event::Cut(cut.clone()));
+        }
         Ok(())
     }
 

@@ -1,9 +1,10 @@
 //! Keys with their values that were read.
 
-use crate::Pair;
+use crate::sys::PackedPairs;
+use crate::{Error, Result};
 use std::fmt;
 use std::iter::FusedIterator;
-use std::ops::{Bound, RangeBounds};
+use std::ops::{Bound, Range, RangeBounds};
 use std::vec;
 
 /// Keys of a region with their values, in the order of the keys.
@@ -29,17 +30,96 @@ use std::vec;
 /// assert_eq!(pairs.next(), None);
 /// # Ok::<(), raft_recover::Error>(())
 /// ```
+///
+/// Each item is a copy of the key and of its value. [`Pairs::iter`] lends them, in either order:
+///
+/// ```
+/// # use raft_recover::{Engine, LogBatch, MemoryFiles, Options};
+/// # let engine = Engine::with_files(MemoryFiles::new(), Options::new())?;
+/// # let mut batch = LogBatch::new()?;
+/// for (key, value) in [("a", "1"), ("b", "2"), ("c", "3")] {
+///     batch.put(7, key.as_bytes(), value.as_bytes())?;
+/// }
+/// engine.write(&mut batch, false)?;
+/// for (key, value) in engine.scan(7, ..&b"c"[..])?.iter().rev() {
+///     if value == b"1" {
+///         break;
+///     }
+///     assert_eq!((key, value), (&b"b"[..], &b"2"[..]));
+/// }
+/// # Ok::<(), raft_recover::Error>(())
+/// ```
 #[derive(Clone, Default)]
 pub struct Pairs {
-    rest: vec::IntoIter<Pair>,
+    bytes: Vec<u8>,
+    rest: vec::IntoIter<Place>,
+}
+
+/// Where the bytes of a key and of its value are.
+#[derive(Clone)]
+struct Place {
+    key: Range<usize>,
+    value: Range<usize>,
 }
 
 impl Pairs {
     /// Makes one of pairs in order.
-    pub(super) fn of(pairs: Vec<Pair>) -> Pairs {
-        Pairs {
-            rest: pairs.into_iter(),
-        }
+    ///
+    /// # Errors
+    ///
+    /// `Memory`.
+    pub(super) fn of(packed: PackedPairs) -> Result<Pairs> {
+        let PackedPairs { lens, bytes } = packed;
+        let mut places = Vec::new();
+        places
+            .try_reserve_exact(lens.len() / 2)
+            .map_err(|_| Error::memory())?;
+        let mut end = 0;
+        let mut next = |len| {
+            let start = end;
+            end += len;
+            start..end
+        };
+        places.extend(lens.chunks_exact(2).map(|lens| Place {
+            key: next(lens[0]),
+            value: next(lens[1]),
+        }));
+        Ok(Pairs {
+            bytes,
+            rest: places.into_iter(),
+        })
+    }
+
+    /// Lends the pairs that are left, each as the key and its value, in the order of the keys or from the last one on. No byte is
+    /// copied.
+    ///
+    /// ```
+    /// # use raft_recover::{Engine, LogBatch, MemoryFiles, Options};
+    /// # let engine = Engine::with_files(MemoryFiles::new(), Options::new())?;
+    /// # let mut batch = LogBatch::new()?;
+    /// batch.put(7, b"a", b"1")?;
+    /// batch.put(7, b"b", b"2")?;
+    /// engine.write(&mut batch, true)?;
+    /// let pairs = engine.scan(7, ..)?;
+    /// assert_eq!(pairs.iter().next_back(), Some((&b"b"[..], &b"2"[..])));
+    /// assert_eq!(pairs.len(), 2); // none was taken
+    /// # Ok::<(), raft_recover::Error>(())
+    /// ```
+    pub fn iter(
+        &self,
+    ) -> impl DoubleEndedIterator<Item = (&[u8], &[u8])> + ExactSizeIterator + FusedIterator + Clone
+    {
+        let places = self.rest.as_slice().iter();
+        places.map(|place| {
+            let [key, value] = [&place.key, &place.value].map(|range| &self.bytes[range.clone()]);
+            (key, value)
+        })
+    }
+
+    /// Copies a pair.
+    fn pair(&self, place: Place) -> (Vec<u8>, Vec<u8>) {
+        let [key, value] = [place.key, place.value].map(|range| self.bytes[range].to_vec());
+        (key, value)
     }
 }
 
@@ -47,7 +127,8 @@ impl Iterator for Pairs {
     type Item = (Vec<u8>, Vec<u8>);
 
     fn next(&mut self) -> Option<(Vec<u8>, Vec<u8>)> {
-        self.rest.next().map(|pair| (pair.key, pair.value))
+        let place = self.rest.next()?;
+        Some(self.pair(place))
     }
 
     fn size_hint(&self) -> (usize, Option<usize>) {
@@ -57,7 +138,8 @@ impl Iterator for Pairs {
 
 impl DoubleEndedIterator for Pairs {
     fn next_back(&mut self) -> Option<(Vec<u8>, Vec<u8>)> {
-        self.rest.next_back().map(|pair| (pair.key, pair.value))
+        let place = self.rest.next_back()?;
+        Some(self.pair(place))
     }
 }
 

@@ -1,9 +1,12 @@
 //! An engine is read.
 
-use super::{Engine, Entries, Pairs, locks, pairs};
+use super::{Engine, Entries, Pairs, pairs};
 use crate::sys::EngineHandle;
 use crate::{Entry, Files, Result, Summary};
 use std::ops::{Bound, Range, RangeBounds};
+
+/// How often entries are found and read before a reader waits for a turn.
+const LOOK_UPS: usize = 4;
 
 impl<F: Files> Engine<F> {
     /// Returns an entry of a region, if there is one.
@@ -25,6 +28,61 @@ impl<F: Files> Engine<F> {
     pub fn entry(&self, region: u64, index: u64) -> Result<Option<Vec<u8>>> {
         let mut entries = self.read(|tables| Ok(Vec::from_iter(tables.entry(region, index))))?;
         Ok(entries.next())
+    }
+
+    /// Lends an entry of a region to a call, if there is one, and returns what that returns. The bytes aren't copied.
+    ///
+    /// ```
+    /// # use raft_recover::{Engine, LogBatch, MemoryFiles, Options};
+    /// # let engine = Engine::with_files(MemoryFiles::new(), Options::new())?;
+    /// # let mut batch = LogBatch::new()?;
+    /// batch.add_entries(7, 10, &["one", "two", "three"])?;
+    /// engine.write(&mut batch, true)?;
+    /// assert_eq!(engine.entry_with(7, 12, |bytes| bytes.len())?, Some(5));
+    /// assert_eq!(engine.entry_with(7, 13, |bytes| bytes.len())?, None);
+    /// # Ok::<(), raft_recover::Error>(())
+    /// ```
+    ///
+    /// # Errors
+    ///
+    /// Those of [`Engine::entry`].
+    pub fn entry_with<T>(
+        &self,
+        region: u64,
+        index: u64,
+        call: impl FnOnce(&[u8]) -> T,
+    ) -> Result<Option<T>> {
+        let entries = self.read(|tables| Ok(Vec::from_iter(tables.entry(region, index))))?;
+        Ok(entries.iter().next().map(|(_, bytes)| call(bytes)))
+    }
+
+    /// Lends the entries of a range of indexes to a call, one after another, each with its index. They aren't copied, and all of
+    /// them were read before the first call. [`Entries::iter`] lends them so too, and can end early or go back.
+    ///
+    /// ```
+    /// # use raft_recover::{Engine, LogBatch, MemoryFiles, Options};
+    /// # let engine = Engine::with_files(MemoryFiles::new(), Options::new())?;
+    /// # let mut batch = LogBatch::new()?;
+    /// batch.add_entries(7, 10, &["one", "two", "three"])?;
+    /// engine.write(&mut batch, true)?;
+    /// let mut sum = 0;
+    /// engine.for_each_entry(7, 11.., |index, bytes| sum += index as usize * bytes.len())?;
+    /// assert_eq!(sum, 11 * 3 + 12 * 5);
+    /// # Ok::<(), raft_recover::Error>(())
+    /// ```
+    ///
+    /// # Errors
+    ///
+    /// Those of [`Engine::entries`]. Nothing was lent then.
+    pub fn for_each_entry(
+        &self,
+        region: u64,
+        range: impl RangeBounds<u64>,
+        mut call: impl FnMut(u64, &[u8]),
+    ) -> Result<()> {
+        let entries = self.entries(region, range)?;
+        entries.iter().for_each(|(index, bytes)| call(index, bytes));
+        Ok(())
     }
 
     /// Returns the entries of a range of indexes. A bound that is left open is that of the region's entries.
@@ -117,7 +175,7 @@ impl<F: Files> Engine<F> {
     pub fn scan<'a>(&self, region: u64, range: impl RangeBounds<&'a [u8]>) -> Result<Pairs> {
         let (start, end) = pairs::ends_of(&range);
         let found = self.look_up(|tables| tables.scan(region, &start, end.as_deref()))?;
-        Ok(Pairs::of(found))
+        Pairs::of(found)
     }
 
     /// Returns the least index of a region's entries, if it has some.
@@ -198,13 +256,21 @@ impl<F: Files> Engine<F> {
         self.look_up(EngineHandle::regions)
     }
 
-    /// Reads the entries that a call finds. Their bytes may not be written yet, or have moved meanwhile: in a turn neither is so.
+    /// Reads the entries that a call finds. Their bytes may move before they are read: then they are found again, at last in a
+    /// turn, in which none moves.
     fn read(&self, find: impl Fn(&mut EngineHandle) -> Result<Vec<Entry>>) -> Result<Entries> {
-        let found = self.look_up(&find)?;
-        if let Ok(entries) = Entries::read(self, &found) {
-            return Ok(entries);
+        let mut before = None;
+        for _ in 0..LOOK_UPS {
+            let found = self.look_up(&find)?;
+            if before.as_ref() == Some(&found) {
+                break; // they haven't moved
+            }
+            if let Ok(entries) = Entries::read(self, &found) {
+                return Ok(entries);
+            }
+            before = Some(found);
         }
-        let _turn = locks::lock(&self.turn);
+        let _turn = self.turns.take();
         let found = self.look_up(&find)?;
         Entries::read(self, &found)
     }

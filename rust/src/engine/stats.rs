@@ -1,6 +1,9 @@
 //! What an engine has, in numbers.
 
-/// What an engine has, and what it did since it was opened.
+use std::time::Duration;
+
+/// What an engine has, and what it did since it was opened. How many bytes are still needed takes longer to say:
+/// `Engine::usage`.
 ///
 /// ```
 /// use raft_recover::{Engine, LogBatch, MemoryFiles, Options};
@@ -25,6 +28,12 @@ pub struct Stats {
     pub batches: u64,
     /// How many syncs were made. Threads that write at the same time share them.
     pub syncs: u64,
+    /// How long these took, together.
+    pub sync_time: Duration,
+    /// How long the opening took.
+    pub opening: Duration,
+    /// How many bytes it cut off the files (`Engine::recovered` has where, and why).
+    pub cut_bytes: u64,
 }
 
 /// The files of a queue.

@@ -57,7 +57,7 @@ impl<F: Files> Engine<F> {
     /// Hands in a batch, and waits until a thread has written it.
     fn write_in_turn(&self, batch: &mut LogBatch, sync: bool) -> Result<()> {
         self.intact()?;
-        self.commits.write(batch, sync, |group| self.lead(group))
+        self.tell_after(|| self.commits.write(batch, sync, |group| self.lead(group)))
     }
 
     /// Writes the batches of all threads that wait, syncs once for those who want that, and begins a file where it is due.

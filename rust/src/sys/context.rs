@@ -66,7 +66,7 @@ impl ContextHandle {
     /// Holds a context that has read nothing.
     pub(crate) fn new() -> Result<ContextHandle> {
         let mut handle = Handle::EMPTY;
-        // SAFETY: the handle is empty.
+        // SAFETY: `empty`: the handle is empty.
         remembered(unsafe { raft_ffi_context_new(&mut handle) })?;
         Ok(ContextHandle(handle))
     }
@@ -82,7 +82,8 @@ impl ContextHandle {
     pub(crate) fn replay(self, part: FilePart<'_>) -> Result<ContextHandle> {
         part.check()?;
         let mut handle = self.into_raw();
-        // SAFETY: the handle holds a context, and the bytes end where an offset can. After a refusal the handle is empty.
+        // SAFETY: `held`, `ends`: the handle holds a context, and the bytes end where an offset can. After a refusal
+        // the handle is empty.
         checked(|text, text_len| unsafe {
             raft_ffi_context_replay(
                 &mut handle,
@@ -100,7 +101,8 @@ impl ContextHandle {
     /// Takes in the context of the batches that follow.
     pub(crate) fn merge(self, newer: ContextHandle, queue: Queue) -> Result<ContextHandle> {
         let (mut handle, newer) = (self.into_raw(), newer.into_raw());
-        // SAFETY: both handles hold a context, and the newer one is given away. After a refusal the other one is empty.
+        // SAFETY: `held`, `newer`: both handles hold a context, and the newer one is given away. After a refusal the
+        // other one is empty.
         checked(|text, text_len| unsafe {
             raft_ffi_context_merge(&mut handle, newer, queue == Queue::Rewrite, text, text_len)
         })?;
@@ -110,7 +112,8 @@ impl ContextHandle {
     /// Takes in the context of the append queue.
     pub(crate) fn overlay(self, append: ContextHandle) -> Result<ContextHandle> {
         let (mut handle, append) = (self.into_raw(), append.into_raw());
-        // SAFETY: both handles hold a context, and the second one is given away. After a refusal the first one is empty.
+        // SAFETY: `held`, `append`: both handles hold a context, and the second one is given away. After a refusal
+        // the first one is empty.
         checked(|text, text_len| unsafe {
             raft_ffi_context_overlay(&mut handle, append, text, text_len)
         })?;
@@ -120,7 +123,7 @@ impl ContextHandle {
     /// Says how much the context holds.
     pub(crate) fn kept(&mut self) -> Result<Kept> {
         let mut kept = KeptNumbers::default();
-        // SAFETY: the handle holds a context, before and after.
+        // SAFETY: `held`: the handle holds a context, before and after.
         checked(|text, text_len| unsafe {
             raft_ffi_context_kept(&mut self.0, &mut kept, text, text_len)
         })?;
@@ -138,7 +141,7 @@ impl ContextHandle {
     pub(crate) fn finish(self) -> Result<TablesHandle> {
         let context = self.into_raw();
         let mut handle = Handle::EMPTY;
-        // SAFETY: the one handle holds a context, which is given away, and the other one is empty.
+        // SAFETY: `held`, `empty`: the one handle holds a context, which is given away, and the other one is empty.
         checked(|text, text_len| unsafe {
             raft_ffi_context_finish(context, &mut handle, text, text_len)
         })?;
@@ -148,7 +151,7 @@ impl ContextHandle {
 
 impl Drop for ContextHandle {
     fn drop(&mut self) {
-        // SAFETY: the handle holds a context, which is given away.
+        // SAFETY: `held`: the handle holds a context, which is given away.
         unsafe { raft_ffi_context_drop(self.0) }
     }
 }

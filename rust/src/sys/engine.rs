@@ -11,17 +11,22 @@ use super::engine_calls::{
     raft_ffi_engine_value, raft_ffi_engine_write,
 };
 use super::{
-    EntryNumbers, Handle, LogBatchHandle, Status, SummaryNumbers, checked, entries, listed,
-    make_room, pairs, remembered,
+    EntryNumbers, Handle, LogBatchHandle, PackedPairs, Status, SummaryNumbers, checked, entries,
+    listed, listed_in, make_room, packed_pairs, remembered,
 };
-use crate::{Block, Entry, FileId, Pair, Queue, Result, Summary};
+use crate::{Block, Entry, FileId, Queue, Result, Summary};
+use std::mem;
 use std::ops::Range;
+use std::sync::Arc;
+
+/// How many bytes most values have at most: these are copied by one call.
+const MOST_VALUES: usize = 64;
 
 /// What is to be done to the files of a queue.
 #[derive(Debug)]
 pub(crate) enum Order {
     /// These bytes behind those of the last file.
-    Write(Queue, Vec<u8>),
+    Write(Queue, Arc<Vec<u8>>),
     /// A new file of this number.
     Begin(FileId),
     /// All of the queue is to last.
@@ -54,14 +59,14 @@ impl EngineHandle {
 
     /// Says whether every batch whose bytes were ordered was applied.
     pub(crate) fn is_intact(&mut self) -> bool {
-        // SAFETY: the handle holds an engine.
+        // SAFETY: `held`: the handle holds an engine.
         unsafe { raft_ffi_engine_is_intact(&mut self.handle) }
     }
 
     /// Writes an open batch, which is empty afterwards.
     pub(crate) fn write(&mut self, batch: &mut LogBatchHandle) -> Result<()> {
         batch.check_open()?;
-        // SAFETY: the handles hold an engine and an open batch.
+        // SAFETY: `held`, `batch`, `open`: the handles hold an engine and an open batch.
         checked(|text, text_len| unsafe {
             raft_ffi_engine_write(&mut self.handle, batch.as_ptr(), false, text, text_len)
         })
@@ -69,11 +74,13 @@ impl EngineHandle {
 
     /// Orders that all that was written lasts.
     pub(crate) fn sync(&mut self) -> Result<()> {
+        // SAFETY: `held`: the handle holds an engine.
         self.call(|engine, text, text_len| unsafe { raft_ffi_engine_sync(engine, text, text_len) })
     }
 
     /// Begins an append file.
     pub(crate) fn rotate(&mut self) -> Result<()> {
+        // SAFETY: `held`: the handle holds an engine.
         self.call(|engine, text, text_len| unsafe {
             raft_ffi_engine_rotate(engine, text, text_len)
         })
@@ -81,6 +88,7 @@ impl EngineHandle {
 
     /// Moves what append files up to the gate have, as far as its blocks are lent.
     pub(crate) fn rewrite(&mut self, gate: u64) -> Result<()> {
+        // SAFETY: `held`: the handle holds an engine.
         self.call(|engine, text, text_len| unsafe {
             raft_ffi_engine_rewrite(engine, gate, text, text_len)
         })
@@ -88,6 +96,7 @@ impl EngineHandle {
 
     /// Moves what rewrite files have to a new one, as far as its blocks are lent.
     pub(crate) fn rewrite_again(&mut self) -> Result<()> {
+        // SAFETY: `held`: the handle holds an engine.
         self.call(|engine, text, text_len| unsafe {
             raft_ffi_engine_rewrite_again(engine, text, text_len)
         })
@@ -96,6 +105,7 @@ impl EngineHandle {
     /// Deletes the append files that no table needs.
     pub(crate) fn purge_expired_files(&mut self) -> Result<usize> {
         let mut count = 0;
+        // SAFETY: `held`: the handle holds an engine.
         self.call(|engine, text, text_len| unsafe {
             raft_ffi_engine_purge_expired_files(engine, &mut count, text, text_len)
         })?;
@@ -105,6 +115,7 @@ impl EngineHandle {
     /// Deletes the rewrite files that no table needs.
     pub(crate) fn purge_rewrite_files(&mut self) -> Result<usize> {
         let mut count = 0;
+        // SAFETY: `held`: the handle holds an engine.
         self.call(|engine, text, text_len| unsafe {
             raft_ffi_engine_purge_rewrite_files(engine, &mut count, text, text_len)
         })?;
@@ -122,7 +133,7 @@ impl EngineHandle {
         let mut none = Vec::new();
         loop {
             let bytes = match orders.last_mut() {
-                Some(Order::Write(_, bytes)) => bytes,
+                Some(Order::Write(_, bytes)) => Arc::make_mut(bytes), // it is nobody else's yet
                 _ => &mut none,
             };
             let len = bytes.len();
@@ -133,10 +144,10 @@ impl EngineHandle {
             match (order.kind, orders.last_mut()) {
                 (0, Some(Order::Write(last, _))) if *last == queue => {}
                 (0, Some(Order::Write(_, bytes))) => {
-                    let bytes = bytes.split_off(len);
-                    orders.push(Order::Write(queue, bytes));
+                    let bytes = Arc::make_mut(bytes).split_off(len);
+                    orders.push(Order::Write(queue, bytes.into()));
                 }
-                (0, _) => orders.push(Order::Write(queue, std::mem::take(&mut none))),
+                (0, _) => orders.push(Order::Write(queue, mem::take(&mut none).into())),
                 (1, _) => orders.push(Order::Begin(FileId::new(queue, order.number))),
                 (2, _) => orders.push(Order::Sync(queue)),
                 (3, _) => orders.push(Order::DeleteOldest(queue)),
@@ -151,7 +162,7 @@ impl EngineHandle {
         loop {
             let (mut order, mut is_taken) = (OrderNumbers::default(), false);
             let room = &mut bytes[len..];
-            // SAFETY: the handle holds an engine.
+            // SAFETY: `held`: the handle holds an engine.
             let is_found = unsafe {
                 raft_ffi_engine_take_order(
                     &mut self.handle,
@@ -185,7 +196,7 @@ impl EngineHandle {
         max_size: usize,
     ) -> Result<Vec<Block>> {
         let places = listed(|room, len, count| {
-            // SAFETY: the handle holds an engine.
+            // SAFETY: `held`: the handle holds an engine.
             remembered(unsafe {
                 raft_ffi_engine_moving_blocks(
                     &mut self.handle,
@@ -203,7 +214,7 @@ impl EngineHandle {
     /// Lends the bytes of a block to the next call.
     pub(crate) fn lend(&mut self, block: Block, bytes: &[u8]) -> Result<()> {
         let is_rewrite = block.file.queue == Queue::Rewrite;
-        // SAFETY: the handle holds an engine.
+        // SAFETY: `held`: the handle holds an engine.
         remembered(unsafe {
             raft_ffi_engine_lend(
                 &mut self.handle,
@@ -219,8 +230,10 @@ impl EngineHandle {
     /// Finds the value of a key.
     pub(crate) fn value(&mut self, region: u64, key: &[u8]) -> Result<Option<Vec<u8>>> {
         let mut is_found = false;
-        let value = listed(|room, len, count| {
-            // SAFETY: the handle holds an engine.
+        let mut room = Vec::new();
+        make_room(&mut room, MOST_VALUES)?;
+        let value = listed_in(room, |room, len, count| {
+            // SAFETY: `held`: the handle holds an engine.
             is_found = unsafe {
                 raft_ffi_engine_value(
                     &mut self.handle,
@@ -243,10 +256,10 @@ impl EngineHandle {
         region: u64,
         start: &[u8],
         end: Option<&[u8]>,
-    ) -> Result<Vec<Pair>> {
+    ) -> Result<PackedPairs> {
         let (is_bounded, end) = (end.is_some(), end.unwrap_or_default());
-        pairs(|lens, lens_len, count, bytes, bytes_len, len| {
-            // SAFETY: the handle holds an engine.
+        packed_pairs(|lens, lens_len, count, bytes, bytes_len, len| {
+            // SAFETY: `held`: the handle holds an engine.
             remembered(unsafe {
                 raft_ffi_engine_scan(
                     &mut self.handle,
@@ -270,7 +283,7 @@ impl EngineHandle {
     /// Finds what a region's table has.
     pub(crate) fn summary(&mut self, region: u64) -> Option<Summary> {
         let mut summary = SummaryNumbers::default();
-        // SAFETY: the handle holds an engine.
+        // SAFETY: `held`: the handle holds an engine.
         let is_found = unsafe { raft_ffi_engine_summary(&mut self.handle, region, &mut summary) };
         is_found.then(|| summary.into())
     }
@@ -278,7 +291,7 @@ impl EngineHandle {
     /// Finds the least index of a region's entries.
     pub(crate) fn first_index(&mut self, region: u64) -> Option<u64> {
         let mut index = 0;
-        // SAFETY: the handle holds an engine.
+        // SAFETY: `held`: the handle holds an engine.
         let is_found = unsafe { raft_ffi_engine_first_index(&mut self.handle, region, &mut index) };
         is_found.then_some(index)
     }
@@ -286,7 +299,7 @@ impl EngineHandle {
     /// Finds the greatest index of a region's entries.
     pub(crate) fn last_index(&mut self, region: u64) -> Option<u64> {
         let mut index = 0;
-        // SAFETY: the handle holds an engine.
+        // SAFETY: `held`: the handle holds an engine.
         let is_found = unsafe { raft_ffi_engine_last_index(&mut self.handle, region, &mut index) };
         is_found.then_some(index)
     }
@@ -294,7 +307,7 @@ impl EngineHandle {
     /// Finds an entry.
     pub(crate) fn entry(&mut self, region: u64, index: u64) -> Option<Entry> {
         let mut entry = EntryNumbers::default();
-        // SAFETY: the handle holds an engine.
+        // SAFETY: `held`: the handle holds an engine.
         let is_found =
             unsafe { raft_ffi_engine_entry(&mut self.handle, region, index, &mut entry) };
         is_found.then(|| entry.into())
@@ -308,7 +321,7 @@ impl EngineHandle {
         max_size: Option<u64>,
     ) -> Result<Vec<Entry>> {
         let list = listed(|room, len, count| {
-            // SAFETY: the handle holds an engine.
+            // SAFETY: `held`: the handle holds an engine.
             checked(|text, text_len| unsafe {
                 raft_ffi_engine_entries(
                     &mut self.handle,
@@ -330,21 +343,21 @@ impl EngineHandle {
     /// Lists the regions.
     pub(crate) fn regions(&mut self) -> Result<Vec<u64>> {
         listed(|room, len, count| {
-            // SAFETY: the handle holds an engine.
+            // SAFETY: `held`: the handle holds an engine.
             remembered(unsafe { raft_ffi_engine_regions(&mut self.handle, room, len, count) })
         })
     }
 
     /// Counts the live records of a queue.
     pub(crate) fn live(&mut self, queue: Queue) -> usize {
-        // SAFETY: the handle holds an engine.
+        // SAFETY: `held`: the handle holds an engine.
         unsafe { raft_ffi_engine_live(&mut self.handle, queue == Queue::Rewrite) }
     }
 }
 
 impl Drop for EngineHandle {
     fn drop(&mut self) {
-        // SAFETY: the handle holds an engine, which is given away.
+        // SAFETY: `held`: the handle holds an engine, which is given away.
         unsafe { raft_ffi_engine_drop(self.handle) }
     }
 }

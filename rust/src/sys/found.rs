@@ -18,7 +18,7 @@ impl FoundHandle {
     /// Holds no files.
     pub(crate) fn new() -> Result<FoundHandle> {
         let mut handle = Handle::EMPTY;
-        // SAFETY: the handle is empty.
+        // SAFETY: `empty`: the handle is empty.
         remembered(unsafe { raft_ffi_found_new(&mut handle) })?;
         Ok(FoundHandle(handle))
     }
@@ -26,7 +26,7 @@ impl FoundHandle {
     /// Adds the file that comes next in its queue.
     pub(crate) fn add(&mut self, file: FileId, bytes: &[u8]) -> Result<()> {
         let is_rewrite = file.queue == Queue::Rewrite;
-        // SAFETY: the handle holds files.
+        // SAFETY: `held`: the handle holds files.
         remembered(unsafe {
             raft_ffi_found_add(
                 &mut self.0,
@@ -49,7 +49,7 @@ impl FoundHandle {
         let found = self.into_raw();
         let (rewritten, appended) = (rewritten.into_raw(), appended.into_raw());
         let is_signed = version == Version::V2;
-        // SAFETY: the one handle is empty, and the others hold something, which is given away.
+        // SAFETY: `empty`, `read`: the one handle is empty, and the others hold something, which is given away.
         checked(|text, text_len| unsafe {
             raft_ffi_engine_open(
                 &mut handle,
@@ -74,7 +74,7 @@ impl FoundHandle {
 
 impl Drop for FoundHandle {
     fn drop(&mut self) {
-        // SAFETY: the handle holds files, which are given away.
+        // SAFETY: `held`: the handle holds files, which are given away.
         unsafe { raft_ffi_found_drop(self.0) }
     }
 }

@@ -67,7 +67,7 @@ impl ItemsHandle {
             return Ok(None);
         }
         let (mut handle, mut next) = (Handle::EMPTY, at);
-        // SAFETY: the handle is empty, `at` is within the bytes, and these end where an offset can.
+        // SAFETY: `empty`, `inside`, `ends`: the handle is empty, `at` is within the bytes, and these end where an offset can.
         checked(|text, text_len| unsafe {
             raft_ffi_items_next(
                 &mut handle,
@@ -94,7 +94,7 @@ impl ItemsHandle {
 
     /// Counts the items.
     pub(crate) fn len(&self) -> usize {
-        // SAFETY: the handle holds items.
+        // SAFETY: `held`: the handle holds items.
         with(&self.0, |items| unsafe { raft_ffi_items_len(items) })
     }
 
@@ -126,7 +126,7 @@ impl ItemsHandle {
     /// Finds what an item says, without its lists.
     fn head(&self, i: usize) -> Option<ItemHead> {
         let mut head = ItemHead::default();
-        // SAFETY: the handle holds items.
+        // SAFETY: `held`: the handle holds items.
         let is_found = with(&self.0, |items| unsafe {
             raft_ffi_items_head(items, i, &mut head)
         });
@@ -135,8 +135,8 @@ impl ItemsHandle {
 
     /// Lists the entries of an item that has some.
     fn entries(&self, i: usize) -> Vec<Entry> {
-        // SAFETY: the handle holds items.
         let list = found(|room, len, count| {
+            // SAFETY: `held`: the handle holds items.
             with(&self.0, |items| unsafe {
                 raft_ffi_items_entries(items, i, room, len, count)
             })
@@ -146,8 +146,8 @@ impl ItemsHandle {
 
     /// Finds the key of an item that changes one.
     fn key(&self, i: usize) -> Vec<u8> {
-        // SAFETY: the handle holds items.
         found(|room, len, count| {
+            // SAFETY: `held`: the handle holds items.
             with(&self.0, |items| unsafe {
                 raft_ffi_items_key(items, i, room, len, count)
             })
@@ -157,8 +157,8 @@ impl ItemsHandle {
 
     /// Finds the value of an item that puts one.
     fn value(&self, i: usize) -> Vec<u8> {
-        // SAFETY: the handle holds items.
         found(|room, len, count| {
+            // SAFETY: `held`: the handle holds items.
             with(&self.0, |items| unsafe {
                 raft_ffi_items_value(items, i, room, len, count)
             })
@@ -169,7 +169,7 @@ impl ItemsHandle {
 
 impl Drop for ItemsHandle {
     fn drop(&mut self) {
-        // SAFETY: the handle holds items, which are given away.
+        // SAFETY: `held`: the handle holds items, which are given away.
         unsafe { raft_ffi_items_drop(self.0.get()) }
     }
 }

@@ -5,9 +5,16 @@ use std::alloc::{Layout, handle_alloc_error};
 
 /// Lists what a call finds: it gets room, puts as much there as fits, and says how much there is.
 pub(super) fn listed<T: Copy + Default>(
+    call: impl FnMut(*mut T, usize, &mut usize) -> Result<()>,
+) -> Result<Vec<T>> {
+    listed_in(Vec::new(), call)
+}
+
+/// Lists what a call finds, as [`listed`] does, by one call where this room is enough.
+pub(super) fn listed_in<T: Copy + Default>(
+    mut room: Vec<T>,
     mut call: impl FnMut(*mut T, usize, &mut usize) -> Result<()>,
 ) -> Result<Vec<T>> {
-    let mut room = Vec::new();
     loop {
         let mut count = 0;
         call(room.as_mut_ptr(), room.len(), &mut count)?;
@@ -42,10 +49,19 @@ pub(super) fn found<T: Copy + Default>(
     }
 }
 
+/// Keys with their values, one behind the other, as the library puts them.
+#[derive(Clone, Debug, Default)]
+pub(crate) struct PackedPairs {
+    /// The length of each key and of its value, in turn.
+    pub(crate) lens: Vec<usize>,
+    /// The bytes of all.
+    pub(crate) bytes: Vec<u8>,
+}
+
 /// Lists keys with their values, which a call finds as the length of each and the bytes of all.
-pub(super) fn pairs(
+pub(super) fn packed_pairs(
     mut call: impl FnMut(*mut usize, usize, &mut usize, *mut u8, usize, &mut usize) -> Result<()>,
-) -> Result<Vec<Pair>> {
+) -> Result<PackedPairs> {
     let (mut lens, mut bytes) = (Vec::new(), Vec::new());
     loop {
         let (mut count, mut len) = (0, 0);
@@ -59,24 +75,27 @@ pub(super) fn pairs(
         )?;
         if count <= lens.len() && len <= bytes.len() {
             lens.truncate(count);
-            return Ok(split(&lens, &bytes));
+            return Ok(PackedPairs { lens, bytes });
         }
         make_room(&mut lens, count)?;
         make_room(&mut bytes, len)?;
     }
 }
 
-/// Splits bytes into keys and values of these lengths, in turn.
-fn split(lens: &[usize], mut bytes: &[u8]) -> Vec<Pair> {
+/// Lists keys with their values, as [`packed_pairs`] does, each as bytes of its own.
+pub(super) fn pairs(
+    call: impl FnMut(*mut usize, usize, &mut usize, *mut u8, usize, &mut usize) -> Result<()>,
+) -> Result<Vec<Pair>> {
+    let PackedPairs { lens, bytes } = packed_pairs(call)?;
+    let mut rest = &bytes[..];
     let mut next = |len| {
-        let (front, rest) = bytes.split_at(len);
-        bytes = rest;
+        let (front, behind) = rest.split_at(len);
+        rest = behind;
         front.to_vec()
     };
-    lens.chunks_exact(2)
-        .map(|lens| Pair {
-            key: next(lens[0]),
-            value: next(lens[1]),
-        })
-        .collect()
+    let pairs = lens.chunks_exact(2).map(|lens| Pair {
+        key: next(lens[0]),
+        value: next(lens[1]),
+    });
+    Ok(pairs.collect())
 }

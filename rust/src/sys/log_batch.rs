@@ -1,6 +1,6 @@
 //! The handle of a batch that is written.
 
-use super::{File, Handle, ItemsHandle, Status, checked, listed, remembered, with};
+use super::{File, Handle, ItemsHandle, Packed, Status, checked, listed, remembered, with};
 use crate::{Error, FileId, LogFile, Queue, Result, Stage};
 use std::cell::Cell;
 use std::mem;
@@ -78,7 +78,7 @@ impl LogBatchHandle {
     /// Holds an open batch without items.
     pub(crate) fn new() -> Result<LogBatchHandle> {
         let mut handle = Handle::EMPTY;
-        // SAFETY: the handle is empty.
+        // SAFETY: `empty`: the handle is empty.
         remembered(unsafe { raft_ffi_batch_new(&mut handle) })?;
         Ok(LogBatchHandle::of(handle))
     }
@@ -102,7 +102,7 @@ impl LogBatchHandle {
 
     /// Says how far the batch has come.
     pub(crate) fn stage(&self) -> Stage {
-        // SAFETY: the handle holds a batch.
+        // SAFETY: `held`: the handle holds a batch.
         match with(&self.0, |batch| unsafe { raft_ffi_batch_stage(batch) }) {
             0 => Stage::Open,
             1 => Stage::Encoded,
@@ -128,25 +128,31 @@ impl LogBatchHandle {
 
     /// Says about how many bytes there are or will be.
     pub(crate) fn size(&self) -> usize {
-        // SAFETY: the handle holds a batch.
+        // SAFETY: `held`: the handle holds a batch.
         with(&self.0, |batch| unsafe { raft_ffi_batch_size(batch) })
     }
 
-    /// Adds entries with their bytes.
-    pub(crate) fn add_entries<E: AsRef<[u8]>>(
-        &mut self,
-        region: u64,
-        first: u64,
-        entries: &[E],
-    ) -> Result<()> {
+    /// Adds entries that are packed.
+    pub(crate) fn add_packed(&mut self, region: u64, first: u64, packed: &Packed) -> Result<()> {
+        let (lens, bytes) = packed.parts();
+        self.add(region, first, lens, bytes)
+    }
+
+    /// Adds an entry.
+    pub(crate) fn add_entry(&mut self, region: u64, index: u64, entry: &[u8]) -> Result<()> {
+        self.add(region, index, &[entry.len()], entry)
+    }
+
+    /// Adds entries of these lengths, which are those of the bytes.
+    fn add(&mut self, region: u64, first: u64, lens: &[usize], bytes: &[u8]) -> Result<()> {
         self.check_open()?;
-        if first.checked_add(entries.len() as u64).is_none() {
+        if first.checked_add(lens.len() as u64).is_none() {
             return Err(Error::invalid_argument(
                 "an index would be 2^64 - 1 or more",
             ));
         }
-        let (lens, bytes) = gathered(entries)?;
-        // SAFETY: the handle holds an open batch, the last index is below 2^64 - 1, and the lengths are those of the bytes.
+        // SAFETY: `held`, `open`, `indexes`, `strings`: the handle holds an open batch, the last index is below 2^64
+        // - 1, and the lengths are those of the bytes.
         checked(|text, text_len| unsafe {
             raft_ffi_batch_add_entries(
                 self.0.as_ptr(),
@@ -165,28 +171,28 @@ impl LogBatchHandle {
     /// Adds that all records go.
     pub(crate) fn clean(&mut self, region: u64) -> Result<()> {
         self.check_open()?;
-        // SAFETY: the handle holds an open batch.
+        // SAFETY: `held`, `open`: the handle holds an open batch.
         remembered(unsafe { raft_ffi_batch_clean(self.0.as_ptr(), region) })
     }
 
     /// Adds that the entries below an index go.
     pub(crate) fn compact(&mut self, region: u64, index: u64) -> Result<()> {
         self.check_open()?;
-        // SAFETY: the handle holds an open batch.
+        // SAFETY: `held`, `open`: the handle holds an open batch.
         remembered(unsafe { raft_ffi_batch_compact(self.0.as_ptr(), region, index) })
     }
 
     /// Adds that the entries from an index on go.
     pub(crate) fn truncate(&mut self, region: u64, index: u64) -> Result<()> {
         self.check_open()?;
-        // SAFETY: the handle holds an open batch.
+        // SAFETY: `held`, `open`: the handle holds an open batch.
         remembered(unsafe { raft_ffi_batch_truncate(self.0.as_ptr(), region, index) })
     }
 
     /// Adds that a key gets a value.
     pub(crate) fn put(&mut self, region: u64, key: &[u8], value: &[u8]) -> Result<()> {
         self.check_open()?;
-        // SAFETY: the handle holds an open batch.
+        // SAFETY: `held`, `open`: the handle holds an open batch.
         checked(|text, text_len| unsafe {
             raft_ffi_batch_put(
                 self.0.as_ptr(),
@@ -204,7 +210,7 @@ impl LogBatchHandle {
     /// Adds that a key goes.
     pub(crate) fn delete(&mut self, region: u64, key: &[u8]) -> Result<()> {
         self.check_open()?;
-        // SAFETY: the handle holds an open batch.
+        // SAFETY: `held`, `open`: the handle holds an open batch.
         remembered(unsafe {
             raft_ffi_batch_delete(self.0.as_ptr(), region, key.as_ptr(), key.len())
         })
@@ -214,7 +220,7 @@ impl LogBatchHandle {
     pub(crate) fn merge(&mut self, more: &mut LogBatchHandle) -> Result<()> {
         self.check_open()?;
         more.check_open()?;
-        // SAFETY: both handles hold an open batch, and they are two.
+        // SAFETY: `held`, `more_held`, `open`, `more_open`: both handles hold an open batch, and they are two.
         checked(|text, text_len| unsafe {
             raft_ffi_batch_merge(self.0.as_ptr(), more.0.as_ptr(), text, text_len)
         })
@@ -224,7 +230,7 @@ impl LogBatchHandle {
     pub(crate) fn finish(&mut self) -> Result<usize> {
         self.check_open()?;
         let mut len = 0;
-        // SAFETY: the handle holds an open batch.
+        // SAFETY: `held`, `open`: the handle holds an open batch.
         checked(|text, text_len| unsafe {
             raft_ffi_batch_finish(self.0.as_ptr(), &mut len, text, text_len)
         })?;
@@ -236,7 +242,7 @@ impl LogBatchHandle {
         if self.stage() == Stage::Open {
             return Err(Error::invalid_argument("the batch is still open"));
         }
-        // SAFETY: the handle holds a batch that is no longer open.
+        // SAFETY: `held`, `encoded`: the handle holds a batch that is no longer open.
         unsafe { raft_ffi_batch_sign(self.0.as_ptr(), file.into()) };
         Ok(())
     }
@@ -244,8 +250,8 @@ impl LogBatchHandle {
     /// Copies the bytes.
     pub(crate) fn bytes(&self) -> Result<Vec<u8>> {
         self.check_signed()?;
-        // SAFETY: the handle holds a signed batch.
         listed(|room, len, count| {
+            // SAFETY: `held`, `sealed`: the handle holds a signed batch.
             *count = with(&self.0, |batch| unsafe {
                 raft_ffi_batch_bytes(batch, room, len)
             });
@@ -261,7 +267,7 @@ impl LogBatchHandle {
                 "no batch begins past offset 2^64 - 17",
             ));
         }
-        // SAFETY: the handle holds a signed batch, and the offset is at most 2^64 - 17.
+        // SAFETY: `held`, `sealed`, `offset`: the handle holds a signed batch, and the offset is at most 2^64 - 17.
         unsafe {
             raft_ffi_batch_written(
                 self.0.as_ptr(),
@@ -278,31 +284,15 @@ impl LogBatchHandle {
     pub(crate) fn into_items(self) -> Result<ItemsHandle> {
         let batch = self.into_raw();
         let mut items = Handle::EMPTY;
-        // SAFETY: the one handle holds a batch, which is given away, and the other one is empty.
+        // SAFETY: `held`, `empty`: the one handle holds a batch, which is given away, and the other one is empty.
         remembered(unsafe { raft_ffi_batch_into_items(batch, &mut items) })?;
         Ok(ItemsHandle(Cell::new(items)))
     }
 }
 
-/// Returns the length of each string, and the bytes of all.
-fn gathered<E: AsRef<[u8]>>(strings: &[E]) -> Result<(Vec<usize>, Vec<u8>)> {
-    let (mut lens, mut bytes) = (Vec::new(), Vec::new());
-    lens.try_reserve_exact(strings.len())
-        .map_err(|_| Error::memory())?;
-    for string in strings {
-        let string = string.as_ref();
-        lens.push(string.len());
-        bytes
-            .try_reserve(string.len())
-            .map_err(|_| Error::memory())?;
-        bytes.extend_from_slice(string);
-    }
-    Ok((lens, bytes))
-}
-
 impl Drop for LogBatchHandle {
     fn drop(&mut self) {
-        // SAFETY: the handle holds a batch, which is given away.
+        // SAFETY: `held`: the handle holds a batch, which is given away.
         unsafe { raft_ffi_batch_drop(self.0.get()) }
     }
 }

@@ -33,7 +33,7 @@ impl TablesHandle {
     /// Holds no tables of regions.
     pub(crate) fn new() -> Result<TablesHandle> {
         let mut handle = Handle::EMPTY;
-        // SAFETY: the handle is empty.
+        // SAFETY: `empty`: the handle is empty.
         remembered(unsafe { raft_ffi_tables_new(&mut handle) })?;
         Ok(TablesHandle(Cell::new(handle)))
     }
@@ -47,7 +47,7 @@ impl TablesHandle {
 
     /// Counts the live records of a queue.
     pub(crate) fn live(&self, queue: Queue) -> usize {
-        // SAFETY: the handle holds tables.
+        // SAFETY: `held`: the handle holds tables.
         with(&self.0, |tables| unsafe {
             raft_ffi_tables_live(tables, queue == Queue::Rewrite)
         })
@@ -56,7 +56,7 @@ impl TablesHandle {
     /// Finds what a region's table has.
     pub(crate) fn summary(&self, region: u64) -> Option<Summary> {
         let mut summary = SummaryNumbers::default();
-        // SAFETY: the handle holds tables.
+        // SAFETY: `held`: the handle holds tables.
         let is_found = with(&self.0, |tables| unsafe {
             raft_ffi_tables_summary(tables, region, &mut summary)
         });
@@ -65,8 +65,8 @@ impl TablesHandle {
 
     /// Lists the regions that have a table.
     pub(crate) fn regions(&self) -> Result<Vec<u64>> {
-        // SAFETY: the handle holds tables.
         listed(|room, len, count| {
+            // SAFETY: `held`: the handle holds tables.
             remembered(with(&self.0, |tables| unsafe {
                 raft_ffi_tables_regions(tables, room, len, count)
             }))
@@ -75,8 +75,8 @@ impl TablesHandle {
 
     /// Lists the regions that were cleaned.
     pub(crate) fn cleaned(&self) -> Vec<u64> {
-        // SAFETY: the handle holds tables.
         found(|room, len, count| {
+            // SAFETY: `held`: the handle holds tables.
             *count = with(&self.0, |tables| unsafe {
                 raft_ffi_tables_cleaned(tables, room, len)
             });
@@ -88,7 +88,7 @@ impl TablesHandle {
     /// Finds an entry.
     pub(crate) fn entry(&self, region: u64, index: u64) -> Option<Entry> {
         let mut entry = EntryNumbers::default();
-        // SAFETY: the handle holds tables.
+        // SAFETY: `held`: the handle holds tables.
         let is_found = with(&self.0, |tables| unsafe {
             raft_ffi_tables_entry(tables, region, index, &mut entry)
         });
@@ -102,9 +102,9 @@ impl TablesHandle {
         range: Range<u64>,
         max_size: Option<u64>,
     ) -> Result<Vec<Entry>> {
-        // SAFETY: the handle holds tables.
         let list = listed(|room, len, count| {
             checked(|text, text_len| {
+                // SAFETY: `held`: the handle holds tables.
                 with(&self.0, |tables| unsafe {
                     raft_ffi_tables_entries(
                         tables,
@@ -126,8 +126,8 @@ impl TablesHandle {
 
     /// Lists the appended entries up to a gate.
     pub(crate) fn entries_before(&self, region: u64, gate: u64) -> Result<Vec<Entry>> {
-        // SAFETY: the handle holds tables.
         let list = listed(|room, len, count| {
+            // SAFETY: `held`: the handle holds tables.
             remembered(with(&self.0, |tables| unsafe {
                 raft_ffi_tables_entries_before(tables, region, gate, room, len, count)
             }))
@@ -137,8 +137,8 @@ impl TablesHandle {
 
     /// Lists the rewritten entries.
     pub(crate) fn rewritten_entries(&self, region: u64) -> Result<Vec<Entry>> {
-        // SAFETY: the handle holds tables.
         let list = listed(|room, len, count| {
+            // SAFETY: `held`: the handle holds tables.
             remembered(with(&self.0, |tables| unsafe {
                 raft_ffi_tables_rewritten_entries(tables, region, room, len, count)
             }))
@@ -148,8 +148,8 @@ impl TablesHandle {
 
     /// Finds the value of a key.
     pub(crate) fn value(&self, region: u64, key: &[u8]) -> Option<Vec<u8>> {
-        // SAFETY: the handle holds tables.
         found(|room, len, count| {
+            // SAFETY: `held`: the handle holds tables.
             with(&self.0, |tables| unsafe {
                 raft_ffi_tables_value(tables, region, key.as_ptr(), key.len(), room, len, count)
             })
@@ -159,7 +159,7 @@ impl TablesHandle {
     /// Lists the appended keys and values up to a gate.
     pub(crate) fn pairs_before(&self, region: u64, gate: u64) -> Result<Vec<Pair>> {
         pairs(|lens, lens_len, count, bytes, bytes_len, len| {
-            // SAFETY: the handle holds tables.
+            // SAFETY: `held`: the handle holds tables.
             remembered(with(&self.0, |tables| unsafe {
                 raft_ffi_tables_pairs_before(
                     tables, region, gate, lens, lens_len, count, bytes, bytes_len, len,
@@ -171,7 +171,7 @@ impl TablesHandle {
     /// Lists the rewritten keys and values.
     pub(crate) fn rewritten_pairs(&self, region: u64) -> Result<Vec<Pair>> {
         pairs(|lens, lens_len, count, bytes, bytes_len, len| {
-            // SAFETY: the handle holds tables.
+            // SAFETY: `held`: the handle holds tables.
             remembered(with(&self.0, |tables| unsafe {
                 raft_ffi_tables_rewritten_pairs(
                     tables, region, lens, lens_len, count, bytes, bytes_len, len,
@@ -184,7 +184,7 @@ impl TablesHandle {
     pub(crate) fn pairs(&self, region: u64) -> Result<Vec<Pair>> {
         let none: &[u8] = &[];
         pairs(|lens, lens_len, count, bytes, bytes_len, len| {
-            // SAFETY: the handle holds tables.
+            // SAFETY: `held`: the handle holds tables.
             remembered(with(&self.0, |tables| unsafe {
                 raft_ffi_tables_scan(
                     tables,
@@ -209,7 +209,7 @@ impl TablesHandle {
     pub(crate) fn check_append(&self, batch: &LogBatchHandle) -> Result<()> {
         checked(|text, text_len| {
             with(&self.0, |tables| {
-                // SAFETY: the handles hold tables and a batch.
+                // SAFETY: `held`, `batch`: the handles hold tables and a batch.
                 with(&batch.0, |batch| unsafe {
                     raft_ffi_tables_check_append(tables, batch, text, text_len)
                 })
@@ -221,7 +221,7 @@ impl TablesHandle {
     pub(crate) fn check_share(&self, number: usize, batch: &LogBatchHandle) -> Result<()> {
         checked(|text, text_len| {
             with(&self.0, |tables| {
-                // SAFETY: the handles hold tables and a batch.
+                // SAFETY: `held`, `batch`: the handles hold tables and a batch.
                 with(&batch.0, |batch| unsafe {
                     raft_ffi_slot_check_append(tables, number, batch, text, text_len)
                 })
@@ -232,7 +232,7 @@ impl TablesHandle {
     /// Hands out the cleaned regions as a batch.
     pub(crate) fn cleaned_logs(&mut self) -> Result<LogBatchHandle> {
         let mut batch = Handle::EMPTY;
-        // SAFETY: the one handle holds tables, and the other one is empty.
+        // SAFETY: `held`, `empty`: the one handle holds tables, and the other one is empty.
         remembered(unsafe { raft_ffi_tables_cleaned_logs(self.0.as_ptr(), &mut batch) })?;
         Ok(LogBatchHandle::of(batch))
     }
@@ -240,7 +240,7 @@ impl TablesHandle {
     /// Appends entries.
     pub(crate) fn append(&mut self, region: u64, entries: &[Entry]) -> Result<()> {
         let run = numbers(entries);
-        // SAFETY: the handle holds tables.
+        // SAFETY: `held`: the handle holds tables.
         checked(|text, text_len| unsafe {
             raft_ffi_tables_append(
                 self.0.as_ptr(),
@@ -256,7 +256,7 @@ impl TablesHandle {
     /// Drops the entries below an index.
     pub(crate) fn compact(&mut self, region: u64, index: u64) -> Result<u64> {
         let mut dropped = 0;
-        // SAFETY: the handle holds tables.
+        // SAFETY: `held`: the handle holds tables.
         checked(|text, text_len| unsafe {
             raft_ffi_tables_compact(self.0.as_ptr(), region, index, &mut dropped, text, text_len)
         })?;
@@ -266,7 +266,7 @@ impl TablesHandle {
     /// Drops the entries at or above an index.
     pub(crate) fn truncate(&mut self, region: u64, index: u64) -> Result<u64> {
         let mut dropped = 0;
-        // SAFETY: the handle holds tables.
+        // SAFETY: `held`: the handle holds tables.
         checked(|text, text_len| unsafe {
             raft_ffi_tables_truncate(self.0.as_ptr(), region, index, &mut dropped, text, text_len)
         })?;
@@ -281,7 +281,7 @@ impl TablesHandle {
         value: &[u8],
         file: FileId,
     ) -> Result<()> {
-        // SAFETY: the handle holds tables.
+        // SAFETY: `held`: the handle holds tables.
         checked(|text, text_len| unsafe {
             raft_ffi_tables_put(
                 self.0.as_ptr(),
@@ -300,7 +300,7 @@ impl TablesHandle {
 
     /// Deletes a key.
     pub(crate) fn delete(&mut self, region: u64, key: &[u8]) -> Result<()> {
-        // SAFETY: the handle holds tables.
+        // SAFETY: `held`: the handle holds tables.
         checked(|text, text_len| unsafe {
             raft_ffi_tables_delete(
                 self.0.as_ptr(),
@@ -321,7 +321,7 @@ impl TablesHandle {
         gate: Option<u64>,
     ) -> Result<()> {
         let run = numbers(entries);
-        // SAFETY: the handle holds tables.
+        // SAFETY: `held`: the handle holds tables.
         checked(|text, text_len| unsafe {
             raft_ffi_tables_rewrite(
                 self.0.as_ptr(),
@@ -343,7 +343,7 @@ impl TablesHandle {
         gate: Option<u64>,
         seq: u64,
     ) -> Result<()> {
-        // SAFETY: the handle holds tables.
+        // SAFETY: `held`: the handle holds tables.
         checked(|text, text_len| unsafe {
             raft_ffi_tables_rewrite_key(
                 self.0.as_ptr(),
@@ -361,14 +361,14 @@ impl TablesHandle {
     /// Sets the files of an atomic group, the first of which is at or below the last.
     pub(crate) fn set_atomic_group(&mut self, region: u64, start: u64, end: u64) -> Result<()> {
         assert!(start <= end, "an atomic group starts behind its end");
-        // SAFETY: the handle holds tables, and the files are in order.
+        // SAFETY: `held`, `range`: the handle holds tables, and the files are in order.
         remembered(unsafe { raft_ffi_tables_atomic_group(self.0.as_ptr(), region, start, end) })
     }
 
     /// Takes a region's table away.
     pub(crate) fn remove(&mut self, region: u64, is_listed: bool) -> Result<bool> {
         let mut is_found = false;
-        // SAFETY: the handle holds tables.
+        // SAFETY: `held`: the handle holds tables.
         remembered(unsafe {
             raft_ffi_tables_remove(self.0.as_ptr(), region, is_listed, &mut is_found)
         })?;
@@ -377,7 +377,7 @@ impl TablesHandle {
 
     /// Moves the table of a region into others.
     pub(crate) fn move_table(&mut self, region: u64, to: &mut TablesHandle) -> Result<()> {
-        // SAFETY: both handles hold tables.
+        // SAFETY: `held`, `to`: both handles hold tables.
         checked(|text, text_len| unsafe {
             raft_ffi_tables_move_table(self.0.as_ptr(), to.0.as_ptr(), region, text, text_len)
         })
@@ -386,7 +386,7 @@ impl TablesHandle {
     /// Merges newer tables.
     pub(crate) fn merge_newer(&mut self, newer: TablesHandle) -> Result<()> {
         let newer = newer.into_raw();
-        // SAFETY: both handles hold tables, and the newer one is given away.
+        // SAFETY: `held`, `newer`: both handles hold tables, and the newer one is given away.
         checked(|text, text_len| unsafe {
             raft_ffi_tables_merge_newer(self.0.as_ptr(), newer, text, text_len)
         })
@@ -395,7 +395,7 @@ impl TablesHandle {
     /// Merges appended tables.
     pub(crate) fn merge_append(&mut self, append: TablesHandle) -> Result<()> {
         let append = append.into_raw();
-        // SAFETY: both handles hold tables, and the second one is given away.
+        // SAFETY: `held`, `append`: both handles hold tables, and the second one is given away.
         checked(|text, text_len| unsafe {
             raft_ffi_tables_merge_append(self.0.as_ptr(), append, text, text_len)
         })
@@ -404,7 +404,7 @@ impl TablesHandle {
     /// Writes items of the append queue.
     pub(crate) fn apply_append(&mut self, items: ItemsHandle) -> Result<()> {
         let items = items.into_raw();
-        // SAFETY: the handles hold tables and items, and the items are given away.
+        // SAFETY: `held`, `items`: the handles hold tables and items, and the items are given away.
         checked(|text, text_len| unsafe {
             raft_ffi_tables_apply_append(self.0.as_ptr(), items, text, text_len)
         })
@@ -418,7 +418,7 @@ impl TablesHandle {
         seq: u64,
     ) -> Result<()> {
         let items = items.into_raw();
-        // SAFETY: the handles hold tables and items, and the items are given away.
+        // SAFETY: `held`, `items`: the handles hold tables and items, and the items are given away.
         checked(|text, text_len| unsafe {
             raft_ffi_tables_apply_rewrite(self.0.as_ptr(), items, gate.into(), seq, text, text_len)
         })
@@ -427,7 +427,7 @@ impl TablesHandle {
     /// Writes those items of the append queue whose regions are of a slot.
     pub(crate) fn apply_share(&mut self, number: usize, items: &ItemsHandle) -> Result<()> {
         checked(|text, text_len| {
-            // SAFETY: the handles hold tables and items.
+            // SAFETY: `held`, `items`: the handles hold tables and items.
             with(&items.0, |items| unsafe {
                 raft_ffi_slot_apply_append(self.0.as_ptr(), number, items, text, text_len)
             })
@@ -443,7 +443,7 @@ impl TablesHandle {
         seq: u64,
     ) -> Result<()> {
         checked(|text, text_len| {
-            // SAFETY: the handles hold tables and items.
+            // SAFETY: `held`, `items`: the handles hold tables and items.
             with(&items.0, |items| unsafe {
                 raft_ffi_slot_apply_rewrite(
                     self.0.as_ptr(),
@@ -461,7 +461,7 @@ impl TablesHandle {
 
 impl Drop for TablesHandle {
     fn drop(&mut self) {
-        // SAFETY: the handle holds tables, which are given away.
+        // SAFETY: `held`: the handle holds tables, which are given away.
         unsafe { raft_ffi_tables_drop(self.0.get()) }
     }
 }

@@ -219,7 +219,8 @@ impl Tables {
     ///
     /// `Memory`. The list is then as it was.
     pub fn take_cleaned_logs(&mut self) -> Result<LogBatch> {
-        Ok(LogBatch::of(self.handle.cleaned_logs()?))
+        let regions = self.cleaned();
+        Ok(LogBatch::of_cleans(self.handle.cleaned_logs()?, &regions))
     }
 
     /// Writes the items of a batch of the append queue to the tables, in order.

@@ -248,6 +248,7 @@ impl Tables {
     ///
     /// `Corruption` where an item would be refused: the text names the region, the index and the reason. `Memory`.
     pub fn check_append(&self, batch: &LogBatch) -> Result<()> {
-        self.handle.check_append(batch.handle())
+        let checked = self.handle.check_append(batch.handle());
+        checked.map_err(|e| batch.misfit(e, |_| true, |region| self.summary(region)))
     }
 }

@@ -11,7 +11,7 @@
 /// assert_eq!(tables.summary(7), Some(expected));
 /// # Ok::<(), raft_recover::Error>(())
 /// ```
-#[derive(Clone, Copy, PartialEq, Eq, Hash, Debug)]
+#[derive(Clone, Copy, PartialEq, Eq, Hash, Debug, Default)]
 pub struct Summary {
     /// How many entries.
     pub entries: usize,

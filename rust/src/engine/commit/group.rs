@@ -54,17 +54,16 @@ impl<'a> Group<'a> {
 
     /// Lets the threads of these batches go on.
     fn release(&mut self, is_over: impl FnMut(&mut Commit) -> bool) {
-        let mut line = locks::lock(&self.commits.line);
-        line.over.extend(self.taken.extract_if(.., is_over));
-        self.commits.is_over.notify_all();
+        let over = self.taken.extract_if(.., is_over);
+        self.commits.change(|line| line.over.extend(over));
     }
 }
 
 impl Drop for Group<'_> {
     fn drop(&mut self) {
-        let mut line = locks::lock(&self.commits.line);
-        line.over.append(&mut self.taken);
-        line.is_led = false;
-        self.commits.is_over.notify_all();
+        self.commits.change(|line| {
+            line.over.append(&mut self.taken);
+            line.is_led = false;
+        });
     }
 }

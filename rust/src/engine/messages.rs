@@ -1,0 +1,125 @@
+//! Messages are read.
+
+use super::Engine;
+use crate::{Error, Files, Message, Result};
+use std::fmt;
+use std::ops::RangeBounds;
+
+impl<F: Files> Engine<F> {
+    /// Returns the message that is the value of a region's key, if there is one.
+    ///
+    /// ```
+    /// # use raft_recover::{Engine, ErrorKind, LogBatch, MemoryFiles, Options};
+    /// # let engine = Engine::with_files(MemoryFiles::new(), Options::new())?;
+    /// # let mut batch = LogBatch::new()?;
+    /// batch.put_message(7, b"state", &"leader".to_owned())?;
+    /// batch.put(7, b"other", b"\xff")?;
+    /// engine.write(&mut batch, true)?;
+    /// assert_eq!(engine.get_message::<String>(7, b"state")?.unwrap(), "leader");
+    /// assert_eq!(engine.get_message::<String>(7, b"none")?, None);
+    /// let refused = engine.get_message::<String>(7, b"other").unwrap_err();
+    /// assert_eq!(refused.kind, ErrorKind::Message);
+    /// # Ok::<(), raft_recover::Error>(())
+    /// ```
+    ///
+    /// # Errors
+    ///
+    /// `Message` where the value isn't a message; those of [`Engine::get`].
+    pub fn get_message<M: Message>(&self, region: u64, key: &[u8]) -> Result<Option<M>> {
+        let value = self.get(region, key)?;
+        value.map(|value| of_value(region, key, &value)).transpose()
+    }
+
+    /// Returns the keys of a region in a range with the messages that are their values, in the order of the keys.
+    ///
+    /// ```
+    /// # use raft_recover::{Engine, LogBatch, MemoryFiles, Options};
+    /// # let engine = Engine::with_files(MemoryFiles::new(), Options::new())?;
+    /// # let mut batch = LogBatch::new()?;
+    /// batch.put_message(7, b"a", &"one".to_owned())?;
+    /// batch.put_message(7, b"b", &"two".to_owned())?;
+    /// engine.write(&mut batch, true)?;
+    /// let messages = engine.scan_messages::<String>(7, ..)?;
+    /// assert_eq!(messages[1], (b"b".to_vec(), "two".to_owned()));
+    /// # Ok::<(), raft_recover::Error>(())
+    /// ```
+    ///
+    /// # Errors
+    ///
+    /// `Message` where a value isn't a message; those of [`Engine::scan`].
+    pub fn scan_messages<'a, M: Message>(
+        &self,
+        region: u64,
+        range: impl RangeBounds<&'a [u8]>,
+    ) -> Result<Vec<(Vec<u8>, M)>> {
+        let pairs = self.scan(region, range)?;
+        let messages = pairs
+            .iter()
+            .map(|(key, value)| Ok((key.to_vec(), of_value(region, key, value)?)));
+        messages.collect()
+    }
+
+    /// Returns the message that is an entry of a region, if there is one.
+    ///
+    /// ```
+    /// # use raft_recover::{Engine, LogBatch, MemoryFiles, Options};
+    /// # let engine = Engine::with_files(MemoryFiles::new(), Options::new())?;
+    /// # let mut batch = LogBatch::new()?;
+    /// batch.add_messages(7, 10, &["one".to_owned(), "two".to_owned()])?;
+    /// engine.write(&mut batch, true)?;
+    /// assert_eq!(engine.entry_of::<String>(7, 11)?.unwrap(), "two");
+    /// assert_eq!(engine.entry_of::<String>(7, 12)?, None);
+    /// # Ok::<(), raft_recover::Error>(())
+    /// ```
+    ///
+    /// # Errors
+    ///
+    /// `Message` where the entry isn't a message; those of [`Engine::entry`].
+    pub fn entry_of<M: Message>(&self, region: u64, index: u64) -> Result<Option<M>> {
+        let message = self.entry_with(region, index, |bytes| of_entry(region, index, bytes))?;
+        message.transpose()
+    }
+
+    /// Returns the messages that are the entries of a range of indexes.
+    ///
+    /// ```
+    /// # use raft_recover::{Engine, LogBatch, MemoryFiles, Options};
+    /// # let engine = Engine::with_files(MemoryFiles::new(), Options::new())?;
+    /// # let mut batch = LogBatch::new()?;
+    /// batch.add_messages(7, 10, &["one".to_owned(), "two".to_owned()])?;
+    /// engine.write(&mut batch, true)?;
+    /// assert_eq!(engine.entries_of::<String>(7, ..)?, ["one", "two"]);
+    /// # Ok::<(), raft_recover::Error>(())
+    /// ```
+    ///
+    /// # Errors
+    ///
+    /// `Message` where an entry isn't a message; those of [`Engine::entries`].
+    pub fn entries_of<M: Message>(
+        &self,
+        region: u64,
+        range: impl RangeBounds<u64>,
+    ) -> Result<Vec<M>> {
+        let entries = self.entries(region, range)?;
+        let messages = entries
+            .iter()
+            .map(|(index, bytes)| of_entry(region, index, bytes));
+        messages.collect()
+    }
+}
+
+/// Makes the message that a value is.
+fn of_value<M: Message>(region: u64, key: &[u8], value: &[u8]) -> Result<M> {
+    let key = key.escape_ascii();
+    decoded(value, format_args!("region {region}, key {key}"))
+}
+
+/// Makes the message that an entry is.
+fn of_entry<M: Message>(region: u64, index: u64, bytes: &[u8]) -> Result<M> {
+    decoded(bytes, format_args!("region {region}, entry {index}"))
+}
+
+/// Makes a message of bytes that stand where these words say.
+fn decoded<M: Message>(bytes: &[u8], place: impl fmt::Display) -> Result<M> {
+    M::decode(bytes).map_err(|e| Error::message(place, e))
+}

@@ -1,0 +1,70 @@
+//! Bytes that were ordered of the files and aren't there yet, which are read from memory.
+
+use super::locks;
+use super::numbers::Numbers;
+use crate::sys::Order;
+use crate::{FileId, Queue};
+use std::collections::VecDeque;
+use std::sync::{Arc, RwLock};
+
+/// The bytes of the orders that come next, oldest first. Where the files have failed they stay.
+#[derive(Debug, Default)]
+pub(super) struct Unwritten(RwLock<VecDeque<Piece>>);
+
+/// Bytes that are to stand in a file from an offset on.
+#[derive(Debug)]
+struct Piece {
+    file: FileId,
+    offset: u64,
+    bytes: Arc<Vec<u8>>,
+}
+
+impl Unwritten {
+    /// Notes the bytes of orders, which are carried out in turn on files with these lengths.
+    pub(super) fn note(&self, orders: &[Order], numbers: &Numbers) {
+        let mut ends = [Queue::Append, Queue::Rewrite].map(|queue| numbers.last(queue));
+        let mut pieces = locks::write(&self.0);
+        for order in orders {
+            match order {
+                Order::Begin(file) => ends[file.queue as usize] = Some((*file, 0)),
+                Order::Write(queue, bytes) => {
+                    if let Some((file, end)) = &mut ends[*queue as usize] {
+                        let (offset, bytes) = (*end, bytes.clone());
+                        *end += bytes.len() as u64;
+                        pieces.push_back(Piece {
+                            file: *file,
+                            offset,
+                            bytes,
+                        });
+                    }
+                }
+                Order::Cut(queue, len) => {
+                    if let Some((_, end)) = &mut ends[*queue as usize] {
+                        *end = (*end).min(*len);
+                    }
+                }
+                Order::Sync(_) | Order::DeleteOldest(_) => {}
+            }
+        }
+    }
+
+    /// Forgets the oldest ones, which are in their file now.
+    pub(super) fn forget_oldest(&self) {
+        locks::write(&self.0).pop_front();
+    }
+
+    /// Fills bytes with those of a file from an offset on, if all of these are among those that aren't written.
+    pub(super) fn read(&self, file: FileId, offset: u64, bytes: &mut [u8]) -> bool {
+        let pieces = locks::read(&self.0);
+        let found = pieces.iter().find_map(|piece| {
+            let from = offset.checked_sub(piece.offset)?;
+            let from = usize::try_from(from).ok()?;
+            let rest = piece.bytes.get(from..)?.get(..bytes.len())?;
+            (piece.file == file).then_some(rest)
+        });
+        if let Some(found) = found {
+            bytes.copy_from_slice(found);
+        }
+        found.is_some()
+    }
+}

@@ -1,0 +1,118 @@
+//! How much of the files is needed.
+
+use super::{Engine, locks};
+use crate::sys::EngineHandle;
+use crate::{Files, Queue, Result};
+
+/// How many bytes of the files of both queues are needed, and how many aren't.
+///
+/// ```
+/// use raft_recover::{Engine, LogBatch, MemoryFiles, Options};
+///
+/// let engine = Engine::with_files(MemoryFiles::new(), Options::new())?;
+/// let mut batch = LogBatch::new()?;
+/// batch.add_entries(7, 1, &["one", "two"])?;
+/// batch.put(7, b"key", b"value")?;
+/// engine.write(&mut batch, true)?;
+/// let usage = engine.usage()?;
+/// assert_eq!((usage.append.live, usage.rewrite.live), (14, 0));
+/// assert_eq!(usage.append.dead, engine.stats().append.bytes - 14);
+/// # Ok::<(), raft_recover::Error>(())
+/// ```
+#[derive(Clone, Copy, PartialEq, Eq, Hash, Debug, Default)]
+#[non_exhaustive]
+pub struct Usage {
+    /// The append queue.
+    pub append: QueueUsage,
+    /// The rewrite queue.
+    pub rewrite: QueueUsage,
+}
+
+/// How many bytes of a queue's files are needed, and how many aren't.
+///
+/// ```
+/// use raft_recover::QueueUsage;
+///
+/// let usage = QueueUsage { live: 10, dead: 30 };
+/// assert_eq!(usage.garbage(), 75);
+/// ```
+#[derive(Clone, Copy, PartialEq, Eq, Hash, Debug, Default)]
+pub struct QueueUsage {
+    /// The bytes of entries, and of keys with their values, that the tables have there. The keys of a region that has something
+    /// in both queues all count for the rewrite queue.
+    pub live: u64,
+    /// All others: records that went, and what surrounds the records in a batch.
+    pub dead: u64,
+}
+
+impl QueueUsage {
+    /// Returns how many of a hundred bytes aren't needed: 0 where there are none.
+    ///
+    /// ```
+    /// # use raft_recover::QueueUsage;
+    /// assert_eq!(QueueUsage { live: 1, dead: 2 }.garbage(), 66);
+    /// assert_eq!(QueueUsage::default().garbage(), 0);
+    /// ```
+    #[must_use]
+    pub fn garbage(&self) -> u8 {
+        let [live, dead] = [self.live, self.dead].map(u128::from);
+        (dead * 100 / (live + dead).max(1)) as u8
+    }
+}
+
+impl<F: Files> Engine<F> {
+    /// Counts how many bytes of the files are needed, and how many aren't. It looks at each entry and each key, while others may
+    /// write between two regions: [`Engine::stats`] is cheap.
+    ///
+    /// ```
+    /// # use raft_recover::{Engine, LogBatch, MemoryFiles, Options};
+    /// # let engine = Engine::with_files(MemoryFiles::new(), Options::new())?;
+    /// # let mut batch = LogBatch::new()?;
+    /// batch.add_entries(7, 10, &["one", "two", "three"])?;
+    /// engine.write(&mut batch, true)?;
+    /// let before = engine.usage()?.append;
+    /// batch.compact(7, 12)?;
+    /// engine.write(&mut batch, true)?;
+    /// let after = engine.usage()?.append;
+    /// assert_eq!((before.live, after.live), (11, 5));
+    /// assert!(after.garbage() > before.garbage());
+    /// # Ok::<(), raft_recover::Error>(())
+    /// ```
+    ///
+    /// # Errors
+    ///
+    /// `Memory`, `Failed`.
+    pub fn usage(&self) -> Result<Usage> {
+        self.readable()?;
+        let regions = self.tables().regions()?;
+        let mut live = [0, 0];
+        for region in regions {
+            let here = live_in(&mut self.tables(), region)?;
+            live = [live[0] + here[0], live[1] + here[1]];
+        }
+        let numbers = locks::lock(&self.numbers);
+        let of = |queue: Queue| {
+            let live = live[queue as usize];
+            let dead = numbers.bytes(queue).saturating_sub(live);
+            QueueUsage { live, dead }
+        };
+        Ok(Usage {
+            append: of(Queue::Append),
+            rewrite: of(Queue::Rewrite),
+        })
+    }
+}
+
+/// Returns how many bytes the records of a region have in the append files, and in the rewrite files.
+fn live_in(tables: &mut EngineHandle, region: u64) -> Result<[u64; 2]> {
+    let mut live = [0, 0];
+    for entry in super::reading::places(tables, region, &(..), None)? {
+        live[entry.block.file.queue as usize] += u64::from(entry.len);
+    }
+    let summary = tables.summary(region).unwrap_or_default();
+    let queue = summary
+        .rewrite_seq
+        .map_or(Queue::Append, |_| Queue::Rewrite);
+    live[queue as usize] += tables.scan(region, b"", None)?.bytes.len() as u64;
+    Ok(live)
+}

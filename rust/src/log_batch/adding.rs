@@ -1,0 +1,223 @@
+//! Items are added to a batch.
+
+use super::{LogBatch, Shape};
+use crate::{Error, Message, Result};
+
+impl LogBatch {
+    /// Adds entries of a region: their bytes in the order of their indexes, which rise by one from `first` on. No entries add
+    /// nothing.
+    ///
+    /// ```
+    /// # use raft_recover::LogBatch;
+    /// # let mut batch = LogBatch::new()?;
+    /// batch.add_entries(7, 10, &["one", "two"])?;
+    /// batch.add_entries(8, 1, &[vec![0; 100]])?;
+    /// batch.add_entries(7, u64::MAX, &["the last index is kept free"]).unwrap_err();
+    /// assert_eq!(batch.into_items()?.len(), 2);
+    /// # Ok::<(), raft_recover::Error>(())
+    /// ```
+    ///
+    /// # Errors
+    ///
+    /// `InvalidArgument` where the batch is no longer open or an index would be 2^64 - 1 or more, `Full` where the entry bytes
+    /// of the batch would pass 2^31 - 1, `Memory`.
+    pub fn add_entries<E: AsRef<[u8]>>(
+        &mut self,
+        region: u64,
+        first: u64,
+        entries: &[E],
+    ) -> Result<()> {
+        if let [entry] = entries {
+            return self.add_run(region, first, 1, |batch| {
+                batch.handle.add_entry(region, first, entry.as_ref())
+            });
+        }
+        self.room.clear();
+        for entry in entries {
+            self.room.push(entry.as_ref())?;
+        }
+        self.add_packed(region, first)
+    }
+
+    /// Adds messages as entries of a region, in the order of their indexes, which rise by one from `first` on.
+    ///
+    /// ```
+    /// # use raft_recover::LogBatch;
+    /// # let mut batch = LogBatch::new()?;
+    /// batch.add_messages(7, 10, &["one".to_owned(), "two".to_owned()])?;
+    /// assert_eq!(batch.len(), 1);
+    /// # Ok::<(), raft_recover::Error>(())
+    /// ```
+    ///
+    /// # Errors
+    ///
+    /// `Message` where one can't be encoded; those of [`LogBatch::add_entries`].
+    pub fn add_messages<M: Message>(
+        &mut self,
+        region: u64,
+        first: u64,
+        messages: &[M],
+    ) -> Result<()> {
+        self.room.clear();
+        for (at, message) in messages.iter().enumerate() {
+            let encoded = self.room.push_by(|bytes| message.encode(bytes));
+            encoded.map_err(|e| {
+                let index = first.saturating_add(at as u64);
+                Error::message(format_args!("region {region}, entry {index}"), e)
+            })?;
+        }
+        self.add_packed(region, first)
+    }
+
+    /// Adds the entries that were packed.
+    fn add_packed(&mut self, region: u64, first: u64) -> Result<()> {
+        let count = self.room.len() as u64;
+        self.add_run(region, first, count, |batch| {
+            batch.handle.add_packed(region, first, &batch.room)
+        })?;
+        self.room.shrink();
+        Ok(())
+    }
+
+    /// Makes a call that adds so many entries, and notes them.
+    fn add_run(
+        &mut self,
+        region: u64,
+        first: u64,
+        count: u64,
+        add: impl FnOnce(&mut LogBatch) -> Result<()>,
+    ) -> Result<()> {
+        self.shapes.reserve()?;
+        add(self)?;
+        if count > 0 {
+            let end = first + count;
+            self.shapes.note(region, Shape::Run { first, end });
+        }
+        Ok(())
+    }
+
+    /// Adds that all records of a region go.
+    ///
+    /// ```
+    /// # use raft_recover::{Content, LogBatch};
+    /// # let mut batch = LogBatch::new()?;
+    /// batch.clean(7)?;
+    /// assert_eq!(batch.into_items()?.get(0).unwrap().content, Content::Clean);
+    /// # Ok::<(), raft_recover::Error>(())
+    /// ```
+    ///
+    /// # Errors
+    ///
+    /// `InvalidArgument` where the batch is no longer open, `Memory`.
+    pub fn clean(&mut self, region: u64) -> Result<()> {
+        self.shapes.reserve()?;
+        self.handle.clean(region)?;
+        self.shapes.note(region, Shape::Clean);
+        Ok(())
+    }
+
+    /// Adds that the entries of a region below an index go.
+    ///
+    /// ```
+    /// # use raft_recover::{Content, LogBatch};
+    /// # let mut batch = LogBatch::new()?;
+    /// batch.compact(7, 10)?;
+    /// assert_eq!(batch.into_items()?.get(0).unwrap().content, Content::Compact { index: 10 });
+    /// # Ok::<(), raft_recover::Error>(())
+    /// ```
+    ///
+    /// # Errors
+    ///
+    /// `InvalidArgument` where the batch is no longer open, `Memory`.
+    pub fn compact(&mut self, region: u64, index: u64) -> Result<()> {
+        self.shapes.reserve()?;
+        self.handle.compact(region, index)?;
+        self.shapes.note(region, Shape::Compact(index));
+        Ok(())
+    }
+
+    /// Adds that the entries of a region from an index on go.
+    ///
+    /// ```
+    /// # use raft_recover::{Content, LogBatch};
+    /// # let mut batch = LogBatch::new()?;
+    /// batch.truncate(7, 10)?;
+    /// assert_eq!(batch.into_items()?.get(0).unwrap().content, Content::Truncate { index: 10 });
+    /// # Ok::<(), raft_recover::Error>(())
+    /// ```
+    ///
+    /// # Errors
+    ///
+    /// `InvalidArgument` where the batch is no longer open, `Memory`.
+    pub fn truncate(&mut self, region: u64, index: u64) -> Result<()> {
+        self.shapes.reserve()?;
+        self.handle.truncate(region, index)?;
+        self.shapes.note(region, Shape::Truncate(index));
+        Ok(())
+    }
+
+    /// Adds that a key of a region gets a value.
+    ///
+    /// ```
+    /// # use raft_recover::LogBatch;
+    /// # let mut batch = LogBatch::new()?;
+    /// batch.put(7, b"key", b"value")?;
+    /// batch.put(7, b"__\x01", b"of a group").unwrap_err();
+    /// assert_eq!(batch.into_items()?.len(), 1);
+    /// # Ok::<(), raft_recover::Error>(())
+    /// ```
+    ///
+    /// # Errors
+    ///
+    /// `InvalidArgument` where the batch is no longer open or the key is that of the group markers, `Memory`.
+    pub fn put(&mut self, region: u64, key: &[u8], value: &[u8]) -> Result<()> {
+        self.shapes.reserve()?;
+        self.handle.put(region, key, value)?;
+        self.shapes.note(region, Shape::Pair);
+        Ok(())
+    }
+
+    /// Adds that a key of a region gets a message as its value.
+    ///
+    /// ```
+    /// # use raft_recover::{Engine, LogBatch, MemoryFiles, Options};
+    /// # let engine = Engine::with_files(MemoryFiles::new(), Options::new())?;
+    /// # let mut batch = LogBatch::new()?;
+    /// batch.put_message(7, b"state", &"leader".to_owned())?;
+    /// engine.write(&mut batch, true)?;
+    /// assert_eq!(engine.get_message(7, b"state")?, Some("leader".to_owned()));
+    /// # Ok::<(), raft_recover::Error>(())
+    /// ```
+    ///
+    /// # Errors
+    ///
+    /// `Message` where it can't be encoded; those of [`LogBatch::put`].
+    pub fn put_message<M: Message>(&mut self, region: u64, key: &[u8], message: &M) -> Result<()> {
+        let mut value = Vec::new();
+        message.encode(&mut value).map_err(|e| {
+            let key = key.escape_ascii();
+            Error::message(format_args!("region {region}, key {key}"), e)
+        })?;
+        self.put(region, key, &value)
+    }
+
+    /// Adds that a key of a region goes.
+    ///
+    /// ```
+    /// # use raft_recover::{Content, LogBatch};
+    /// # let mut batch = LogBatch::new()?;
+    /// batch.delete(7, b"key")?;
+    /// assert_eq!(batch.into_items()?.get(0).unwrap().content, Content::Delete { key: b"key".to_vec() });
+    /// # Ok::<(), raft_recover::Error>(())
+    /// ```
+    ///
+    /// # Errors
+    ///
+    /// `InvalidArgument` where the batch is no longer open, `Memory`.
+    pub fn delete(&mut self, region: u64, key: &[u8]) -> Result<()> {
+        self.shapes.reserve()?;
+        self.handle.delete(region, key)?;
+        self.shapes.note(region, Shape::Pair);
+        Ok(())
+    }
+}

@@ -1,0 +1,120 @@
+//! What the items of a batch do to the entries of their regions.
+
+use crate::{Error, Result, Summary};
+use std::collections::BTreeMap;
+use std::ops::Range;
+
+/// What an item does to the entries of its region.
+#[derive(Clone, Copy, Debug)]
+pub(super) enum Shape {
+    /// They go on with those from `first` on and below `end`.
+    Run { first: u64, end: u64 },
+    /// All go.
+    Clean,
+    /// Those below the index go.
+    Compact(u64),
+    /// Those from the index on go.
+    Truncate(u64),
+    /// None go and none come: the item is a key.
+    Pair,
+}
+
+/// Where the entries of a region begin and end, if it has some.
+type Extent = Option<Range<u64>>;
+
+/// What the items of a batch do, in order, each with its region.
+#[derive(Debug, Default)]
+pub(super) struct Shapes(Vec<(u64, Shape)>);
+
+impl Shapes {
+    /// Returns how many items there are.
+    pub(super) fn len(&self) -> usize {
+        self.0.len()
+    }
+
+    /// Makes room for one more.
+    ///
+    /// # Errors
+    ///
+    /// `Memory`.
+    pub(super) fn reserve(&mut self) -> Result<()> {
+        self.0.try_reserve(1).map_err(|_| Error::memory())
+    }
+
+    /// Makes room for those of another batch.
+    ///
+    /// # Errors
+    ///
+    /// `Memory`.
+    pub(super) fn reserve_for(&mut self, more: &Shapes) -> Result<()> {
+        self.0.try_reserve(more.len()).map_err(|_| Error::memory())
+    }
+
+    /// Notes an item.
+    pub(super) fn note(&mut self, region: u64, shape: Shape) {
+        self.0.push((region, shape));
+    }
+
+    /// Moves those of another batch here.
+    pub(super) fn append(&mut self, more: &mut Shapes) {
+        self.0.append(&mut more.0);
+    }
+
+    /// Forgets all.
+    pub(super) fn clear(&mut self) {
+        self.0.clear();
+    }
+
+    /// Finds the first item whose entries leave a hole behind those of their region, or begin in front of them. A call finds
+    /// what a region had before all items, if it is tested.
+    pub(super) fn misfit(
+        &self,
+        is_tested: impl Fn(u64) -> bool,
+        mut summary: impl FnMut(u64) -> Option<Summary>,
+    ) -> Option<usize> {
+        let mut extents = BTreeMap::new();
+        self.0.iter().position(|(region, shape)| {
+            if !is_tested(*region) {
+                return false;
+            }
+            let now = extents
+                .entry(*region)
+                .or_insert_with(|| extent_of(summary(*region)));
+            let fits = shape.fits(now);
+            *now = shape.applied_to(now);
+            !fits
+        })
+    }
+}
+
+impl Shape {
+    /// Tests whether the item's entries, if it has some, go on with those of its region.
+    fn fits(self, extent: &Extent) -> bool {
+        match (self, extent) {
+            (Shape::Run { first, .. }, Some(extent)) => {
+                (extent.start..=extent.end).contains(&first)
+            }
+            _ => true,
+        }
+    }
+
+    /// Returns the extent that the item leaves.
+    fn applied_to(self, extent: &Extent) -> Extent {
+        let extent = extent.clone();
+        let kept = match self {
+            Shape::Run { first, end } => Some(extent.map_or(first, |extent| extent.start)..end),
+            Shape::Clean => None,
+            Shape::Compact(index) => extent.map(|extent| extent.start.max(index)..extent.end),
+            Shape::Truncate(index) => extent.map(|extent| extent.start..extent.end.min(index)),
+            Shape::Pair => extent,
+        };
+        kept.filter(|kept| !kept.is_empty())
+    }
+}
+
+/// Returns where the entries of a region begin and end that has this.
+fn extent_of(summary: Option<Summary>) -> Extent {
+    let summary = summary?;
+    let first = summary.first_index?;
+    Some(first..first + summary.entries as u64)
+}

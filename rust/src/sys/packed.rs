@@ -1,0 +1,91 @@
+//! Entries that are packed to be lent to the library.
+
+use crate::{Error, Result};
+use std::error;
+
+/// Up to how many bytes of room are kept once the entries in it were added.
+const KEPT: usize = 1 << 20;
+
+/// The bytes of entries, one behind the other, with the length of each: the lengths are those of the bytes.
+#[derive(Debug, Default)]
+pub(crate) struct Packed {
+    lens: Vec<usize>,
+    bytes: Vec<u8>,
+    /// How many bytes of room were asked for.
+    asked: usize,
+}
+
+impl Packed {
+    /// Makes room for so many bytes.
+    ///
+    /// # Errors
+    ///
+    /// `Memory`.
+    pub(crate) fn with_capacity(bytes: usize) -> Result<Packed> {
+        let mut packed = Packed {
+            asked: bytes,
+            ..Packed::default()
+        };
+        packed
+            .bytes
+            .try_reserve_exact(bytes)
+            .map_err(|_| Error::memory())?;
+        Ok(packed)
+    }
+
+    /// Forgets all entries.
+    pub(crate) fn clear(&mut self) {
+        self.lens.clear();
+        self.bytes.clear();
+    }
+
+    /// Gives back what room there is beyond what is kept.
+    pub(crate) fn shrink(&mut self) {
+        self.clear();
+        self.lens.shrink_to(KEPT / size_of::<usize>());
+        self.bytes.shrink_to(self.asked.max(KEPT));
+    }
+
+    /// Returns how many entries there are.
+    pub(crate) fn len(&self) -> usize {
+        self.lens.len()
+    }
+
+    /// Returns the length of each entry, and the bytes of all.
+    pub(super) fn parts(&self) -> (&[usize], &[u8]) {
+        (&self.lens, &self.bytes)
+    }
+
+    /// Packs an entry.
+    ///
+    /// # Errors
+    ///
+    /// `Memory`.
+    pub(crate) fn push(&mut self, entry: &[u8]) -> Result<()> {
+        self.lens.try_reserve(1).map_err(|_| Error::memory())?;
+        self.bytes
+            .try_reserve(entry.len())
+            .map_err(|_| Error::memory())?;
+        self.lens.push(entry.len());
+        self.bytes.extend_from_slice(entry);
+        Ok(())
+    }
+
+    /// Packs an entry that a call puts behind those that are there.
+    ///
+    /// # Errors
+    ///
+    /// Those of the call, also where it takes bytes of the others away.
+    pub(crate) fn push_by<E: Into<Box<dyn error::Error + Send + Sync>>>(
+        &mut self,
+        put: impl FnOnce(&mut Vec<u8>) -> std::result::Result<(), E>,
+    ) -> std::result::Result<(), Box<dyn error::Error + Send + Sync>> {
+        let before = self.bytes.len();
+        put(&mut self.bytes).map_err(Into::into)?;
+        let Some(len) = self.bytes.len().checked_sub(before) else {
+            return Err("it took bytes away that were there before".into());
+        };
+        self.lens.push(len);
+        Ok(())
+    }
+}

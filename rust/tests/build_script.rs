@@ -1,0 +1,122 @@
+//! What the build script says where something is missing: one line, and `cargo check` goes on.
+
+mod common;
+
+use common::{TempFolder, top};
+use std::env;
+use std::fs;
+use std::path::PathBuf;
+use std::process::Command;
+
+/// The build script, compiled for a package in a folder of its own, so without an archive beside it.
+struct Script {
+    room: TempFolder,
+    program: PathBuf,
+}
+
+impl Script {
+    fn new() -> Script {
+        let room = TempFolder::new();
+        let program = room.path().join("script");
+        let rustc = env::var_os("RUSTC").unwrap_or_else(|| "rustc".into());
+        let compiled = Command::new(rustc)
+            .args(["--edition", "2024", "-o"])
+            .arg(&program)
+            .arg(top().join("rust/build.rs"))
+            .env("CARGO_MANIFEST_DIR", room.path().join("rust"))
+            .status()
+            .unwrap();
+        assert!(compiled.success());
+        Script { room, program }
+    }
+
+    /// Runs it for a target, which its system, its processor and its library of C name, and returns the lines that it says.
+    fn run(&self, target: [&str; 3], variables: &[(&str, &str)]) -> Vec<String> {
+        let [system, processor, library] = target;
+        let output = Command::new(&self.program)
+            .env_clear()
+            .env("PATH", self.room.path()) // no `rt` is there
+            .env("CARGO_CFG_TARGET_OS", system)
+            .env("CARGO_CFG_TARGET_ARCH", processor)
+            .env("CARGO_CFG_TARGET_ENV", library)
+            .envs(variables.iter().copied())
+            .output()
+            .unwrap();
+        assert!(output.status.success());
+        let said = String::from_utf8(output.stdout).unwrap();
+        let lines = said.lines().filter(|line| !line.contains("rerun-if"));
+        lines.map(str::to_owned).collect()
+    }
+}
+
+const OURS: [&str; 3] = ["linux", "x86_64", "gnu"];
+
+/// The heap is that of the program, and nothing of the toolchain is needed.
+const GLOBAL: (&str, &str) = ("CARGO_FEATURE_GLOBAL_ALLOCATOR", "1");
+
+#[test]
+fn on_other_machines_one_line_says_what_is_missing_and_nothing_is_linked() {
+    let script = Script::new();
+    for target in [
+        ["windows", "x86_64", "msvc"],
+        ["macos", "aarch64", ""],
+        ["linux", "aarch64", "gnu"],
+        ["linux", "x86_64", "musl"],
+    ] {
+        let said = script.run(target, &[]);
+        assert_eq!(said.len(), 1, "{said:?}");
+        let line = &said[0];
+        assert!(
+            line.starts_with("cargo::warning=") && line.contains("x86_64-unknown-linux-gnu alone")
+        );
+    }
+}
+
+#[test]
+fn without_the_library_one_line_says_how_it_is_made() {
+    let said = Script::new().run(OURS, &[GLOBAL]);
+    let warnings = said
+        .iter()
+        .filter(|line| line.starts_with("cargo::warning="));
+    let warnings: Vec<_> = warnings.collect();
+    assert_eq!(warnings.len(), 1, "{said:?}");
+    assert!(
+        warnings[0].contains("run `make rust`") && warnings[0].contains("`make rust-unproved`")
+    );
+    assert!(!said.iter().any(|line| line.starts_with("cargo::error=")));
+}
+
+#[test]
+fn without_the_heap_of_the_toolchain_a_line_more_says_so() {
+    let said = Script::new().run(OURS, &[]);
+    let warnings = said
+        .iter()
+        .filter(|line| line.starts_with("cargo::warning="));
+    assert_eq!(warnings.count(), 2, "{said:?}");
+    assert!(
+        said.iter()
+            .any(|line| line.contains("the feature `global-allocator`"))
+    );
+}
+
+#[test]
+fn an_archive_that_is_named_and_isnt_there_is_an_error() {
+    let script = Script::new();
+    let archive = script.room.path().join("libmine.a");
+    let named = [GLOBAL, ("RAFT_FFI_ARCHIVE", archive.to_str().unwrap())];
+    let said = script.run(OURS, &named);
+    assert_eq!(said.len(), 1, "{said:?}");
+    assert!(
+        said[0].starts_with("cargo::error=RAFT_FFI_ARCHIVE: "),
+        "{said:?}"
+    );
+
+    fs::write(&archive, "").unwrap();
+    let said = script.run(OURS, &named);
+    let folder = script.room.path().canonicalize().unwrap();
+    let expected = [
+        format!("cargo::rustc-link-search=native={}", folder.display()),
+        "cargo::rustc-link-lib=static=mine".to_owned(),
+    ];
+    assert_eq!(said, expected);
+}

@@ -1,0 +1,128 @@
+//! Each program of examples/ runs and says what it is to say. `ten_lines` is killed in a test of its own.
+
+mod common;
+
+use common::{TempFolder, lines, top};
+use std::collections::BTreeSet;
+use std::path::{Path, PathBuf};
+use std::process::Command;
+use std::{env, fs};
+
+/// The programs that this file runs, and those of `killed.rs`.
+const PROGRAMS: [&str; 6] = [
+    "look",
+    "raft_storage",
+    "recover",
+    "speed",
+    "ten_lines",
+    "write",
+];
+
+/// A program, which `cargo test` builds beside the tests.
+fn program(name: &str) -> PathBuf {
+    let tests = env::current_exe().unwrap();
+    let path = tests
+        .ancestors()
+        .nth(2)
+        .unwrap()
+        .join("examples")
+        .join(name);
+    assert!(
+        path.is_file(),
+        "`cargo build --examples` makes {}",
+        path.display()
+    );
+    path
+}
+
+/// Runs a program, and returns the lines that it says.
+fn said(name: &str, words: &[&Path]) -> Vec<String> {
+    let output = Command::new(program(name)).args(words).output().unwrap();
+    let error = String::from_utf8_lossy(&output.stderr);
+    assert!(output.status.success(), "{name}: {error}");
+    let said = String::from_utf8(output.stdout).unwrap();
+    said.lines().map(str::to_owned).collect()
+}
+
+#[test]
+fn each_program_is_run() {
+    let files = fs::read_dir(top().join("rust/examples")).unwrap();
+    let names = files.map(|file| file.unwrap().path().file_stem().unwrap().to_owned());
+    let names: BTreeSet<_> = names.map(|name| name.into_string().unwrap()).collect();
+    assert!(names.iter().eq(&PROGRAMS), "{names:?}");
+}
+
+#[test]
+fn the_log_store_appends_an_entry_each_time() {
+    let room = TempFolder::new();
+    for index in 1..=3 {
+        assert_eq!(
+            said("raft_storage", &[room.path()]),
+            [format!("entry {index}")]
+        );
+    }
+    let look = said("look", &[room.path()]);
+    assert!(
+        look.contains(&"region 1: entries 1 to 3, 0 keys".to_owned()),
+        "{look:?}"
+    );
+    assert!(look[0].starts_with("append queue: 1 files of "), "{look:?}");
+
+    // a torn tail is left out, and stays where it is
+    let torn = room.path().join("0000000000000001.raftlog");
+    let mut bytes = fs::read(&torn).unwrap();
+    bytes.extend(b"torn");
+    fs::write(&torn, &bytes).unwrap();
+    let look = said("look", &[room.path()]);
+    assert!(
+        look[0].starts_with("left out: append file 1, offset "),
+        "{look:?}"
+    );
+    assert_eq!(fs::read(&torn).unwrap(), bytes);
+    assert_eq!(said("raft_storage", &[room.path()]), ["entry 4"]);
+}
+
+#[test]
+fn files_are_recovered() {
+    let expected: Vec<_> = lines().lines().map(str::to_owned).collect();
+    assert_eq!(said("recover", &[&top().join("demo")]), expected);
+}
+
+#[test]
+fn four_threads_write_a_file_and_it_is_recovered() {
+    let room = TempFolder::new();
+    let path = room.path().join("file");
+    let said = said("write", &[&path]);
+    let (torn, recovered) = said.split_first().unwrap();
+    let len = fs::metadata(path).unwrap().len();
+    assert!(torn.contains(&format!(" of {} bytes: ", len - 1)), "{torn}");
+    // a batch of ten entries and a key was cut short: the key has its older value
+    assert_eq!(recovered.last().unwrap(), "live 394 0");
+    let of_region = |region: u64| format!("{region} entries 1..101 keys 1 append 1 rewrite -");
+    let whole = (1..=4).filter(|region| recovered.contains(&of_region(*region)));
+    assert_eq!((whole.count(), recovered.len()), (3, 6));
+}
+
+#[test]
+fn the_times_of_an_engine_are_told() {
+    let room = TempFolder::new();
+    let folder = room.path().join("new");
+    let said = said("speed", &[&folder, Path::new("1"), Path::new("1")]);
+    let written = said
+        .iter()
+        .filter(|line| line.ends_with(" a second") || line.ends_with(" a sync"));
+    let read = said.iter().filter(|line| line.contains("ms, opened in "));
+    assert_eq!((written.count(), read.count(), said.len()), (4, 3, 7));
+}
+
+#[test]
+fn a_program_without_its_words_says_what_it_takes() {
+    for name in ["look", "raft_storage", "recover", "speed", "ten_lines"] {
+        let output = Command::new(program(name)).output().unwrap();
+        let error = String::from_utf8_lossy(&output.stderr);
+        assert!(
+            !output.status.success() && error.contains(&format!("{name} <folder>")),
+            "{name}: {error}"
+        );
+    }
+}

@@ -1,0 +1,87 @@
+//! Who writes gets in between while records move.
+
+mod common;
+
+use common::hooked::{Call, Hooked};
+use raft_recover::{Engine, LogBatch, MemoryFiles, Options, Queue};
+use std::sync::Mutex;
+use std::sync::atomic::{AtomicBool, Ordering::SeqCst};
+use std::thread;
+use std::time::Duration;
+
+fn batch(region: u64, index: u64, len: usize) -> LogBatch {
+    let mut batch = LogBatch::new().unwrap();
+    batch.add_entries(region, index, &[vec![7; len]]).unwrap();
+    batch
+}
+
+#[test]
+fn writers_get_in_between_while_records_move() {
+    let (calls, is_moving) = (Mutex::new(Vec::new()), AtomicBool::new(false));
+    let hooked = Hooked::new(&MemoryFiles::new(), |call: Call<'_>| {
+        if let Call::Write(file, _) = call {
+            calls.lock().unwrap().push(file.queue);
+            if file.queue == Queue::Rewrite {
+                is_moving.store(true, SeqCst);
+                thread::sleep(Duration::from_millis(30)); // a slow disk
+            }
+        }
+        Ok(())
+    });
+    let engine = Engine::with_files(hooked, Options::new()).unwrap();
+    for region in 0..16 {
+        engine
+            .write(&mut batch(region, 1, 300 << 10), false)
+            .unwrap();
+    }
+    engine.rotate().unwrap();
+    calls.lock().unwrap().clear();
+    let written = thread::scope(|scope| {
+        let rewriting = scope.spawn(|| engine.rewrite(1).unwrap());
+        while !is_moving.load(SeqCst) {
+            thread::yield_now();
+        }
+        let mut written = 0;
+        while !rewriting.is_finished() {
+            written += 1;
+            engine.write(&mut batch(100, written, 10), false).unwrap();
+        }
+        written
+    });
+    let calls = calls.lock().unwrap().clone();
+    let moves = calls.iter().filter(|queue| **queue == Queue::Rewrite);
+    assert!(moves.count() >= 4, "{calls:?}");
+    // behind each move but the last one at most one other waits in front of a writer
+    let last = calls.iter().rposition(|queue| *queue == Queue::Rewrite);
+    let held = calls[..=last.unwrap()].split(|queue| *queue == Queue::Append);
+    let longest = held.map(<[Queue]>::len).max().unwrap();
+    assert!(longest <= 2 && written >= 2, "{calls:?}");
+    assert_eq!(engine.stats().rewrite.records, 16);
+}
+
+#[test]
+fn a_reader_of_a_region_that_moves_reads_on() {
+    let engine = Engine::with_files(MemoryFiles::new(), Options::new()).unwrap();
+    for region in 0..8 {
+        engine
+            .write(&mut batch(region, 1, 200 << 10), false)
+            .unwrap();
+    }
+    engine.rotate().unwrap();
+    thread::scope(|scope| {
+        let moving = scope.spawn(|| {
+            engine.rewrite(1).unwrap();
+            for _ in 0..4 {
+                engine.rewrite_again().unwrap();
+                engine.purge().unwrap();
+            }
+        });
+        while !moving.is_finished() {
+            for region in 0..8 {
+                let len = engine.entry_with(region, 1, <[u8]>::len).unwrap();
+                assert_eq!(len, Some(200 << 10));
+            }
+        }
+    });
+    assert_eq!(engine.stats().rewrite.records, 8);
+}

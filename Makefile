@@ -2,27 +2,32 @@
 SHELL := /bin/bash
 RT ?= rt
 export RT
-.PHONY: believe believe-check bench calls compare crashes cuttings demo demo-recover edits example hostile raftlog refused-memory rust rust-crashes rust-tests rust-unproved stack test wrong-bodies
+.PHONY: believe believe-check bench calls compare crashes cuttings demo demo-recover edits example hostile raftlog refused-memory rust rust-crashes rust-tests rust-unproved stack test tools wrong-bodies
+
+# Builds `raftlog` with checks at run time and keeps it, and says where it lies. Nothing is proved.
+tools:
+	@tools/unproved_program.py raftlog
+	@echo "it isn't proved: \`make raftlog\` proves it"
 
 # Runs `raftlog` on an item batch, which says that the records of region 1 go. Nothing is proved.
 demo:
 	@echo "raftlog, compiled with checks at run time and run without a proof (\`make raftlog\` proves it):"
+	@tools/unproved_program.py raftlog > /dev/null
 	@echo "\$$ printf '\x01\x01\x02\x01\x5a\x80\x0b\xdd' | raftlog batch append 12 1"
-	@mkdir -p crates/raftlog/out
-	@cd crates/raftlog && $(RT) try -- batch append 12 1 < stdin 2> out/demo.log || { cat out/demo.log; exit 1; }
+	@crates/raftlog/out/raftlog_unproved batch append 12 1 < crates/raftlog/stdin
 
 # Recovers the tables that the files of demo/ give, by at most four workers. Nothing is proved.
 demo-recover:
 	@echo "raftlog, compiled with checks at run time and run without a proof (\`make raftlog\` proves it):"
+	@tools/unproved_program.py raftlog > /dev/null
 	@echo "\$$ raftlog recover append 2 4 1=demo/1.log 2=demo/2.log 3=demo/3.log 4=demo/4.log"
-	@mkdir -p crates/raftlog/out
-	@cd crates/raftlog && $(RT) try -- recover append 2 4 $(foreach n,1 2 3 4,"$(n)=$(CURDIR)/demo/$(n).log") 2> out/demo.log || { cat out/demo.log; exit 1; }
+	@crates/raftlog/out/raftlog_unproved recover append 2 4 $(foreach n,1 2 3 4,"$(n)=demo/$(n).log")
 
 # Runs the example. Nothing is proved.
 example:
 	@echo "raft_example, compiled with checks at run time, which takes a minute, and run without a proof:"
-	@mkdir -p crates/raft_example/out
-	@cd crates/raft_example && $(RT) try 2> out/example.log || { cat out/example.log; exit 1; }
+	@tools/unproved_program.py raft_example > /dev/null
+	@cd crates/raft_example/out && ./raft_example_unproved
 
 # Proves `raftlog` and the crates below it, builds it, and says where it lies.
 raftlog:

@@ -1,6 +1,6 @@
 #!/usr/bin/env python3
-"""The page of all calls: what the four crates that users import from, raft_files and raft_engine have, each with its signature and its first
-sentence, types with their public fields and their variants.
+"""The page of all calls: what the four crates that users import from, raft_files, raft_engine and raft_folder have, each with its signature and
+its first sentence, types with their public fields and their variants.
 
     calls.py            writes docs/CALLS.md
     calls.py --check    fails where that page isn't what the sources say now
@@ -18,7 +18,7 @@ from pathlib import Path
 
 TOP = Path(__file__).resolve().parent.parent
 PAGE = TOP / "docs/CALLS.md"
-USERS_CRATES = ("raft_base", "raft_records", "raft_memtable", "raft_recover", "raft_files", "raft_engine")
+USERS_CRATES = ("raft_base", "raft_records", "raft_memtable", "raft_recover", "raft_files", "raft_engine", "raft_folder")
 
 HEAD = re.compile(r"^( *)pub (?:final )?(?:const |unsafe )*(fn|struct|enum|trait|const|type) (\w+)", re.M)
 METHOD = re.compile(r"^    (?:pub )?(?:final )?fn (\w+)", re.M)
@@ -141,7 +141,7 @@ class Crate:
             yield f"- `{signature(text, head.start())}`{imported}: {what}"
             return
         yield f"- **`{name}`** ({kind}){imported}: {what}{parts_of(kind, text, head)}"
-        if kind == "trait":
+        if kind == "trait" and not text[head.start():text.index("\n", head.start())].endswith("{}"):
             yield from self.methods(text[head.start():ENDS_BLOCK.search(text, head.start()).start()], METHOD)
         for other in self.files:
             for impl in IMPL.finditer(other):

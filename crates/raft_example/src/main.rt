@@ -4,22 +4,19 @@
 //! one of the program's own, which is removed at the end.
 #![tactic(auto)]
 
-mod folder;
-mod folder_files;
-
-use folder::Disk;
-use folder_files::FolderFiles;
-use raft_base::{Error, FileSeq, LogQueue, Result, Version};
+use raft_base::{FileId, FileSeq, LogQueue, Result, Version};
 use raft_engine::Engine;
+use raft_folder::{FolderError, FolderFiles, FolderHost};
 use raft_records::{Command, LogBatch};
 use raft_samples::{Proposals, proposals_from};
+use std::fs::OpenOptions;
 use std::thread::Threads;
 use std::{env, fs};
 
 /// What the program asks of the machine.
-trait Host: Disk + Threads + Sync + Print {}
+trait Host: FolderHost + Threads + Sync + Print {}
 
-impl<R: Disk + Threads + Sync + Print> Host for R {}
+impl<R: FolderHost + Threads + Sync + Print> Host for R {}
 
 type FolderEngine<'a, R> = Engine<FolderFiles<'a, R>>;
 
@@ -64,8 +61,8 @@ fn open<'a, R: Host>(rt: &'a R, folder: &'a str) -> Result<FolderEngine<'a, R>> 
     let found = FolderFiles::open(rt, folder)?;
     let (files, append, rewrite) = (found.files, found.append, found.rewrite);
     let engine = Engine::open(rt, rt.alloc(), Version::V2, files, append, rewrite, WORKERS)?;
-    for cut in engine.files().cuts() {
-        println!(rt; "cut off: {} bytes, which {} keeps", cut.len, cut.kept)?;
+    for tail in engine.files().kept() {
+        println!(rt; "cut off: {} bytes, which {} keeps", tail.len, tail.kept)?;
     }
     Ok(engine)
 }
@@ -84,8 +81,8 @@ fn write_and_move<'a, R: Host>(rt: &'a R, folder: &'a str) -> Result<()> {
 
 /// Tries to open a folder that an engine has open.
 fn open_twice<'a, R: Host>(rt: &'a R, folder: &'a str) -> Result<()> {
-    if let Err(Error::TryAgain(text)) = open(rt, folder) {
-        println!(rt; "not opened a second time: {text}")?;
+    if let Err(FolderError::Locked(_)) = FolderFiles::open(rt, folder) {
+        println!(rt; "not opened a second time: another engine has the folder open")?;
     }
     Ok(())
 }
@@ -102,16 +99,17 @@ fn write_both<R: Host>(rt: &R, engine: &mut FolderEngine<'_, R>) -> Result<()> {
 
 /// Moves what the closed append files have to the rewrite queue, deletes those that aren't needed, and returns how many.
 fn move_closed<R: Host>(engine: &mut FolderEngine<'_, R>) -> Result<usize> {
-    let gate = last_closed(engine);
+    let gate = last_closed(engine)?;
     engine.rewrite(gate)?;
     engine.purge_expired_files()
 }
 
 /// Returns the number below that of the append file that is written to.
-fn last_closed<R: Host>(engine: &FolderEngine<'_, R>) -> FileSeq {
-    match engine.files().files(LogQueue::Append).last_key_value() {
-        Some((last, _)) => last.saturating_sub(1),
-        None => 0,
+fn last_closed<R: Host>(engine: &FolderEngine<'_, R>) -> Result<FileSeq> {
+    let files = engine.files().list(LogQueue::Append)?;
+    match files.last() {
+        Some(last) => Ok(last.seq.saturating_sub(1)),
+        None => Ok(0),
     }
 }
 
@@ -121,8 +119,15 @@ fn write_torn<R: Host>(rt: &R, folder: &str) -> Result<()> {
     show(rt, &engine, "opened")?;
     write(rt, &mut engine, 8, &["put w 6"], "c", false)?;
     show(rt, &engine, "written")?;
-    if let Some((_, file)) = engine.files().files(LogQueue::Append).last_key_value() {
-        file.set_len(file.metadata()?.len().saturating_sub(5))?;
+    let files = engine.files().list(LogQueue::Append)?;
+    if let Some(last) = files.last() {
+        let path = engine
+            .files()
+            .path_of(FileId::new(LogQueue::Append, last.seq))?;
+        let mut how = OpenOptions::new();
+        how.write(true);
+        let file = how.open(rt, path.as_str())?;
+        file.set_len(last.len.saturating_sub(5))?;
     }
     Ok(println!(rt; "torn, 5 bytes are lost")?)
 }
@@ -168,8 +173,8 @@ fn keep_two<R: Host>(rt: &R, engine: &mut FolderEngine<'_, R>, region: u64) -> R
 
 /// Prints what an engine has after a step: how many files; and of each region the first index and the last one, and who leads it.
 fn show<R: Host>(rt: &R, engine: &FolderEngine<'_, R>, step: &str) -> Result<()> {
-    let append = engine.files().files(LogQueue::Append).len();
-    let rewrite = engine.files().files(LogQueue::Rewrite).len();
+    let append = engine.files().list(LogQueue::Append)?.len();
+    let rewrite = engine.files().list(LogQueue::Rewrite)?.len();
     println!(rt; "{step}: append files {append}, rewrite files {rewrite}")?;
     for region in REGIONS {
         let first = engine.first_index(region).unwrap_or(0);

@@ -5,16 +5,24 @@ ghost use Rattle.raft_base.specs.declared.pipe_log.LogQueue.TheVariants.{Append,
 ghost use Rattle.raft_files.specs.Asks.{Found, ask};
 ghost use Rattle.raft_files.specs.HeldFiles.{file_shown};
 
-use crate::folder::{CutTail, Disk, Folder, OpenFiles};
+use crate::errors::FolderResult;
+use crate::folder::{Folder, KeptTail};
+use crate::host::FolderHost;
+use crate::read_folder::FolderFile;
 use raft_base::{Error, FileBlockHandle, FileId, FileSeq, LogQueue, Result};
 use raft_files::{Asked, EngineFiles};
 
-/// The files of both queues in a folder.
+/// The files of both queues in a folder, as `0000000000000001.raftlog` and `0000000000000001.rewrite`, and a file `LOCK`. It and
+/// the folder itself are locked for as long as this value lives. Other names are left alone.
+///
+/// What an opened engine cuts off a file is kept first, in a file beside it whose name says where it stood:
+/// `0000000000000001.raftlog.4096.cut`, and `0000000000000001.raftlog.4096.2.cut` where something else was cut there before.
+/// None is ever read or deleted: look at them where a batch is missed, and delete them when you like.
 ///
 /// A call is noted before anything is done that may be left half done. After an `Err` of any call but `read`, whatever its
 /// reason, every later call fails with `Failed`: what the disk has is found when the folder is opened again.
 #[derive(Drop)]
-pub(crate) struct FolderFiles<'a, R: Disk> {
+pub struct FolderFiles<'a, R: FolderHost> {
     folder: Folder<'a, R>,
     asked: Asked,
     /// Whether a call has begun and not ended well.
@@ -23,27 +31,30 @@ pub(crate) struct FolderFiles<'a, R: Disk> {
 
 /// What a folder has when it is opened: its files, and the bytes of those of each queue, oldest first.
 #[derive(Drop)]
-pub(crate) struct FoundFolder<'a, R: Disk> {
-    pub(crate) files: FolderFiles<'a, R>,
-    pub(crate) append: Vec<(FileSeq, Vec<u8>)>,
-    pub(crate) rewrite: Vec<(FileSeq, Vec<u8>)>,
+pub struct FoundFolder<'a, R: FolderHost> {
+    pub files: FolderFiles<'a, R>,
+    pub append: Vec<(FileSeq, Vec<u8>)>,
+    pub rewrite: Vec<(FileSeq, Vec<u8>)>,
 }
 
-impl<'a, R: Disk> FolderFiles<'a, R> {
-    /// Opens a folder, whose files are all on the disk then. One that isn't there yet is made, in a folder that is.
+impl<'a, R: FolderHost> FolderFiles<'a, R> {
+    /// Opens a folder with all log files in it, whose bytes, and whose names with that of the folder, are on the disk then. One
+    /// that isn't there yet is made, in a folder that is. Hand what is found to `Engine::open`.
     ///
     /// # Errors
     ///
-    /// `TryAgain` where another engine has the folder open; `InvalidArgument` where its files are those of raft-engine, which
-    /// begin with a header; `Io`, `Memory`.
-    pub(crate) fn open(rt: &'a R, path: &'a str) -> Result<FoundFolder<'a, R>>
+    /// `Locked` where another engine has the folder open; `Misnamed` where a name ends like that of a log file and is none;
+    /// `Foreign` where a file is one of raft-engine, which begins with a header; `System`, `Memory`.
+    pub fn open(rt: &'a R, path: &'a str) -> FolderResult<FoundFolder<'a, R>>
         ensures { IfOk result (λ found. found.files.asked.asks
             ≡ ask Rewrite (Found (map file_shown found.rewrite.items))
             ∷ ask Append (Found (map file_shown found.append.items)) ∷ []) }
     {
         let folder = Folder::open(rt, path)?;
-        let append = folder.synced_bytes(LogQueue::Append)?;
-        let rewrite = folder.synced_bytes(LogQueue::Rewrite)?;
+        folder.sync_all(LogQueue::Append)?;
+        folder.sync_all(LogQueue::Rewrite)?;
+        let append = folder.bytes_of_files(LogQueue::Append)?;
+        let rewrite = folder.bytes_of_files(LogQueue::Rewrite)?;
         let mut asked = Asked::new();
         asked.found(LogQueue::Append, &append);
         asked.found(LogQueue::Rewrite, &rewrite);
@@ -59,14 +70,27 @@ impl<'a, R: Disk> FolderFiles<'a, R> {
         })
     }
 
-    /// Returns the files of a queue.
-    pub(crate) fn files(&self, queue: LogQueue) -> &OpenFiles {
-        self.folder.files(queue)
+    /// Returns the files of a queue, oldest first.
+    ///
+    /// # Errors
+    ///
+    /// `System`, `Memory`.
+    pub fn list(&self, queue: LogQueue) -> FolderResult<Vec<FolderFile>> {
+        self.folder.list(queue)
+    }
+
+    /// Returns the path of a log file, whether it is there or not.
+    ///
+    /// # Errors
+    ///
+    /// `Memory`.
+    pub fn path_of(&self, id: FileId) -> FolderResult<String> {
+        self.folder.path_of(id)
     }
 
     /// Returns what was cut off the files.
-    pub(crate) fn cuts(&self) -> &[CutTail] {
-        self.folder.cuts()
+    pub fn kept(&self) -> &[KeptTail] {
+        self.folder.kept()
     }
 
     /// Begins a call, which has failed until it ends.
@@ -81,7 +105,7 @@ impl<'a, R: Disk> FolderFiles<'a, R> {
     }
 }
 
-impl<R: Disk> EngineFiles for FolderFiles<'_, R> {
+impl<R: FolderHost> EngineFiles for FolderFiles<'_, R> {
     ghost asked = { λ files. files.asked.asks };
 
     fn append(&mut self, queue: LogQueue, bytes: &[u8]) -> Result<()> {

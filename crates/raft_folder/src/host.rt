@@ -1,0 +1,9 @@
+//! What a folder asks of the machine.
+
+use std::fs::File;
+use std::rt::Files;
+
+/// A machine with files and memory.
+pub trait FolderHost: Files<File = File> + AllocGlobal + Clone + Drop {}
+
+impl<R: Files<File = File> + AllocGlobal + Clone + Drop> FolderHost for R {}

@@ -1,0 +1,92 @@
+//! The locks of a folder.
+
+use crate::errors::{FolderError, FolderResult};
+use crate::host::FolderHost;
+use std::alloc::Global;
+use std::fs;
+use std::fs::{File, OpenOptions, TryLockError};
+
+/// The name of the file that is locked beside the folder itself: raft-engine looks at that file alone.
+const LOCK: &str = "LOCK";
+
+/// A folder that is locked for as long as this value lives.
+#[derive(Drop)]
+pub(crate) struct LockedFolder {
+    /// The folder itself, which is synced where a name in it is made or deleted. Nobody can take its lock away by deleting a file.
+    pub(crate) entry: File,
+    /// The file `LOCK`, where there is one.
+    lock: Option<File>,
+}
+
+impl LockedFolder {
+    /// Locks a folder for one who changes it.
+    ///
+    /// # Errors
+    ///
+    /// `Locked`, `System`, `Memory`.
+    pub(crate) fn exclusive<R: FolderHost>(rt: &R, path: &str) -> FolderResult<LockedFolder> {
+        let alloc = rt.alloc();
+        let entry = open_folder(rt, path)?;
+        taken(alloc, path, entry.try_lock())?;
+        let lock_path = format!(in alloc; "{path}/{LOCK}")?;
+        let mut how = OpenOptions::new();
+        how.create(true).read(true).write(true);
+        let lock = match how.open(rt, lock_path.as_str()) {
+            Ok(lock) => lock,
+            Err(e) => return Err(FolderError::system(alloc, lock_path.as_str(), e)),
+        };
+        taken(alloc, lock_path.as_str(), lock.try_lock())?;
+        Ok(LockedFolder {
+            entry,
+            lock: Some(lock),
+        })
+    }
+
+    /// Locks a folder for one who reads it, and may be allowed no more. Others may read it at the same time.
+    ///
+    /// # Errors
+    ///
+    /// `Locked` where an engine has it open that writes, `System`, `Memory`.
+    pub(crate) fn shared<R: FolderHost>(rt: &R, path: &str) -> FolderResult<LockedFolder> {
+        let alloc = rt.alloc();
+        let entry = open_folder(rt, path)?;
+        taken(alloc, path, entry.try_lock_shared())?;
+        let lock_path = format!(in alloc; "{path}/{LOCK}")?;
+        let is_there = fs::exists(rt, lock_path.as_str());
+        match is_there {
+            Ok(false) => return Ok(LockedFolder { entry, lock: None }),
+            Ok(true) => {}
+            Err(e) => return Err(FolderError::system(alloc, lock_path.as_str(), e)),
+        }
+        let lock = match fs::open(rt, lock_path.as_str()) {
+            Ok(lock) => lock,
+            Err(e) => return Err(FolderError::system(alloc, lock_path.as_str(), e)),
+        };
+        taken(alloc, lock_path.as_str(), lock.try_lock_shared())?;
+        Ok(LockedFolder {
+            entry,
+            lock: Some(lock),
+        })
+    }
+}
+
+/// Opens a folder.
+fn open_folder<R: FolderHost>(rt: &R, path: &str) -> FolderResult<File> {
+    match fs::open(rt, path) {
+        Ok(entry) => Ok(entry),
+        Err(e) => Err(FolderError::system(rt.alloc(), path, e)),
+    }
+}
+
+/// Says how a lock was refused.
+fn taken(
+    alloc: Global,
+    path: &str,
+    locked: std::result::Result<(), TryLockError>,
+) -> FolderResult<()> {
+    match locked {
+        Ok(()) => Ok(()),
+        Err(TryLockError::WouldBlock) => Err(FolderError::Locked(String::from_str(alloc, path)?)),
+        Err(TryLockError::Error(e)) => Err(FolderError::system(alloc, path, e)),
+    }
+}

@@ -1,0 +1,63 @@
+//! A folder of log files that is only read.
+
+use crate::errors::FolderResult;
+use crate::folder::Folder;
+use crate::host::FolderHost;
+use raft_base::{FileId, FileSeq, LogQueue};
+
+/// A log file in a folder.
+#[derive(Clone, Copy, PartialEq, Eq, Debug, Drop)]
+pub struct FolderFile {
+    /// Its number.
+    pub seq: FileSeq,
+    /// How many bytes it has.
+    pub len: u64,
+}
+
+/// A folder of log files that is open for reading: nothing in it is made, changed or synced, so it may be one that can only be
+/// read. It has a shared lock, as the file `LOCK` has, if it is there: others may read it at the same time, but no engine writes to it,
+/// which would move and delete what is read, or cut it.
+#[derive(Drop)]
+pub struct ReadFolder<'a, R: FolderHost> {
+    folder: Folder<'a, R>,
+}
+
+impl<'a, R: FolderHost> ReadFolder<'a, R> {
+    /// Opens a folder with all log files in it.
+    ///
+    /// # Errors
+    ///
+    /// `Locked` where an engine has the folder open that writes; `Misnamed` where a name ends like that of a log file and is
+    /// none; `System`, where there is no folder too; `Memory`.
+    pub fn open(rt: &'a R, path: &'a str) -> FolderResult<ReadFolder<'a, R>> {
+        let folder = Folder::open_to_read(rt, path)?;
+        Ok(ReadFolder { folder })
+    }
+
+    /// Returns the files of a queue, oldest first.
+    ///
+    /// # Errors
+    ///
+    /// `System`, `Memory`.
+    pub fn list(&self, queue: LogQueue) -> FolderResult<Vec<FolderFile>> {
+        self.folder.list(queue)
+    }
+
+    /// Returns the files of a queue with their bytes, oldest first.
+    ///
+    /// # Errors
+    ///
+    /// `Foreign` where a file begins with raft-engine's header; `System`, `Memory`.
+    pub fn bytes_of_files(&self, queue: LogQueue) -> FolderResult<Vec<(FileSeq, Vec<u8>)>> {
+        self.folder.bytes_of_files(queue)
+    }
+
+    /// Returns the path of a log file, whether it is there or not.
+    ///
+    /// # Errors
+    ///
+    /// `Memory`.
+    pub fn path_of(&self, id: FileId) -> FolderResult<String> {
+        self.folder.path_of(id)
+    }
+}

@@ -1,0 +1,9 @@
+use Rattle.std.proofs.Common.{◌≡◌, ◌+◌, ◌≤◌, drop}
+use Rattle.raft_table.specs.TableEntries.{entry_count}
+use Rattle.raft_plain.proofs.live.live_entries.Given as goal
+
+abbrev pub invariant-loop-entry : goal.invariant-loop-entry
+invariant-loop-entry l = record {
+  counted : l.count + entry_count l.queue (drop l.entry-index l.entries) ≡ entry_count l.queue l.entries;
+  bounded : l.count ≤ l.entry-index;
+}

@@ -1,0 +1,8 @@
+use Rattle.std.proofs.Common.{◌≡◌, drop, map}
+use Rattle.raft_table.specs.KeyValues.{lesser}
+use Rattle.raft_table.specs.Overlay.{least_cut}
+use Rattle.raft_table.specs.StepShown.{step_shown}
+use Rattle.raft_plain.proofs.overlay.least_cut.Given as goal
+
+abbrev pub invariant-loop-step : goal.invariant-loop-step
+invariant-loop-step l = lesser l.least (least_cut (map (λ s. step_shown s.now) (drop l.step-index l.steps))) ≡ least_cut (map (λ s. step_shown s.now) l.steps)

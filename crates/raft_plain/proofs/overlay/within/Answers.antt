@@ -1,0 +1,10 @@
+use Rattle.std.proofs.Common.{rules, ◌&&◌}
+use Rattle.std.proofs.lemmas.Fn.{filter_same}
+use Rattle.std.specs.Prelude.{nat_le}
+unfoldable use Rattle.raft_table.specs.Marks.{entries_within}
+use Rattle.raft_table.specs.Marks.{is_under}
+use Rattle.raft_plain.proofs.overlay.within.Goals as goal
+
+pub returns : goal.returns
+unfolding entries_within
+returns c = filter_same _ (λ e. nat_le c.args.floor e.index && is_under c.args.cut e.index) _ (λ p b f' k. search rules) _ _ c.retain.ensures.filtered

@@ -1,0 +1,15 @@
+use Rattle.std.proofs.Common.{sym, ap, ◌∙◌, map}
+use Rattle.std.proofs.Math.ListN.{drop_of_length-le}
+use Rattle.std.specs.FinSet as finset
+use Rattle.raft_table.specs.KeySets.{without}
+use Rattle.raft_table.specs.Overlay.{deleted_of}
+use Rattle.raft_table.specs.StepShown.{step_shown}
+use Rattle.raft_plain.specs.Plain.{keys_shown}
+use Rattle.raft_plain.proofs.OverlayLemmas.{without_none}
+use Rattle.raft_plain.proofs.overlay.without_deleted.Goals as goal
+
+pub returns : goal.returns
+returns c =
+    sym (without_none (keys_shown c.loop-step.keys))
+    ∙ ap (λ ss. without (deleted_of finset.empty (map (λ s. step_shown s.now) ss)) (keys_shown c.loop-step.keys)) (sym (drop_of_length-le c.args.steps.now c.loop-step-test.false))
+    ∙ c.loop-step.invariant.left

@@ -1,0 +1,13 @@
+use Rattle.std.proofs.Common.{◌≡◌, false, drop, map}
+use Rattle.std.specs.FinSet as finset
+use Rattle.raft_table.specs.KeySets.{without}
+use Rattle.raft_table.specs.Overlay.{deleted_of, has_clean}
+use Rattle.raft_table.specs.StepShown.{step_shown}
+use Rattle.raft_plain.specs.Plain.{keys_shown}
+use Rattle.raft_plain.proofs.overlay.without_deleted.Given as goal
+
+abbrev pub invariant-loop-step : goal.invariant-loop-step
+invariant-loop-step l = record {
+  uncleaned : has_clean (map (λ s. step_shown s.now) (drop l.step-index l.steps)) ≡ false;
+  left : without (deleted_of finset.empty (map (λ s. step_shown s.now) (drop l.step-index l.steps))) (keys_shown l.keys) ≡ without (deleted_of finset.empty (map (λ s. step_shown s.now) l.steps)) (keys_shown l.fn.keys);
+}

@@ -1,0 +1,14 @@
+use Rattle.std.proofs.Common.{sym, ap, ◌∙◌, map}
+use Rattle.raft_base.specs.declared.pipe_log.LogQueue.TheVariants.{Append, Rewrite}
+use Rattle.raft_history.specs.RegionStepShown.{region_step_shown}
+use Rattle.raft_history.specs.RegionSteps.{cleaned_by_steps}
+use Rattle.raft_accessor.specs.Accessor.{live_in_all}
+use Rattle.raft_plain.specs.Plain.{tables_shown}
+use Rattle.raft_plain.proofs.RecoveryLemmas.{recovered}
+use Rattle.raft_plain.proofs.recovery.recover_plainly.Goals as goal
+
+pub returns-clause-ok : goal.returns-clause-ok
+returns-clause-ok c =
+    recovered c.args.queue _ c.in_ok-reading.reading c.counted.result c.in_ok-reading.ensures.ok c.counted.ensures.regions
+    (ap (λ v. v.items) c.counted.ensures.cleaned ∙ c.in_ok-cleaned.ensures ∙ ap (λ l. cleaned_by_steps c.args.queue (map region_step_shown l)) c.as_slice.ensures.value)
+    (c.counted.ensures.append ∙ ap (λ m. live_in_all Append (tables_shown m)) (sym c.counted.ensures.regions), c.counted.ensures.rewrite ∙ ap (λ m. live_in_all Rewrite (tables_shown m)) (sym c.counted.ensures.regions))

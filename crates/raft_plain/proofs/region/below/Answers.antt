@@ -1,0 +1,9 @@
+use Rattle.std.proofs.Common.{rules}
+use Rattle.std.proofs.lemmas.Fn.{filter_same}
+use Rattle.std.specs.Prelude.{nat_le, nat_lt}
+use Rattle.raft_table.specs.TableEntries.{below, from}
+use Rattle.raft_plain.proofs.region.below.Goals as goal
+
+pub returns : goal.returns
+unfolding below
+returns c = filter_same _ (λ e. nat_lt e.index c.args.index) _ (λ p b f' k. search rules) _ _ c.retain.ensures.filtered

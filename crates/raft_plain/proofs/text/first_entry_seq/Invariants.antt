@@ -1,0 +1,6 @@
+use Rattle.std.proofs.Common.{◌≡◌, drop}
+use Rattle.raft_table.specs.Fetches.{first_entry_seq}
+use Rattle.raft_plain.proofs.text.first_entry_seq.Given as goal
+
+abbrev pub invariant-loop-entry : goal.invariant-loop-entry
+invariant-loop-entry l = first_entry_seq l.queue (drop l.entry-index l.entries) ≡ first_entry_seq l.queue l.entries

@@ -1,0 +1,8 @@
+use Rattle.std.proofs.Common.{sym, ◌∙◌}
+use Rattle.raft_table.proofs.KeyValueCounts.{len-map_of}
+use Rattle.raft_plain.specs.Plain.{stored_shown}
+use Rattle.raft_plain.proofs.PairLemmas.{bytes_of}
+use Rattle.raft_plain.proofs.text.key_count.Goals as goal
+
+pub returns : goal.returns
+returns c = c.len.ensures.len ∙ sym (len-map_of bytes_of stored_shown c.args.keys.now.entries c.len.ensures.ordered)

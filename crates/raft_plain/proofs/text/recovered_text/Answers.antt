@@ -1,0 +1,18 @@
+use Rattle.std.proofs.Common.{◌≡◌, ◌++◌, ◌-◌, sym, ap, ◌∙◌, arith}
+use Rattle.std.specs.Fmt.{decimal}
+use Rattle.std.specs.Prelude.{codes, string_bytes}
+use Rattle.raft_recover.proofs.OrderLemmas.{three_parts}
+use Rattle.raft_plain.specs.Overlaid.{all_tables}
+use Rattle.raft_plain.proofs.TextLemmas.{tables_are_all, tables_rise}
+use Rattle.raft_plain.proofs.text.recovered_text.Goals as goal
+
+pub returns : goal.returns
+returns c =
+    let r = c.args.recovered.now in
+    let same : r.rewrite ≡ r.rewrite - 0 = omega arith in
+    record {
+      tables = all_tables r.regions;
+      by_region = record { all = tables_are_all r.regions.entries c.append_regions.ensures.ordered; rising = tables_rise r.regions.entries c.append_regions.ensures.ordered };
+      lines = three_parts _ _ _ _ _ _ _ c.new-text.ensures.bytes c.in_ok-append_regions.ensures.lines (rw (c.as_slice.ensures.value) at c.in_ok-append_cleaned.ensures)
+          (c.in_ok-append_live.ensures ∙ ap (λ n. string_bytes c.append_cleaned.new.text ++ (codes "live " ++ decimal r.append ++ codes " " ++ decimal n ++ codes "\n")) same);
+    }

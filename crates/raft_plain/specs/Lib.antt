@@ -1,0 +1,6 @@
+pub mod Common
+pub mod Groups
+pub mod Overlaid
+pub mod Plain
+pub mod Readings
+pub mod Waits

@@ -1,0 +1,89 @@
+//! Batches, read one after the other.
+
+ghost use Rattle.std.specs.Prelude.{◌≡◌, ◌≢◌, ◌++◌, ◌∷◌, [], List, Some, None, map, IfOk, IfErr};
+ghost use Rattle.raft_plain.specs.Common.{nat_cmp, IsOrdered, AreDecodedIn, event, Event, Sound, HasRead, tables_shown, tables_after, region_step_shown, steps_of_items};
+
+use crate::Reading;
+use crate::groups::{joined, marker_in, taken_in};
+use crate::region::{Regions, after_step, or_new, parted_off, put};
+use raft_base::{AllocResult, Error, FileId, LogQueue, Result};
+use raft_history::RegionStep;
+use raft_records::LogItemBatch;
+use std::alloc::Global;
+
+/// Reads one batch more.
+pub(crate) fn with_batch(
+    alloc: Global,
+    queue: LogQueue,
+    reading: Reading,
+    batch: LogItemBatch,
+    file: FileId,
+) -> Result<Reading>
+    requires queue { file.queue ≡ queue }
+    requires items { AreDecodedIn file batch }
+    ensures ok { (h : List Event) → HasRead queue reading h
+        → IfOk result (λ new. HasRead queue new (h ++ event batch file ∷ [])) }
+    ensures refused { IfErr result (λ e. e ≢ Error.Memory → (h : List Event)
+        → HasRead queue reading h → ¬ (Sound (h ++ event batch file ∷ []))) }
+{
+    if file.seq < reading.last {
+        return Err(Error::corruption(alloc, "a file out of order"));
+    }
+    let marker = marker_in(alloc, queue, batch.as_slice())?;
+    let own = steps_of(alloc, batch)?;
+    let (waiting, effect) = taken_in(alloc, reading.waiting, marker, own, file.seq)?;
+    let regions = with_steps(alloc, queue, reading.regions, effect.as_slice())?;
+    let steps = joined(reading.steps, effect)?;
+    let last = file.seq;
+    Ok(Reading {
+        regions,
+        steps,
+        last,
+        waiting,
+    })
+}
+
+fn steps_of(alloc: Global, batch: LogItemBatch) -> AllocResult<Vec<RegionStep>>
+    ensures { IfOk result (λ steps. map region_step_shown steps.items ≡ steps_of_items batch) }
+{
+    let mut steps = Vec::new(alloc);
+    for item in batch.into_items() {
+        if let Some(step) = RegionStep::of_item(item) {
+            steps.push(step)?;
+        }
+    }
+    Ok(steps)
+}
+
+/// Does steps on their regions, one after another.
+fn with_steps(
+    alloc: Global,
+    queue: LogQueue,
+    mut regions: Regions,
+    steps: &[RegionStep],
+) -> Result<Regions>
+    requires { IsOrdered nat_cmp regions }
+    ensures ordered { IfOk result (IsOrdered nat_cmp) }
+    ensures ok { IfOk result (λ new. tables_after queue (tables_shown regions)
+        (map region_step_shown steps.now) ≡ Some (tables_shown new)) }
+    ensures refused { IfErr result (λ e. e ≢ Error.Memory → tables_after queue
+        (tables_shown regions) (map region_step_shown steps.now) ≡ None) }
+{
+    for step in steps {
+        regions = with_step(alloc, queue, regions, step)?;
+    }
+    Ok(regions)
+}
+
+fn with_step(alloc: Global, queue: LogQueue, regions: Regions, step: &RegionStep) -> Result<Regions>
+    requires { IsOrdered nat_cmp regions }
+    ensures ordered { IfOk result (IsOrdered nat_cmp) }
+    ensures ok { IfOk result (λ new. tables_after queue (tables_shown regions)
+        (region_step_shown step.now ∷ []) ≡ Some (tables_shown new)) }
+    ensures refused { IfErr result (λ e. e ≢ Error.Memory → tables_after queue
+        (tables_shown regions) (region_step_shown step.now ∷ []) ≡ None) }
+{
+    let (own, others) = parted_off(regions, step.region);
+    let new = after_step(alloc, queue, or_new(alloc, own), &step.step)?;
+    Ok(put(others, step.region, new)?)
+}

@@ -1,0 +1,153 @@
+//! Atomic groups that wait for their End.
+
+ghost use Rattle.std.specs.Prelude.{◌≡◌, ◌≢◌, ◌++◌, map, option_map, IfOk, IfErr, OnOk};
+ghost use Rattle.std.specs.FinMap as finite;
+ghost use Rattle.raft_plain.specs.Common.{nat_cmp, IsOrdered, Rewrite, HaveStatus, item_of, first_marker, marker_in, region_step_shown};
+ghost use Rattle.raft_plain.specs.Groups.{StretchesGoOn, EffectsAreDefined, marked_steps, effect_after, stretches_after, marker_shown};
+ghost use Rattle.raft_plain.specs.Waits.{stretch_shown, stretches_shown};
+
+use raft_base::{AllocResult, Error, FileSeq, LogQueue, Result};
+use raft_history::RegionStep;
+use raft_records::{AtomicGroupStatus, LogItem};
+use raft_table::Step;
+use std::alloc::Global;
+use std::collections::BTreeMap;
+
+/// Steps in order.
+pub type Steps = Vec<RegionStep>;
+
+/// The file number of a group's Begin, and the steps since then.
+#[derive(Debug, Drop)]
+pub struct Stretch {
+    pub first_seq: FileSeq,
+    pub steps: Steps,
+}
+
+/// Of each group the stretch that its End would complete.
+pub type Stretches = BTreeMap<u64, Stretch>;
+
+/// Returns the group marker of a batch of the rewrite queue. The append queue ignores them.
+pub(crate) fn marker_in(
+    alloc: Global,
+    queue: LogQueue,
+    items: &[LogItem],
+) -> Result<Option<(u64, AtomicGroupStatus)>>
+    ensures markers { OnOk result (HaveStatus queue (map item_of items.now)) }
+    ensures marker { IfOk result (λ marker. option_map marker_shown marker
+        ≡ marker_in queue (map item_of items.now)) }
+    ensures refused { IfErr result
+        (λ e. e ≢ Error.Memory → HaveStatus queue (map item_of items.now) → ⊥) }
+{
+    match queue {
+        LogQueue::Append => Ok(None),
+        LogQueue::Rewrite => first_marker(alloc, items),
+    }
+}
+
+/// Returns the first group marker among items, each of which has to have a status.
+fn first_marker(alloc: Global, items: &[LogItem]) -> Result<Option<(u64, AtomicGroupStatus)>>
+    ensures markers { OnOk result (HaveStatus Rewrite (map item_of items.now)) }
+    ensures marker { IfOk result (λ marker. marker ≡ first_marker (map item_of items.now)) }
+    ensures refused { IfErr result
+        (λ e. e ≢ Error.Memory → HaveStatus Rewrite (map item_of items.now) → ⊥) }
+{
+    let mut marker = None;
+    for item in items {
+        let found = AtomicGroupStatus::parse(alloc, item)?;
+        marker = marker.or(found);
+    }
+    Ok(marker)
+}
+
+/// Returns the stretches that wait after a batch with this marker, and the steps that take effect with it.
+pub(crate) fn taken_in(
+    alloc: Global,
+    waiting: Stretches,
+    marker: Option<(u64, AtomicGroupStatus)>,
+    steps: Steps,
+    seq: FileSeq,
+) -> AllocResult<(Stretches, Steps)>
+    requires { IsOrdered nat_cmp waiting }
+    ensures ordered { IfOk result (λ r. IsOrdered nat_cmp r.0) }
+    ensures waiting { IfOk result (λ r. stretches_shown r.0 ≡ stretches_after
+        (stretches_shown waiting) (option_map marker_shown marker)
+        (map region_step_shown steps.items) seq) }
+    ensures effect { IfOk result (λ r. map region_step_shown r.1.items ≡ effect_after
+        (stretches_shown waiting) (option_map marker_shown marker)
+        (map region_step_shown steps.items) seq) }
+{
+    let Some((group, status)) = marker else {
+        return Ok((waiting, steps));
+    };
+    let (own, mut others) = group_off(waiting, group);
+    match status {
+        AtomicGroupStatus::Begin => {
+            let first_seq = seq;
+            others.insert(group, Stretch { first_seq, steps })?;
+            Ok((others, Vec::new(alloc)))
+        }
+        AtomicGroupStatus::Middle => match own {
+            Some(stretch) => {
+                let first_seq = stretch.first_seq;
+                let steps = joined(stretch.steps, steps)?;
+                others.insert(group, Stretch { first_seq, steps })?;
+                Ok((others, Vec::new(alloc)))
+            }
+            None => Ok((others, Vec::new(alloc))),
+        },
+        AtomicGroupStatus::End => match own {
+            Some(stretch) => {
+                let first_seq = stretch.first_seq;
+                let steps = joined(stretch.steps, steps)?;
+                let whole = whole_steps(alloc, steps, first_seq, seq)?;
+                Ok((others, whole))
+            }
+            None => Ok((others, Vec::new(alloc))),
+        },
+    }
+}
+
+/// Takes a group's stretch out of others.
+fn group_off(mut waiting: Stretches, group: u64) -> (Option<Stretch>, Stretches)
+    requires { IsOrdered nat_cmp waiting }
+    ensures ordered { IsOrdered nat_cmp result.1 }
+    ensures own { option_map stretch_shown result.0 ≡ finite.get (stretches_shown waiting) group }
+    ensures others { stretches_shown result.1 ≡ finite.remove (stretches_shown waiting) group }
+{
+    let own = waiting.remove(&group);
+    (own, waiting)
+}
+
+/// Returns the steps of a whole group, and behind them one for each that gives its region the atomic group.
+fn whole_steps(alloc: Global, steps: Steps, first_seq: u64, last_seq: u64) -> AllocResult<Steps>
+    ensures { IfOk result (λ all. map region_step_shown all.items ≡ marked_steps
+        (map region_step_shown steps.items) first_seq last_seq) }
+{
+    let mut marks = Vec::new(alloc);
+    for step in &steps {
+        marks.push(RegionStep {
+            region: step.region,
+            step: Step::AtomicGroup {
+                first_seq,
+                last_seq,
+            },
+        })?;
+    }
+    joined(steps, marks)
+}
+
+/// Returns steps, and more behind them.
+pub(crate) fn joined(mut steps: Steps, mut more: Steps) -> AllocResult<Steps>
+    ensures { IfOk result (λ all. map region_step_shown all.items
+        ≡ map region_step_shown steps.items ++ map region_step_shown more.items) }
+{
+    steps.append(&mut more)?;
+    Ok(steps)
+}
+
+/// States that stretches go on with each batch as the definition's groups do, and what takes effect with it.
+#[tactic(auto, using(crate::proofs::GroupLemmas::stretches_go_on, crate::proofs::GroupLemmas::effects_are_defined))]
+pub fn stretches_are_those_of_groups()
+    ensures stretches { StretchesGoOn }
+    ensures effects { EffectsAreDefined }
+{}

@@ -1,0 +1,19 @@
+//! Recovery once more, as plainly as its definitions say it: by maps and filters, slowly, for small inputs. It shares the
+//! decoding of batches with the other crates, and nothing of their tables. Begin with `recovery.rt`.
+#![tactic(auto)]
+
+pub mod batches;
+pub mod groups;
+pub mod live;
+pub mod overlay;
+pub mod parts;
+pub mod reading;
+pub mod recovery;
+pub mod region;
+pub mod text;
+
+pub use parts::read_parts;
+pub use reading::Reading;
+pub use recovery::{Recovered, recover_both_plainly, recover_plainly};
+pub use region::{Region, Regions, Stored};
+pub use text::print_plainly;

@@ -1,0 +1,51 @@
+//! How many records are live in a queue.
+
+ghost use Rattle.std.specs.Prelude.{◌≡◌, ◌<◌, ◌^◌};
+ghost use Rattle.raft_plain.specs.Common.{is_same, is_placed_in, entry_count, pair_count, live_in_all, keys_shown, tables_shown};
+
+use crate::region::{Keys, Regions};
+use raft_base::{EntryIndex, LogQueue};
+
+/// Counts the entries and key values of all regions whose place or file is in a queue.
+pub fn live(queue: LogQueue, regions: &Regions) -> u128
+    ensures { result ≡ live_in_all queue (tables_shown regions.now) }
+{
+    let mut count: u128 = 0;
+    for region in regions.values() {
+        count += live_entries(queue, region.entries.as_slice()) as u128;
+        count += live_keys(queue, &region.keys) as u128;
+    }
+    count
+}
+
+#[tactic(auto, unfolding(raft_table::specs::TableEntries::placed_in))]
+fn live_entries(queue: LogQueue, entries: &[EntryIndex]) -> usize
+    ensures { result ≡ entry_count queue entries.now }
+{
+    let mut count = 0;
+    for entry in entries {
+        if is_placed_in(queue, entry) {
+            count += 1;
+        }
+    }
+    count
+}
+
+#[tactic(auto, unfolding(raft_table::specs::TableEntries::is_placed_in))]
+pub(crate) fn is_placed_in(queue: LogQueue, entry: &EntryIndex) -> bool
+    ensures { result ≡ is_placed_in queue entry.now }
+{
+    entry.entries.is_some_and(|place| place.id.queue == queue)
+}
+
+fn live_keys(queue: LogQueue, keys: &Keys) -> usize
+    ensures { result ≡ pair_count queue (keys_shown keys.now) }
+{
+    let mut count = 0;
+    for stored in keys.values() {
+        if stored.file.queue == queue {
+            count += 1;
+        }
+    }
+    count
+}

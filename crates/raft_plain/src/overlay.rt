@@ -1,0 +1,235 @@
+//! The records of the append queue over those of the rewrite queue.
+
+ghost use Rattle.std.specs.Prelude.{◌≡◌, ◌∷◌, ℕ, List, false, map, max, option_map, IfOk};
+ghost use Rattle.std.specs.FinSet as finset;
+ghost use Rattle.raft_plain.specs.Common.{nat_cmp, IsOrdered, step_shown, region_step_shown, steps_on, has_clean, greatest_compaction, least_cut, lesser, is_unjoined, rewritten_within, overlaid_table, overlay, is_under, entries_within, end_of, keys_shown, table_shown, tables_shown, pairs_over, without, deleted_of, AreOverlaid};
+
+use crate::region::{Entries, Keys, Region, Regions, end_of, or_new, parted_off, put, without_key};
+use raft_base::{AllocResult, EntryIndex};
+use raft_history::RegionStep;
+use raft_table::Step;
+use std::alloc::Global;
+use std::collections::BTreeMap;
+
+/// Puts the records of the append queue, which these steps made, over those of the rewrite queue.
+pub(crate) fn overlaid(
+    alloc: Global,
+    mut appended: Regions,
+    rewritten: Regions,
+    steps: &[RegionStep],
+) -> AllocResult<Regions>
+    requires { IsOrdered nat_cmp appended }
+    ensures { IfOk result (λ both. AreOverlaid (map region_step_shown steps.now)
+        (tables_shown appended) (tables_shown rewritten) (tables_shown both)) }
+{
+    let mut both = BTreeMap::new(alloc);
+    for (id, older) in rewritten {
+        let (newer, others) = parted_off(appended, id);
+        appended = others;
+        let region = overlaid_region(alloc, id, steps, newer, Some(older))?;
+        both = put(both, id, region)?;
+    }
+    for (id, newer) in appended {
+        let region = overlaid_region(alloc, id, steps, Some(newer), None)?;
+        both = put(both, id, region)?;
+    }
+    Ok(both)
+}
+
+/// Puts the appended records of a region over its rewritten ones. Where the append queue cleaned it, its own stay alone.
+fn overlaid_region(
+    alloc: Global,
+    id: u64,
+    steps: &[RegionStep],
+    newer: Option<Region>,
+    older: Option<Region>,
+) -> AllocResult<Option<Region>>
+    ensures { IfOk result (λ region. option_map (table_shown id) region
+        ≡ overlaid_table id (steps_on id (map region_step_shown steps.now))
+        (option_map (table_shown id) newer) (option_map (table_shown id) older)) }
+{
+    let own = steps_on(alloc, id, steps)?;
+    if has_clean(own.as_slice()) {
+        return Ok(newer);
+    }
+    match newer {
+        Some(newer) => {
+            let older = or_new(alloc, older);
+            let both = overlay(alloc, own.as_slice(), newer, older)?;
+            Ok(Some(both))
+        }
+        None => match older {
+            Some(older) => {
+                let newer = or_new(alloc, None);
+                let both = overlay(alloc, own.as_slice(), newer, older)?;
+                Ok(Some(both))
+            }
+            None => Ok(None),
+        },
+    }
+}
+
+#[tactic(auto, unfolding(raft_history::specs::RegionSteps::steps_on))]
+fn steps_on<'a>(alloc: Global, id: u64, steps: &'a [RegionStep]) -> AllocResult<Vec<&'a Step>>
+    ensures { IfOk result (λ own. map (λ s. step_shown s.now) own.items
+        ≡ steps_on id (map region_step_shown steps.now)) }
+{
+    let mut own = Vec::new(alloc);
+    for step in steps {
+        if step.region == id {
+            own.push(&step.step)?;
+        }
+    }
+    Ok(own)
+}
+
+/// Puts appended records over rewritten ones: the entries behind those that they join, the keys over those that aren't
+/// deleted.
+fn overlay(alloc: Global, steps: &[&Step], newer: Region, older: Region) -> AllocResult<Region>
+    requires { has_clean (map (λ s. step_shown s.now) steps.now) ≡ false }
+    ensures { IfOk result (λ both. (id : ℕ) → table_shown id both
+        ≡ overlay (map (λ s. step_shown s.now) steps.now) (table_shown id newer) (table_shown id older)) }
+{
+    let mut appended = newer.entries;
+    let mut entries = rewritten_within(alloc, steps, older.entries, appended.as_slice());
+    entries.append(&mut appended)?;
+    let keys = without_deleted(older.keys, steps);
+    Ok(Region {
+        entries,
+        keys: with_pairs(keys, newer.keys)?,
+        group: older.group,
+    })
+}
+
+/// Returns the rewritten entries that stay: from the greatest compaction on, and below the least of run starts and
+/// truncations, if there are any. None stay where the appended ones don't join them there.
+fn rewritten_within(alloc: Global, steps: &[&Step], older: Entries, newer: &[EntryIndex]) -> Entries
+    ensures { result.items ≡ rewritten_within (greatest_compaction (map (λ s. step_shown s.now) steps.now))
+        (least_cut (map (λ s. step_shown s.now) steps.now)) newer.now older.items }
+{
+    let floor = greatest_compaction(steps);
+    let cut = least_cut(steps);
+    if is_unjoined(cut, older.as_slice(), newer) {
+        return Vec::new(alloc);
+    }
+    within(floor, cut, older)
+}
+
+/// Returns the entries from one index on and below another, if there is one.
+fn within(floor: u64, cut: Option<u64>, mut entries: Entries) -> Entries
+    ensures { result.items ≡ entries_within floor cut entries.items }
+{
+    entries.retain(|entry| floor <= entry.index && is_under(cut, entry.index));
+    entries
+}
+
+fn is_under(cut: Option<u64>, index: u64) -> bool
+    ensures { result ≡ is_under cut index }
+{
+    match cut {
+        Some(cut) => index < cut,
+        None => true,
+    }
+}
+
+fn is_unjoined(cut: Option<u64>, older: &[EntryIndex], newer: &[EntryIndex]) -> bool
+    ensures { result ≡ is_unjoined cut (end_of older.now) newer.now }
+{
+    match (cut, newer.first()) {
+        (Some(cut), Some(first)) => first.index != cut || end_of(older) < cut as u128,
+        _ => false,
+    }
+}
+
+fn has_clean(steps: &[&Step]) -> bool
+    ensures { result ≡ has_clean (map (λ s. step_shown s.now) steps.now) }
+{
+    for step in steps {
+        if step.is_clean() {
+            return true;
+        }
+    }
+    false
+}
+
+fn greatest_compaction(steps: &[&Step]) -> u64
+    ensures { result ≡ greatest_compaction (map (λ s. step_shown s.now) steps.now) }
+{
+    let mut greatest: u64 = 0;
+    for step in steps {
+        greatest = greatest.max(compaction_of(step));
+    }
+    greatest
+}
+
+fn compaction_of(step: &Step) -> u64
+    ensures { (steps : _) → max result (greatest_compaction steps)
+        ≡ greatest_compaction (step_shown step.now ∷ steps) }
+{
+    match step {
+        Step::Compact { index } => *index,
+        _ => 0,
+    }
+}
+
+fn least_cut(steps: &[&Step]) -> Option<u64>
+    ensures { result ≡ least_cut (map (λ s. step_shown s.now) steps.now) }
+{
+    let mut least = None;
+    for step in steps {
+        least = lesser(least, cut_of(step));
+    }
+    least
+}
+
+/// Returns the index below which a step leaves older entries, where it takes some away from there on.
+fn cut_of(step: &Step) -> Option<u64>
+    ensures { (steps : _) → lesser result (least_cut steps) ≡ least_cut (step_shown step.now ∷ steps) }
+{
+    match step {
+        Step::Run(run) => Some(run.first()?.index),
+        Step::Truncate { index } => Some(*index),
+        _ => None,
+    }
+}
+
+/// Returns the lesser of two numbers, where both are there.
+pub(crate) fn lesser(a: Option<u64>, b: Option<u64>) -> Option<u64>
+    ensures { result ≡ lesser a b }
+{
+    match (a, b) {
+        (Some(a), Some(b)) => Some(a.min(b)),
+        (a, b) => a.or(b),
+    }
+}
+
+fn without_deleted(mut keys: Keys, steps: &[&Step]) -> Keys
+    requires { has_clean (map (λ s. step_shown s.now) steps.now) ≡ false }
+    ensures { keys_shown result
+        ≡ without (deleted_of finset.empty (map (λ s. step_shown s.now) steps.now)) (keys_shown keys) }
+{
+    for step in steps {
+        keys = without_deleted_by(keys, step);
+    }
+    keys
+}
+
+fn without_deleted_by(keys: Keys, step: &Step) -> Keys
+    ensures { (steps : _) → has_clean (step_shown step.now ∷ steps) ≡ false
+        → without (deleted_of finset.empty steps) (keys_shown result)
+        ≡ without (deleted_of finset.empty (step_shown step.now ∷ steps)) (keys_shown keys) }
+{
+    match step {
+        Step::Del { key } => without_key(keys, key),
+        _ => keys,
+    }
+}
+
+fn with_pairs(mut keys: Keys, newer: Keys) -> AllocResult<Keys>
+    ensures { IfOk result (λ all. keys_shown all ≡ pairs_over (keys_shown newer) (keys_shown keys)) }
+{
+    for (key, stored) in newer {
+        keys.insert(key, stored)?;
+    }
+    Ok(keys)
+}

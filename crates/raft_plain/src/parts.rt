@@ -1,0 +1,72 @@
+//! Parts of files, read one after the other.
+
+ghost use Rattle.std.specs.Prelude.{◌≡◌, ◌≢◌, ◌+◌, ◌≤◌, List, All, IfOk, IfErr};
+ghost use Rattle.raft_plain.specs.Common.{HasReplayed, CannotFollow, HasRead, HoldsFrom, EachHolds, IsPlaced, StopsIn, StopsAmong, IsNothing, Sound, IsReadOf};
+
+use crate::Reading;
+use crate::batches::with_batch;
+use raft_base::{Error, FileId, LogQueue, Result};
+use raft_records::{FilePart, next_batch};
+use raft_replay::segment::corruption_at;
+use std::alloc::Global;
+
+/// Reads the batches of parts of a queue's files, in order.
+pub fn read_parts(alloc: Global, queue: LogQueue, parts: &[FilePart]) -> Result<Reading>
+    ensures ok { IfOk result (IsReadOf queue (EachHolds (λ part. HoldsFrom part 0) parts.entry.now)) }
+    ensures place { All (λ part. part.id.queue ≡ queue) parts.entry.now
+        → IfErr result (λ e. e ≢ Error.Memory → StopsAmong IsNothing Sound parts.entry.now e) }
+    ensures refused { All (λ part. part.id.queue ≡ queue) parts.entry.now
+        → IfErr result (λ e. e ≢ Error.Memory
+        → CannotFollow (EachHolds (λ part. HoldsFrom part 0) parts.entry.now) IsNothing) }
+{
+    let mut reading = Reading::new(alloc);
+    for part in parts {
+        if part.id().queue != queue {
+            return Err(Error::InvalidArgument(String::from_str(alloc, "a part of another queue")?));
+        }
+        reading = with_part(alloc, queue, reading, part)?;
+    }
+    Ok(reading)
+}
+
+/// Reads the batches of a part.
+fn with_part(
+    alloc: Global,
+    queue: LogQueue,
+    mut reading: Reading,
+    part: &FilePart,
+) -> Result<Reading>
+    requires { part.now.id.queue ≡ queue }
+    ensures ok { IfOk result (HasReplayed (HoldsFrom part.now 0) (HasRead queue)
+        (HasRead queue) reading) }
+    ensures place { IfErr result (StopsIn (HasRead queue reading) Sound part.now) }
+{
+    let mut at = 0;
+    loop {
+        match next_batch(part, at) {
+            Ok(Some((batch, next))) => {
+                match with_batch(alloc, queue, reading, batch, part.id()) {
+                    Ok(read) => reading = read,
+                    Err(error) => {
+                        return Err(placed(alloc, error, part.id(), part.offset() + at as u64));
+                    }
+                }
+                at = next;
+            }
+            Ok(None) => return Ok(reading),
+            Err(error) => {
+                return Err(placed(alloc, error, part.id(), part.offset() + at as u64));
+            }
+        }
+    }
+}
+
+fn placed(alloc: Global, error: Error, id: FileId, offset: u64) -> Error
+    ensures placed { IsPlaced id offset result }
+    ensures memory { result ≢ Error.Memory → error ≢ Error.Memory }
+{
+    match error {
+        Error::Memory => Error::Memory,
+        _ => corruption_at(alloc, id, offset, "no batch can be read here"),
+    }
+}

@@ -1,0 +1,44 @@
+//! What was read of a queue so far.
+
+ghost use Rattle.std.proofs.Props.{props};
+ghost use Rattle.std.specs.BTreeMap.{IsOrdered};
+ghost use Rattle.std.specs.Ordering.{nat_cmp};
+
+use crate::groups::Stretches;
+use crate::region::Regions;
+use raft_base::FileSeq;
+use raft_history::RegionStep;
+use std::alloc::Global;
+use std::collections::BTreeMap;
+
+/// What was read of a queue so far.
+#[derive(Drop)]
+pub struct Reading {
+    pub regions: Regions,
+    /// All steps that took effect, in order.
+    pub steps: Vec<RegionStep>,
+    /// The number of the file that was read last.
+    pub last: FileSeq,
+    /// What waits for the End of its group.
+    pub waiting: Stretches,
+    ghost ordered: { IsOrdered nat_cmp regions } by { Prim.hlevel props },
+    ghost waiting_ordered: { IsOrdered nat_cmp waiting } by { Prim.hlevel props },
+}
+
+impl Reading {
+    ghost use Rattle.std.specs.Prelude.{[]};
+    ghost use Rattle.raft_base.specs.declared.pipe_log.LogQueue.{LogQueue};
+    ghost use Rattle.raft_plain.specs.Readings.{HasRead};
+
+    /// Begins with nothing.
+    pub fn new(alloc: Global) -> Reading
+        ensures { (queue : LogQueue) → HasRead queue result [] }
+    {
+        Reading {
+            regions: BTreeMap::new(alloc),
+            steps: Vec::new(alloc),
+            last: 0,
+            waiting: BTreeMap::new(alloc),
+        }
+    }
+}

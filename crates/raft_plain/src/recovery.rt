@@ -1,0 +1,85 @@
+//! What recovery gives, of one queue and of both.
+
+ghost use Rattle.std.specs.Prelude.{◌≡◌, ◌≢◌, All, map, IfOk, IfErr};
+ghost use Rattle.raft_plain.specs.Common.{Append, Rewrite, IsRecovered, AreBothRecovered, CannotFollow, HoldsFrom, EachHolds, StopsAmong, IsNothing, Sound, recovered_shown, cleaned_by_steps, region_step_shown, live_in_all, tables_shown};
+
+use crate::live::live;
+use crate::overlay::overlaid;
+use crate::parts::read_parts;
+use crate::region::Regions;
+use raft_base::{AllocResult, Error, LogQueue, Result};
+use raft_history::RegionStep;
+use raft_records::FilePart;
+use raft_table::Step;
+use std::alloc::Global;
+
+/// The records of all regions, the regions that were cleaned, in order, and how many records are live in each queue.
+#[derive(Drop)]
+pub struct Recovered {
+    pub regions: Regions,
+    pub cleaned: Vec<u64>,
+    pub append: u128,
+    pub rewrite: u128,
+}
+
+/// Recovers the parts of a queue's files: reads their batches in order.
+pub fn recover_plainly(alloc: Global, queue: LogQueue, parts: &[FilePart]) -> Result<Recovered>
+    ensures ok { IfOk result (λ r. IsRecovered queue (EachHolds (λ part. HoldsFrom part 0) parts.entry.now) (recovered_shown r)) }
+    ensures place { All (λ part. part.id.queue ≡ queue) parts.entry.now
+        → IfErr result (λ e. e ≢ Error.Memory → StopsAmong IsNothing Sound parts.entry.now e) }
+    ensures refused { All (λ part. part.id.queue ≡ queue) parts.entry.now
+        → IfErr result (λ e. e ≢ Error.Memory
+        → CannotFollow (EachHolds (λ part. HoldsFrom part 0) parts.entry.now) IsNothing) }
+{
+    let reading = read_parts(alloc, queue, parts)?;
+    let cleaned = cleaned_regions(alloc, queue, reading.steps.as_slice())?;
+    Ok(counted(reading.regions, cleaned))
+}
+
+/// Recovers the parts of both queues: reads each in order, and puts the records of the append queue over the others.
+pub fn recover_both_plainly(
+    alloc: Global,
+    rewrite: &[FilePart],
+    append: &[FilePart],
+) -> Result<Recovered>
+    ensures ok { IfOk result (λ r. AreBothRecovered (EachHolds (λ part. HoldsFrom part 0) rewrite.entry.now) (EachHolds (λ part. HoldsFrom part 0) append.entry.now) (recovered_shown r)) }
+{
+    let older = read_parts(alloc, LogQueue::Rewrite, rewrite)?;
+    let newer = read_parts(alloc, LogQueue::Append, append)?;
+    let regions = overlaid(alloc, newer.regions, older.regions, newer.steps.as_slice())?;
+    let cleaned = cleaned_regions(alloc, LogQueue::Append, newer.steps.as_slice())?;
+    Ok(counted(regions, cleaned))
+}
+
+/// Returns the regions that the append queue cleaned, in order; none of the rewrite queue.
+fn cleaned_regions(alloc: Global, queue: LogQueue, steps: &[RegionStep]) -> AllocResult<Vec<u64>>
+    ensures { IfOk result (λ regions. regions.items
+        ≡ cleaned_by_steps queue (map region_step_shown steps.now)) }
+{
+    let mut cleaned = Vec::new(alloc);
+    if queue == LogQueue::Rewrite {
+        return Ok(cleaned);
+    }
+    for step in steps {
+        if let Step::Clean = step.step {
+            cleaned.push(step.region)?;
+        }
+    }
+    Ok(cleaned)
+}
+
+fn counted(regions: Regions, cleaned: Vec<u64>) -> Recovered
+    ensures regions { result.regions ≡ regions }
+    ensures cleaned { result.cleaned ≡ cleaned }
+    ensures append { result.append ≡ live_in_all Append (tables_shown regions) }
+    ensures rewrite { result.rewrite ≡ live_in_all Rewrite (tables_shown regions) }
+{
+    let append = live(LogQueue::Append, &regions);
+    let rewrite = live(LogQueue::Rewrite, &regions);
+    Recovered {
+        regions,
+        cleaned,
+        append,
+        rewrite,
+    }
+}

@@ -1,0 +1,206 @@
+//! One region's records, and what a step does to them.
+
+ghost use Rattle.std.specs.Prelude.{◌≡◌, ◌≢◌, ℕ, Some, None, option_map, IfOk, IfErr, OnOk};
+ghost use Rattle.std.specs.FinMap as finite;
+ghost use Rattle.raft_plain.specs.Common.{nat_cmp, IsOrdered, from, below, end_of, empty_table, table_of, leaves_hole, entries_after_replay, after_step, step_shown, with_table, keys_shown, table_shown, tables_shown};
+
+use raft_base::{AllocResult, EntryIndex, Error, FileId, FileSeq, LogQueue, Result};
+use raft_table::Step;
+use std::alloc::Global;
+use std::collections::BTreeMap;
+
+/// The value of a key, and the file that both were written to.
+#[derive(Debug, Drop)]
+pub struct Stored {
+    pub value: Vec<u8>,
+    pub file: FileId,
+}
+
+/// What is stored under each key.
+pub type Keys = BTreeMap<Vec<u8>, Stored>;
+
+/// Entries in order of index.
+pub type Entries = Vec<EntryIndex>;
+
+/// The records of one region.
+#[derive(Debug, Drop)]
+pub struct Region {
+    pub entries: Entries,
+    pub keys: Keys,
+    /// The first and the last file number of the region's last atomic group.
+    pub group: Option<(FileSeq, FileSeq)>,
+}
+
+/// The records of each region that is there.
+pub type Regions = BTreeMap<u64, Region>;
+
+/// Does a step on a region; one that is cleaned is absent then.
+pub(crate) fn after_step(
+    alloc: Global,
+    queue: LogQueue,
+    mut region: Region,
+    step: &Step,
+) -> Result<Option<Region>>
+    ensures ok { IfOk result (λ r. (id : ℕ)
+        → after_step queue (table_shown id region) (step_shown step.now)
+        ≡ Some (option_map (table_shown id) r)) }
+    ensures refused { IfErr result (λ e. e ≢ Error.Memory → (id : ℕ)
+        → after_step queue (table_shown id region) (step_shown step.now) ≡ None) }
+{
+    match step {
+        Step::Run(run) => {
+            region.entries = with_run(alloc, queue, region.entries, run)?;
+            Ok(Some(region))
+        }
+        Step::Compact { index } => {
+            region.entries = from(region.entries, *index);
+            Ok(Some(region))
+        }
+        Step::Truncate { index } => {
+            region.entries = below(region.entries, *index);
+            Ok(Some(region))
+        }
+        Step::Put {
+            key,
+            value,
+            file_id,
+        } => {
+            region.keys = with_pair(alloc, region.keys, key, value, *file_id)?;
+            Ok(Some(region))
+        }
+        Step::Del { key } => {
+            region.keys = without_key(region.keys, key);
+            Ok(Some(region))
+        }
+        Step::AtomicGroup {
+            first_seq,
+            last_seq,
+        } => {
+            region.group = Some((*first_seq, *last_seq));
+            Ok(Some(region))
+        }
+        Step::Clean => Ok(None),
+    }
+}
+
+/// Puts a run over entries. Behind a hole it is refused in the append queue, and all that stays in the rewrite queue.
+fn with_run(alloc: Global, queue: LogQueue, entries: Entries, run: &Entries) -> Result<Entries>
+    ensures ok { IfOk result (λ es. entries_after_replay queue entries.items run.now.items
+        ≡ Some es.items) }
+    ensures refused { IfErr result (λ e. e ≢ Error.Memory
+        → entries_after_replay queue entries.items run.now.items ≡ None) }
+{
+    let Some(first) = run.first() else {
+        return Ok(entries);
+    };
+    let start = first.index;
+    if leaves_hole(entries.as_slice(), start) {
+        return match queue {
+            LogQueue::Append => Err(Error::corruption(alloc, "a run behind a hole")),
+            LogQueue::Rewrite => Ok(Vec::from_slice(alloc, run.as_slice())?),
+        };
+    }
+    let mut kept = below(entries, start);
+    kept.extend_from_slice(run.as_slice())?;
+    Ok(kept)
+}
+
+fn leaves_hole(entries: &[EntryIndex], start: u64) -> bool
+    ensures { result ≡ leaves_hole entries.now start }
+{
+    !entries.is_empty() && end_of(entries) < start as u128
+}
+
+/// Returns the greatest index plus one, 0 without entries.
+pub(crate) fn end_of(entries: &[EntryIndex]) -> u128
+    ensures { result ≡ end_of entries.now }
+{
+    let mut end: u128 = 0;
+    for entry in entries {
+        end = end.max(entry.index as u128 + 1);
+    }
+    end
+}
+
+/// Returns the entries from an index on.
+fn from(mut entries: Entries, index: u64) -> Entries
+    ensures { result.items ≡ from index entries.items }
+{
+    entries.retain(|entry| index <= entry.index);
+    entries
+}
+
+/// Returns the entries below an index.
+fn below(mut entries: Entries, index: u64) -> Entries
+    ensures { result.items ≡ below index entries.items }
+{
+    entries.retain(|entry| entry.index < index);
+    entries
+}
+
+fn with_pair(
+    alloc: Global,
+    mut keys: Keys,
+    key: &Vec<u8>,
+    value: &Vec<u8>,
+    file: FileId,
+) -> AllocResult<Keys>
+    ensures { IfOk result (λ new. keys_shown new ≡ finite.insert (keys_shown keys)
+        key.now.items (record { value = value.now.items; file = file })) }
+{
+    let key = Vec::from_slice(alloc, key.as_slice())?;
+    let value = Vec::from_slice(alloc, value.as_slice())?;
+    keys.insert(key, Stored { value, file })?;
+    Ok(keys)
+}
+
+pub(crate) fn without_key(mut keys: Keys, key: &Vec<u8>) -> Keys
+    ensures { keys_shown result ≡ finite.remove (keys_shown keys) key.now.items }
+{
+    keys.retain(|own, _| own.as_slice().cmp(key.as_slice()).is_ne());
+    keys
+}
+
+/// Returns the region that is there, or one without records.
+pub(crate) fn or_new(alloc: Global, region: Option<Region>) -> Region
+    ensures { (id : ℕ) → table_shown id result
+        ≡ table_of id (option_map (table_shown id) region) }
+{
+    match region {
+        Some(region) => region,
+        None => Region {
+            entries: Vec::new(alloc),
+            keys: BTreeMap::new(alloc),
+            group: None,
+        },
+    }
+}
+/// Puts a region in the place of its old one, or takes it away.
+pub(crate) fn put(mut regions: Regions, id: u64, region: Option<Region>) -> AllocResult<Regions>
+    requires { IsOrdered nat_cmp regions }
+    ensures ordered { IfOk result (IsOrdered nat_cmp) }
+    ensures ok { IfOk result (λ new. tables_shown new
+        ≡ with_table (tables_shown regions) id (option_map (table_shown id) region)) }
+{
+    match region {
+        Some(region) => {
+            regions.insert(id, region)?;
+            Ok(regions)
+        }
+        None => {
+            let _ = regions.remove(&id);
+            Ok(regions)
+        }
+    }
+}
+
+/// Takes a region out of others.
+pub(crate) fn parted_off(mut regions: Regions, id: u64) -> (Option<Region>, Regions)
+    requires { IsOrdered nat_cmp regions }
+    ensures ordered { IsOrdered nat_cmp result.1 }
+    ensures own { option_map (table_shown id) result.0 ≡ finite.get (tables_shown regions) id }
+    ensures others { tables_shown result.1 ≡ finite.remove (tables_shown regions) id }
+{
+    let own = regions.remove(&id);
+    (own, regions)
+}

@@ -1,0 +1,146 @@
+//! The records of all regions as text, in the words of `raftlog recover`.
+
+ghost use Rattle.std.specs.Prelude.{◌≡◌, ◌++◌, ℕ, Option, IfOk, IfErr, OnOk, codes, flat_map, string_bytes};
+ghost use Rattle.std.specs.Fmt.{decimal};
+ghost use Rattle.std.specs.FinMap as finite;
+ghost use Rattle.raft_plain.specs.Common.{nat_cmp, IsOrdered, Keeps, IsIoError, least, lesser, seqs_in, first_entry_seq, at_most_group_seq, least_seq, keys_shown, table_shown, all_tables, range_text, seq_text, table_line, cleaned_line, live_line, recovered_shown, IsTextOfTables, PrintsTables, PrintsFrontOfTables};
+
+use crate::Recovered;
+use crate::live::is_placed_in;
+use crate::overlay::lesser;
+use crate::region::{Keys, Region, Regions, end_of};
+use raft_base::{AllocResult, EntryIndex, Error, FileSeq, LogQueue, Result};
+use raft_records::write_whole;
+use std::alloc::Global;
+use std::io::Write;
+
+/// Prints a line for each region, by rising region, then the cleaned regions and the live counts.
+pub fn print_plainly<W: Write>(alloc: Global, recovered: &Recovered, writer: &mut W) -> Result<()>
+    ensures ok { OnOk result (PrintsTables (recovered_shown recovered.now) (W.contents writer.old)
+        (W.contents writer.new)) }
+    ensures silent { IfErr result
+        (λ e. (IsIoError e → ⊥) → Keeps (W.contents writer.old) (W.contents writer.new)) }
+{
+    let text = recovered_text(alloc, recovered)?;
+    write_whole(writer, text.as_bytes())
+}
+
+fn recovered_text(alloc: Global, recovered: &Recovered) -> AllocResult<String>
+    ensures { IfOk result (λ text. IsTextOfTables (recovered_shown recovered.now) (string_bytes text)) }
+{
+    let mut text = String::new(alloc);
+    append_regions(&recovered.regions, &mut text)?;
+    append_cleaned(recovered.cleaned.as_slice(), &mut text)?;
+    append_live(recovered.append, recovered.rewrite, &mut text)?;
+    Ok(text)
+}
+
+fn append_live(append: u128, rewrite: u128, text: &mut String) -> AllocResult<()>
+    ensures { OnOk result (string_bytes text.new ≡ string_bytes text.old ++ (codes "live "
+        ++ decimal append ++ codes " " ++ decimal rewrite ++ codes "\n")) }
+{
+    writeln!(text, "live {append} {rewrite}")
+}
+
+fn append_regions(regions: &Regions, text: &mut String) -> AllocResult<()>
+    ensures ordered { IsOrdered nat_cmp regions.now }
+    ensures lines { OnOk result (string_bytes text.new
+        ≡ string_bytes text.old ++ flat_map table_line (all_tables regions.now)) }
+{
+    for (id, region) in regions {
+        append_region(*id, region, text)?;
+    }
+    Ok(())
+}
+
+fn append_region(id: u64, region: &Region, text: &mut String) -> AllocResult<()>
+    ensures { OnOk result (string_bytes text.new ≡ string_bytes text.old ++ table_line (table_shown id region.now)) }
+{
+    write!(text, "{id} entries ")?;
+    append_range(region.entries.as_slice(), text)?;
+    write!(text, " keys {} append ", key_count(&region.keys))?;
+    append_seq(least_seq(LogQueue::Append, region), text)?;
+    text.push_str(" rewrite ")?;
+    let rewritten = least_seq(LogQueue::Rewrite, region);
+    append_seq(at_most_group_seq(region.group, rewritten), text)?;
+    text.push('\n')
+}
+
+fn key_count(keys: &Keys) -> usize
+    ensures { result ≡ finite.len (keys_shown keys.now) }
+{
+    keys.len()
+}
+
+fn append_range(entries: &[EntryIndex], text: &mut String) -> AllocResult<()>
+    ensures { OnOk result (string_bytes text.new ≡ string_bytes text.old ++ range_text entries.now) }
+{
+    match entries.first() {
+        Some(first) => write!(text, "{}..{}", first.index, end_of(entries)),
+        None => text.push('-'),
+    }
+}
+
+fn append_seq(seq: Option<FileSeq>, text: &mut String) -> AllocResult<()>
+    ensures { OnOk result (string_bytes text.new ≡ string_bytes text.old ++ seq_text seq) }
+{
+    match seq {
+        Some(seq) => write!(text, "{seq}"),
+        None => text.push('-'),
+    }
+}
+
+fn append_cleaned(cleaned: &[u64], text: &mut String) -> AllocResult<()>
+    ensures { OnOk result (string_bytes text.new ≡ string_bytes text.old ++ cleaned_line cleaned.now) }
+{
+    text.push_str("cleaned")?;
+    if cleaned.is_empty() {
+        text.push_str(" -")?;
+    }
+    for region in cleaned {
+        write!(text, " {region}")?;
+    }
+    text.push('\n')
+}
+
+/// Lowers a file number that is at or below the last one of an atomic group to at most the group's first.
+fn at_most_group_seq(group: Option<(FileSeq, FileSeq)>, seq: Option<FileSeq>) -> Option<FileSeq>
+    ensures { result ≡ at_most_group_seq group seq }
+{
+    match (group, seq) {
+        (Some((first, last)), Some(seq)) if seq <= last => Some(seq.min(first)),
+        (_, seq) => seq,
+    }
+}
+
+/// Returns the lesser of the file numbers of a queue's first entry and of its key values.
+fn least_seq(queue: LogQueue, region: &Region) -> Option<FileSeq>
+    ensures { result ≡ least_seq queue (table_shown 0 region.now) }
+{
+    let entry_seq = first_entry_seq(queue, region.entries.as_slice());
+    lesser(entry_seq, least_key_seq(queue, &region.keys))
+}
+
+#[tactic(auto, unfolding(raft_table::specs::TableEntries::placed_in, raft_table::specs::TableEntries::is_placed_in))]
+fn first_entry_seq(queue: LogQueue, entries: &[EntryIndex]) -> Option<FileSeq>
+    ensures { result ≡ first_entry_seq queue entries.now }
+{
+    for entry in entries {
+        if is_placed_in(queue, entry) {
+            return Some(entry.entries?.id.seq);
+        }
+    }
+    None
+}
+
+fn least_key_seq(queue: LogQueue, keys: &Keys) -> Option<FileSeq>
+    ensures { result ≡ least (seqs_in queue (keys_shown keys.now)) }
+{
+    let mut least = None;
+    for stored in keys.values() {
+        if stored.file.queue == queue {
+            least = lesser(least, Some(stored.file.seq));
+        }
+    }
+    least
+}

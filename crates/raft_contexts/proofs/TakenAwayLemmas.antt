@@ -1,6 +1,6 @@
 -- What a region mark takes away of a table, as items and by the table's ends.
 use Rattle.std.proofs.Common.{◌≡◌, ◌≢◌, ℕ, ◌≤◌, Bool, true, false, cond, List, [], ◌∷◌, ◌++◌, length, map, Option, Some, None, refl, sym, ap, ◌∙◌, append_assoc, append-nil, arith}
-use Rattle.std.specs.Prelude.{◌||◌, ◌<◌, IsPermutation, filter, flat_map, max, nat_le, nat_lt, suc}
+use Rattle.std.specs.Prelude.{◌||◌, ◌&&◌, ◌<◌, IsPermutation, MatchOption, filter, flat_map, max, min, nat_le, nat_lt, suc}
 use Rattle.std.specs.List.{list_any}
 use Rattle.std.specs.Option.{unwrap_or}
 use Rattle.std.specs.FinMap as finite
@@ -9,7 +9,7 @@ use Rattle.raft_base.specs.declared.entry_index.EntryIndex.{EntryIndex}
 use Rattle.raft_base.specs.Runs.{IsRun, RisesFrom, end_of}
 use Rattle.raft_records.specs.declared.command.Command.TheVariants as commands
 use Rattle.raft_records.specs.Item.{Item, command_item}
-use Rattle.raft_records.specs.LogBatch.{Batch, empty_batch, is_open}
+use Rattle.raft_records.specs.LogBatch.{Batch, empty_batch}
 use Rattle.raft_table.specs.LastWord.{speaks_of_index}
 use Rattle.raft_table.specs.MarkJoins.{fresh, mark_of}
 use Rattle.raft_table.specs.Marks.{Mark}
@@ -19,8 +19,10 @@ use Rattle.raft_table.specs.TableEntries.{start_of}
 use Rattle.raft_history.specs.MarkedRegions.{region_in}
 use Rattle.raft_history.specs.RegionSteps.{Tables}
 use Rattle.raft_contexts.specs.MarkedTables.{regions_in}
-use Rattle.raft_contexts.specs.TakenAway.{IsTakenAway, bounds_told, cut_told, item_of_step, items_of_steps, items_of_table, takes_of, takes_pair, told_by_mark}
+use Rattle.raft_contexts.specs.TakenAway.{bounds_told, cut_told, first_in, first_of, front_told, is_front_dropped, item_of_step, items_of_steps, items_of_table, steps_at_once, steps_later, takes_of, takes_pair, told_by_mark}
+use Rattle.raft_contexts.specs.TakenBatches.{AreOpen, IsTakenAway, with_both, with_items, with_mark_told, with_table_told}
 use Rattle.raft_contexts.specs.declared.marked_tables.MarkedTables.{MarkedTables}
+use Rattle.raft_contexts.specs.declared.taken_away.TakenAway.{TakenAway}
 use Rattle.raft_contexts.proofs.ImpliedMarkLemmas.{get_kept, mark_implied}
 
 -- ---- items
@@ -156,12 +158,74 @@ told_cut old new newer m t region floor index a b is clean low cut e f g h =
         ∙ ap (λ n. cond (takes_of t (Compact n)) (command_item t.region_id (commands.Compact n) ∷ []) [] ++ cond (takes_of t (Truncate index)) (command_item t.region_id (commands.Truncate index) ∷ []) []) low
         ∙ cut_items t.region_id m t clean index cut
 
+-- ---- rewritten entries that appended ones don't join
+
+pub no_between : (start from below : ℕ) → false ≡ nat_lt (max start from) (min start below)
+no_between start from below = grind (arith, nat_tests)
+
+one_between : (s from below end : ℕ) (b : Bool) → suc s ≤ end → b ≡ nat_lt (max (suc s) from) (min end below)
+    → ((nat_le from s && nat_lt s below) || b) ≡ nat_lt (max s from) (min end below)
+one_between s from below end b h e = grind (arith, nat_tests)
+
+any_between : (s from below : ℕ) (es : List EntryIndex) → RisesFrom s es
+    → list_any (λ (e : EntryIndex). nat_le from e.index && nat_lt e.index below) es ≡ nat_lt (max s from) (min (max s (end_of es)) below)
+unfolding end_of
+any_between s from below [] r = no_between s from below ∙ ap (λ n. nat_lt (max s from) (min n below)) (sym (omega arith))
+any_between s from below (e ∷ es) r =
+    ap (λ n. (nat_le from n && nat_lt n below) || list_any (λ (e : EntryIndex). nat_le from e.index && nat_lt e.index below) es) r.0
+    ∙ one_between s from below (max (suc s) (end_of es)) (list_any (λ (e : EntryIndex). nat_le from e.index && nat_lt e.index below) es) (omega arith) (any_between (suc s) from below es r.1)
+    ∙ ap (λ n. nat_lt (max s from) (min n below)) (omega arith)
+    ∙ ap (λ i. nat_lt (max s from) (min (max s (max (suc i) (end_of es))) below)) (sym r.0)
+
+pub run_between : (from below : ℕ) (es : List EntryIndex) → IsRun es → es ≢ []
+    → list_any (λ (e : EntryIndex). nat_le from e.index && nat_lt e.index below) es ≡ nat_lt (max (start_of es) from) (min (end_of es) below)
+unfolding end_of
+run_between from below [] run some = absurd (some refl)
+run_between from below (e ∷ es) run some =
+    any_between e.index from below (e ∷ es) (refl, run) ∙ ap (λ n. nat_lt (max e.index from) (min n below)) (omega arith)
+
+-- ---- what is told of one table
+
+pub tell_later : (m : Mark) (first : Option ℕ) (t : Table) (old : TakenAway) (told : Batch) → is_front_dropped m first t ≡ false → told ≡ with_items old.later (items_of_steps t.region_id (told_by_mark m t))
+    → record old { later = told } ≡ with_mark_told m first t old
+tell_later m first t old told kept e =
+    ap (λ (l : Batch). record old { later = l }) e
+    ∙ ap (λ (l : Batch). record { at_once = l; later = with_items old.later (items_of_steps t.region_id (told_by_mark m t)) }) (with_none old.at_once)
+    ∙ sym (ap (λ (b : Bool). with_both old (items_of_steps t.region_id (cond b (told_by_mark m t ++ front_told first t) [])) (items_of_steps t.region_id (cond b [] (told_by_mark m t)))) kept)
+
+pub tell_now : (m : Mark) (index region : ℕ) (t : Table) (old : TakenAway) (told newer : Batch) (takes : Bool) → is_front_dropped m (Some index) t ≡ true → region ≡ t.region_id → takes ≡ takes_of t (Compact index)
+    → told ≡ with_items old.at_once (items_of_steps t.region_id (told_by_mark m t)) → newer ≡ record told { items = told.items ++ cond takes (command_item region (commands.Compact index) ∷ []) [] }
+    → record old { at_once = newer } ≡ with_mark_told m (Some index) t old
+tell_now m index region t old told newer takes dropped is does e f =
+    ap (λ (l : Batch). record old { at_once = l }) (with_more old.at_once told newer (items_of_steps t.region_id (told_by_mark m t)) (cond takes (command_item region (commands.Compact index) ∷ []) []) e f)
+    ∙ ap (λ (l : List Item). record old { at_once = with_items old.at_once (items_of_steps t.region_id (told_by_mark m t) ++ l) }) front
+    ∙ ap (λ (l : List Item). record old { at_once = with_items old.at_once l }) (sym (flat-append (item_of_step t.region_id) (told_by_mark m t) (front_told (Some index) t)))
+    ∙ ap (λ (l : Batch). record { at_once = with_items old.at_once (items_of_steps t.region_id (told_by_mark m t ++ front_told (Some index) t)); later = l }) (with_none old.later)
+    ∙ sym (ap (λ (b : Bool). with_both old (items_of_steps t.region_id (cond b (told_by_mark m t ++ front_told (Some index) t) [])) (items_of_steps t.region_id (cond b [] (told_by_mark m t)))) dropped)
+  where
+    go : (b : Bool) → cond b (command_item t.region_id (commands.Compact index) ∷ []) [] ≡ items_of_steps t.region_id (cond b (Compact index ∷ []) [])
+    go true = refl
+    go false = refl
+
+    front : cond takes (command_item region (commands.Compact index) ∷ []) [] ≡ items_of_steps t.region_id (front_told (Some index) t)
+    front =
+        ap (λ (b : Bool). cond b (command_item region (commands.Compact index) ∷ []) []) does
+        ∙ ap (λ (r : ℕ). cond (takes_of t (Compact index)) (command_item r (commands.Compact index) ∷ []) []) is ∙ go (takes_of t (Compact index))
+
 -- ---- the mark of a table's region
 
-pub under_mark : (m : MarkedTables) (t : Table) (id : ℕ) (mark : Mark) (old new : Batch) → id ≡ t.region_id → (region_in (regions_in m) id).mark ≡ mark
-    → new ≡ record old { items = old.items ++ items_of_steps t.region_id (told_by_mark mark t) } → new ≡ record old { items = old.items ++ items_of_table (regions_in m) t }
-under_mark m t id mark old new is e told =
-    told ∙ ap (λ (x : Mark). record old { items = old.items ++ items_of_steps t.region_id (told_by_mark x t) }) (sym e ∙ ap (λ i. (region_in (regions_in m) i).mark) is)
+pub first_index_is : (es : List EntryIndex) (first : Option ℕ) → MatchOption first (es ≡ []) (λ (i : ℕ). (es ≢ []) × (i ≡ start_of es)) → first ≡ first_of es
+first_index_is [] None h = refl
+first_index_is [] (Some i) h = absurd (h.0 refl)
+first_index_is (e ∷ es) None h = absurd cc
+first_index_is (e ∷ es) (Some i) h = ap Some h.1
+
+pub under_mark : (m : MarkedTables) (t : Table) (id : ℕ) (mark : Mark) (first : Option ℕ) (old new : TakenAway) → id ≡ t.region_id → (region_in (regions_in m) id).mark ≡ mark
+    → first ≡ first_of (table_of id (finite.get m.accessor.tables id)).entries
+    → new ≡ with_mark_told mark first t old → new ≡ with_table_told (regions_in m) t old
+under_mark m t id mark first old new is e f told =
+    told ∙ ap (λ (x : Mark). with_mark_told x first t old) (sym e ∙ ap (λ i. (region_in (regions_in m) i).mark) is)
+    ∙ ap (λ (x : Option ℕ). with_mark_told (region_in (regions_in m) t.region_id).mark x t old) (f ∙ ap (λ i. first_in (regions_in m) i) is)
 
 pub kept_mark : (m : MarkedTables) (id : ℕ) (mark : Mark) → Some mark ≡ finite.get m.marks id → (region_in (regions_in m) id).mark ≡ mark
 kept_mark m id mark e = ap (λ (o : Option Mark). unwrap_or o fresh) (get_kept m.accessor.tables m.marks id mark (sym e))
@@ -171,24 +235,29 @@ mark_of_table m id own none e = mark_implied m.accessor.tables m.marks id none �
 
 -- ---- tables one after another
 
--- what is told of some tables, as a batch
-pub record AreTablesTold (m : MarkedTables) (tables : List Table) (told : Batch) : Type 0 where
-  pub tells : told ≡ record empty_batch { items = flat_map (items_of_table (regions_in m)) tables }
+-- what is told of some tables, as batches
+pub record AreTablesTold (m : MarkedTables) (tables : List Table) (taken : TakenAway) : Type 0 where
+  pub at_once : taken.at_once ≡ record empty_batch { items = flat_map (items_of_table steps_at_once (regions_in m)) tables }
+  pub later : taken.later ≡ record empty_batch { items = flat_map (items_of_table steps_later (regions_in m)) tables }
 
-pub no_table_told : (m : MarkedTables) → AreTablesTold m [] empty_batch
-no_table_told m = record { tells = refl }
+pub no_table_told : (m : MarkedTables) → AreTablesTold m [] (record { at_once = empty_batch; later = empty_batch })
+no_table_told m = record { at_once = refl; later = refl }
 
-pub one_table_more : (m : MarkedTables) (tables : List Table) (t : Table) (told new : Batch) → AreTablesTold m tables told → new ≡ record told { items = told.items ++ items_of_table (regions_in m) t }
+one_more : (f : Table → List Item) (tables : List Table) (t : Table) (told new : Batch) → told ≡ record empty_batch { items = flat_map f tables } → new ≡ with_items told (f t)
+    → new ≡ record empty_batch { items = flat_map f (tables ++ t ∷ []) }
+one_more f tables t told new h e =
+    e ∙ ap (λ (b : Batch). with_items b (f t)) h
+    ∙ ap (λ (l : List Item). record empty_batch { items = l }) (ap (λ l. flat_map f tables ++ l) (sym (append-nil (f t))) ∙ sym (flat-append f tables (t ∷ [])))
+
+pub one_table_more : (m : MarkedTables) (tables : List Table) (t : Table) (taken new : TakenAway) → AreTablesTold m tables taken → new ≡ with_table_told (regions_in m) t taken
     → AreTablesTold m (tables ++ t ∷ []) new
-one_table_more m tables t told new h e = record {
-  tells = e ∙ ap (λ (b : Batch). record b { items = b.items ++ items_of_table (regions_in m) t }) h.tells
-      ∙ ap (λ (l : List Item). record empty_batch { items = l })
-      (ap (λ l. flat_map (items_of_table (regions_in m)) tables ++ l) (sym (append-nil (items_of_table (regions_in m) t)))
-      ∙ sym (flat-append (items_of_table (regions_in m)) tables (t ∷ [])));
+one_table_more m tables t taken new h e = record {
+  at_once = one_more (items_of_table steps_at_once (regions_in m)) tables t taken.at_once new.at_once h.at_once (ap (λ (x : TakenAway). x.at_once) e);
+  later = one_more (items_of_table steps_later (regions_in m)) tables t taken.later new.later h.later (ap (λ (x : TakenAway). x.later) e);
 }
 
-pub still_open : (m : MarkedTables) (tables : List Table) (told : Batch) → AreTablesTold m tables told → told.stage ≡ is_open
-still_open m tables told h = ap (λ (b : Batch). b.stage) h.tells
+pub still_open : (m : MarkedTables) (tables : List Table) (taken : TakenAway) → AreTablesTold m tables taken → AreOpen taken
+still_open m tables taken h = record { at_once = ap (λ (b : Batch). b.stage) h.at_once; later = ap (λ (b : Batch). b.stage) h.later }
 
-pub all_told : (m : MarkedTables) (tables : List Table) (rewritten : Tables) (told : Batch) → AreTablesTold m tables told → IsPermutation tables (finite.values rewritten) → IsTakenAway (regions_in m) rewritten told
-all_told m tables rewritten told h all = record { tables = tables; all = all; tells = h.tells }
+pub all_told : (m : MarkedTables) (tables : List Table) (rewritten : Tables) (taken : TakenAway) → AreTablesTold m tables taken → IsPermutation tables (finite.values rewritten) → IsTakenAway (regions_in m) rewritten taken
+all_told m tables rewritten taken h all = record { tables = tables; all = all; at_once = h.at_once; later = h.later }

@@ -5,6 +5,7 @@ pub mod WaitingItemsView
 pub mod WaitingShown
 pub mod StepCounts
 pub mod TakenAway
+pub mod TakenBatches
 pub mod ImpliedMarks
 pub mod MarkedTables
 pub mod MovedPlaces

@@ -1,19 +1,18 @@
--- What the append queue takes away of rewritten tables, told by the regions' marks there.
-use Rattle.std.specs.Prelude.{◌≡◌, ℕ, Bool, true, false, ◌||◌, List, [], ◌∷◌, ◌++◌, map, filter, flat_map, Option, Some, None, is_some, if◌then◌else◌, IsPermutation}
+-- What the append queue takes away of rewritten tables, told by the regions' marks there: at once, or later.
+use Rattle.std.specs.Prelude.{ℕ, Bool, true, false, not, ◌||◌, ◌&&◌, ◌==◌, nat_le, nat_lt, List, [], ◌∷◌, ◌++◌, map, filter, flat_map, Option, Some, None, is_some, if◌then◌else◌}
 use Rattle.std.specs.List.{list_any}
 use Rattle.std.specs.FinMap as finite
 use Rattle.std.specs.FinSet as finset
+use Rattle.raft_base.specs.Runs.{end_of}
 use Rattle.raft_base.specs.declared.entry_index.EntryIndex.{EntryIndex}
 use Rattle.raft_records.specs.declared.command.Command.TheVariants as commands
 use Rattle.raft_records.specs.declared.key_value.OpType.TheVariants as operations
 use Rattle.raft_records.specs.Item.{Item, command_item, pair_item}
-use Rattle.raft_records.specs.LogBatch.{Batch, empty_batch}
 use Rattle.raft_table.specs.LastWord.{speaks_of_index}
-use Rattle.raft_table.specs.Marks.{Mark}
-use Rattle.raft_table.specs.Steps.{Step, Compact, Truncate, Del, Clean}
+use Rattle.raft_table.specs.Marks.{Mark, is_under}
+use Rattle.raft_table.specs.Steps.{Step, Compact, Truncate, Del, Clean, table_of}
 use Rattle.raft_table.specs.Table.{Table}
 use Rattle.raft_history.specs.MarkedRegions.{MarkedRegions, region_in}
-use Rattle.raft_history.specs.RegionSteps.{Tables}
 
 -- whether a step takes a pair of a table away: the deletion of a key that has one, and a Clean if there is one
 abbrev pub takes_pair : Table → Step → Bool
@@ -42,6 +41,40 @@ keys_deleted m old = filter (finset.contains m.deleted) (finite.keys old.keys)
 abbrev pub told_by_mark : Mark → Table → List Step
 told_by_mark m old = filter (takes_of old) (bounds_told m) ++ map Del (keys_deleted m old)
 
+-- ---- at once, or later
+
+-- the index of the first entry, if there is one
+abbrev pub first_of : List EntryIndex → Option ℕ
+first_of [] = None
+first_of (e ∷ es) = Some e.index
+
+-- whether appended entries that begin at this index don't join rewritten ones with this end at a cut, if there is one: they begin elsewhere, or the rewritten ones don't reach it
+abbrev pub is_apart_at : Option ℕ → ℕ → ℕ → Bool
+is_apart_at None first end = false
+is_apart_at (Some cut) first end = not (first == cut) || nat_lt end cut
+
+-- whether an entry stays under a region mark without a Clean
+abbrev pub stays_under : Mark → EntryIndex → Bool
+stays_under m e = nat_le m.floor e.index && is_under m.cut e.index
+
+-- whether rewritten entries that stay under a region mark are dropped, since appended ones, which begin at this index, if there are some, don't join them
+abbrev pub is_front_dropped : Mark → Option ℕ → Table → Bool
+is_front_dropped m None old = false
+is_front_dropped m (Some first) old = if m.cleaned then false else is_apart_at m.cut first (end_of old.entries) && list_any (stays_under m) old.entries
+
+-- a compaction to the first appended entry, if that takes something away
+abbrev pub front_told : Option ℕ → Table → List Step
+front_told None old = []
+front_told (Some first) old = filter (takes_of old) (Compact first ∷ [])
+
+-- what is told at once of a region: where such entries are dropped, what its mark takes away, and a compaction to the first appended entry; else nothing
+abbrev pub steps_at_once : Mark → Option ℕ → Table → List Step
+steps_at_once m first old = if is_front_dropped m first old then told_by_mark m old ++ front_told first old else []
+
+-- what may be told later: where no such entries are dropped, what its mark takes away
+abbrev pub steps_later : Mark → Option ℕ → Table → List Step
+steps_later m first old = if is_front_dropped m first old then [] else told_by_mark m old
+
 -- ---- as items
 
 -- what tells a step: a command as it is, and the deletion of a key; no other step
@@ -56,12 +89,10 @@ item_of_step region _ = []
 abbrev pub items_of_steps : ℕ → List Step → List Item
 items_of_steps region ss = flat_map (item_of_step region) ss
 
--- what tells the steps that the region marks take away of one table
-abbrev pub items_of_table : MarkedRegions → Table → List Item
-items_of_table append t = items_of_steps t.region_id (told_by_mark (region_in append t.region_id).mark t)
+-- the index of a region's first entry, if it has one
+abbrev pub first_in : MarkedRegions → ℕ → Option ℕ
+first_in append region = first_of (table_of region (region_in append region).table).entries
 
--- what region marks of the append queue take away of rewritten tables, these in any order, as an open batch that tells it
-pub record IsTakenAway (append : MarkedRegions) (rewritten : Tables) (told : Batch) : Type 0 where
-  pub tables : List Table
-  pub all : IsPermutation tables (finite.values rewritten)
-  pub tells : told ≡ record empty_batch { items = flat_map (items_of_table append) tables }
+-- what tells, of one rewritten table, these steps under its region's mark
+abbrev pub items_of_table : (Mark → Option ℕ → Table → List Step) → MarkedRegions → Table → List Item
+items_of_table steps append t = items_of_steps t.region_id (steps (region_in append t.region_id).mark (first_in append t.region_id) t)

@@ -10,7 +10,7 @@ mod read_state;
 pub mod reading;
 pub mod recover_context;
 pub mod region_marks;
-mod taken_away;
+pub mod taken_away;
 pub mod waiting_group;
 pub mod waiting_groups;
 pub mod waiting_items;
@@ -19,3 +19,5 @@ pub use context_stage::ContextStage;
 pub use kept::Kept;
 pub use recover_context::{MemTableRecoverContext, MemTableRecoverContextFactory};
 pub use region_marks::RegionMarks;
+#[doc(hidden)]
+pub use taken_away::TakenAway;

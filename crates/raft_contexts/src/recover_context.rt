@@ -3,15 +3,16 @@
 ghost use Rattle.std.specs.Prelude.{ℕ, ◌≡◌, ◌≢◌, ◌⊎◌, ◌↔◌, [], List, IfOk, IfErr, OnOk, OnErr, IsTrue};
 ghost use Rattle.raft_contexts.specs.Common.{Error, LogQueue, Append, Rewrite, Event, IsReadingOfBoth, Suits, IsSmall, IsOfQueue, IsOneReading, kept_of, kept_by, IsAtMost, Tables, event, AreCountsOf, kept_shown, IsOverlaidWith};
 ghost use Rattle.raft_contexts.specs.Common.{IsOfBothExactly, IsMergeAppendFault, blank_context, HasRead, HasReadExactly, IsBatchTaken, IsBatchCounted, IsBatchFault, IsMergedWith, IsNeighborFault, refused_stage, Reading, Failed};
-ghost use Rattle.raft_contexts.specs.TakenAway.{IsTakenAway};
+ghost use Rattle.raft_contexts.specs.TakenBatches.{IsTakenAway};
 
 use crate::context_stage::ContextStage;
 use crate::kept::Kept;
 use crate::read_state::ReadState;
+use crate::taken_away::TakenAway;
 use raft_accessor::MemTableAccessor;
 use raft_base::{Error, Factory, FileId, LogQueue, Result};
 use raft_history::ReplayMachine;
-use raft_records::{LogBatch, LogItemBatch, ReadBatch};
+use raft_records::{LogItemBatch, ReadBatch};
 use std::alloc::Global;
 use std::marker::Model;
 
@@ -172,15 +173,17 @@ impl MemTableRecoverContext {
     }
 
     /// Returns what this context, that of the append queue, takes away of the tables of `rewritten`, the context of the rewrite
-    /// queue, as an open batch that tells it: of each region with a rewritten table a Clean, if the append queue cleaned it, or else
+    /// queue, as open batches that tell it: of each region with a rewritten table a Clean, if the append queue cleaned it, or else
     /// its greatest compaction, the truncation at its cut, and the deletion of each key; and of these what takes something away of
-    /// the rewritten table. So nothing is told of a region that lacks one.
+    /// the rewritten table. So nothing is told of a region that lacks one. Where rewritten entries that stay are dropped, since the
+    /// append queue's ones don't join them, it stands in the batch that is told at once, with a compaction to the first of the
+    /// latter; else in the one that may be told later.
     ///
     /// # Errors
     ///
     /// `Failed` where either context doesn't read on, `Memory`.
     #[doc(hidden)]
-    pub fn taken_away(&self, alloc: Global, rewritten: &MemTableRecoverContext) -> Result<LogBatch>
+    pub fn taken_away(&self, alloc: Global, rewritten: &MemTableRecoverContext) -> Result<TakenAway>
         ensures ok { IfOk result (IsTakenAway self.now.context.regions rewritten.now.context.regions.tables) }
         ensures accepted { OnOk result ((self.now.stage ≡ Reading) × (rewritten.now.stage ≡ Reading)) }
         ensures fault { IfErr result (λ e. e ≢ Error.Memory → (e ≡ Error.Failed)

@@ -1,12 +1,15 @@
-//! What the append queue takes away of rewritten tables, as a batch that tells it.
+//! What the append queue takes away of rewritten tables, as batches that tell it.
 
-ghost use Rattle.std.specs.Prelude.{◌≡◌, ◌∷◌, [], ◌++◌, filter, map, IfErr, IfOk, None, OnOk, if◌then◌else◌};
+ghost use Rattle.std.specs.Prelude.{◌≡◌, ◌∷◌, [], ◌++◌, ◌&&◌, true, false, filter, map, nat_le, nat_lt, IfErr, IfOk, MatchOption, None, OnOk, Some, if◌then◌else◌};
 ghost use Rattle.std.specs.FinMap as finite;
+ghost use Rattle.std.specs.List.{list_any};
+ghost use Rattle.raft_base.specs.declared.entry_index.EntryIndex.{EntryIndex};
 ghost use Rattle.raft_records.specs.Item.{command_item};
 ghost use Rattle.raft_records.specs.LogBatch.{is_open};
 ghost use Rattle.raft_table.specs.Steps.{Clean, Compact, Del, Truncate};
-ghost use Rattle.raft_contexts.specs.Common.{regions_in};
-ghost use Rattle.raft_contexts.specs.TakenAway.{IsTakenAway, bounds_told, items_of_steps, items_of_table, takes_of, told_by_mark};
+ghost use Rattle.raft_contexts.specs.Common.{regions_in, table_in};
+ghost use Rattle.raft_contexts.specs.TakenAway.{bounds_told, first_of, is_front_dropped, items_of_steps, takes_of, told_by_mark};
+ghost use Rattle.raft_contexts.specs.TakenBatches.{AreOpen, IsTakenAway, with_mark_told, with_table_told};
 
 use crate::marked_tables::MarkedTables;
 use raft_accessor::MemTableAccessor;
@@ -15,45 +18,154 @@ use raft_records::{Command, LogBatch};
 use raft_table::{Mark, MemTable};
 use std::alloc::Global;
 
+/// What the append queue takes away of rewritten tables, as open batches that tell it. What is told of a region stands in one of
+/// them.
+#[derive(Drop)]
+pub struct TakenAway {
+    /// What is told at once: of the regions whose rewritten entries, those that stay under the region mark, lie in front of the
+    /// appended ones and don't join them.
+    pub at_once: LogBatch,
+    /// What may be told later.
+    pub later: LogBatch,
+}
+
 impl MarkedTables {
-    /// Returns what the region marks take away of rewritten tables, as a batch that tells it.
-    pub(crate) fn taken_away(&self, alloc: Global, rewritten: &MemTableAccessor) -> Result<LogBatch>
+    /// Returns what the region marks take away of rewritten tables, as batches that tell it.
+    pub(crate) fn taken_away(
+        &self,
+        alloc: Global,
+        rewritten: &MemTableAccessor,
+    ) -> Result<TakenAway>
         ensures ok { IfOk result (IsTakenAway (regions_in self.now) rewritten.now.tables) }
         ensures memory { IfErr result (λ e. e ≡ Error.Memory) }
     {
-        let mut told = LogBatch::default(alloc);
+        let mut taken = TakenAway {
+            at_once: LogBatch::default(alloc),
+            later: LogBatch::default(alloc),
+        };
         let tables = rewritten.tables()?;
         for table in &tables {
-            self.tell_table(table, &mut told)?;
+            self.tell_table(table, &mut taken)?;
         }
-        Ok(told)
+        Ok(taken)
     }
 
-    fn tell_table(&self, table: &MemTable, told: &mut LogBatch) -> Result<()>
-        requires { told.old.stage ≡ is_open }
-        ensures ok { OnOk result (told.new ≡ record told.old {
-          items = told.old.items ++ items_of_table (regions_in self.now) table.now;
-        }) }
+    fn tell_table(&self, table: &MemTable, taken: &mut TakenAway) -> Result<()>
+        requires { AreOpen taken.old }
+        ensures ok { OnOk result (taken.new ≡ with_table_told (regions_in self.now) table.now taken.old) }
         ensures memory { IfErr result (λ e. e ≡ Error.Memory) }
     {
-        match self.marks.get(table.region_id()) {
-            Some(mark) => mark.tell(table, told),
-            None => self.tell_unmarked(table, told),
+        let region = table.region_id();
+        match self.marks.get(region) {
+            Some(mark) => mark.tell(self.first_appended(region), table, taken),
+            None => self.tell_unmarked(table, taken),
         }
     }
 
-    fn tell_unmarked(&self, table: &MemTable, told: &mut LogBatch) -> Result<()>
+    fn tell_unmarked(&self, table: &MemTable, taken: &mut TakenAway) -> Result<()>
         requires none_kept { finite.get self.now.marks table.now.region_id ≡ None }
-        requires open { told.old.stage ≡ is_open }
-        ensures ok { OnOk result (told.new ≡ record told.old {
-          items = told.old.items ++ items_of_table (regions_in self.now) table.now;
-        }) }
+        requires open { AreOpen taken.old }
+        ensures ok { OnOk result (taken.new ≡ with_table_told (regions_in self.now) table.now taken.old) }
         ensures memory { IfErr result (λ e. e ≡ Error.Memory) }
     {
-        match self.accessor.get(table.region_id()) {
-            Some(own) => tell_mark(&self.marks.implied_by(own), table, told),
-            None => tell_mark(&self.marks.of_no_step(), table, told),
+        let region = table.region_id();
+        let first = self.first_appended(region);
+        match self.accessor.get(region) {
+            Some(own) => tell_mark(&self.marks.implied_by(own), first, table, taken),
+            None => tell_mark(&self.marks.of_no_step(), first, table, taken),
         }
+    }
+
+    /// Returns the first index of a region's entries in the append queue.
+    fn first_appended(&self, region: u64) -> Option<u64>
+        ensures { result ≡ first_of (table_in self.now.accessor.tables region).entries }
+    {
+        match self.accessor.get(region) {
+            Some(own) => own.first_index(),
+            None => None,
+        }
+    }
+}
+
+/// Adds what a region mark takes away of the region's rewritten table, where the appended entries begin at this index, if there are
+/// some.
+///
+/// # Errors
+///
+/// `Memory`.
+pub(crate) fn tell_mark(
+    mark: &Mark,
+    first: Option<u64>,
+    table: &MemTable,
+    taken: &mut TakenAway,
+) -> Result<()>
+    requires { AreOpen taken.old }
+    ensures ok { OnOk result (taken.new ≡ with_mark_told mark.now first table.now taken.old) }
+    ensures memory { IfErr result (λ e. e ≡ Error.Memory) }
+{
+    match dropped_before(mark, first, table) {
+        Some(index) => tell_front(mark, index, table, taken),
+        None => tell_steps(mark, table, &mut taken.later),
+    }
+}
+
+/// Adds what is told at once of a region whose rewritten entries, those that stay under its mark, are dropped in front of appended
+/// ones that begin at this index.
+///
+/// # Errors
+///
+/// `Memory`.
+fn tell_front(mark: &Mark, index: u64, table: &MemTable, taken: &mut TakenAway) -> Result<()>
+    requires dropped { is_front_dropped mark.now (Some index) table.now ≡ true }
+    requires open { AreOpen taken.old }
+    ensures ok { OnOk result (taken.new ≡ with_mark_told mark.now (Some index) table.now taken.old) }
+    ensures memory { IfErr result (λ e. e ≡ Error.Memory) }
+{
+    tell_steps(mark, table, &mut taken.at_once)?;
+    let compacts = begins_below(table, index);
+    tell_if(
+        compacts,
+        table.region_id(),
+        Command::Compact { index },
+        &mut taken.at_once,
+    )
+}
+
+/// Returns the index at which the appended entries begin, if the rewritten ones that stay under a region mark are dropped in front of
+/// them.
+fn dropped_before(mark: &Mark, first: Option<u64>, table: &MemTable) -> Option<u64>
+    ensures { MatchOption result (is_front_dropped mark.now first table.now ≡ false)
+        (λ index. (first ≡ Some index) × (is_front_dropped mark.now (Some index) table.now ≡ true)) }
+{
+    let index = first?;
+    if drops_front(mark, index, table) {
+        return Some(index);
+    }
+    None
+}
+
+/// Tests whether the rewritten entries that stay under a region mark are dropped, since they lie in front of appended ones that begin
+/// at this index, and these don't join them.
+fn drops_front(mark: &Mark, first: u64, table: &MemTable) -> bool
+    ensures { result ≡ is_front_dropped mark.now (Some first) table.now }
+{
+    if mark.is_cleaned() {
+        return false;
+    }
+    match mark.cut() {
+        Some(cut) => (first != cut || table.end() < cut) && has_between(table, mark.floor(), cut),
+        None => false,
+    }
+}
+
+/// Tests whether a table has an entry from an index on and below another one.
+fn has_between(table: &MemTable, from: u64, below: u64) -> bool
+    ensures { result ≡ list_any (λ (e : EntryIndex). nat_le from e.index && nat_lt e.index below) table.now.entries }
+{
+    table.holds_one_run();
+    match table.first_index() {
+        Some(first) => first.max(from) < table.end().min(below),
+        None => false,
     }
 }
 
@@ -62,7 +174,7 @@ impl MarkedTables {
 /// # Errors
 ///
 /// `Memory`.
-pub(crate) fn tell_mark(mark: &Mark, table: &MemTable, told: &mut LogBatch) -> Result<()>
+fn tell_steps(mark: &Mark, table: &MemTable, told: &mut LogBatch) -> Result<()>
     requires { told.old.stage ≡ is_open }
     ensures ok { OnOk result (told.new ≡ record told.old {
       items = told.old.items ++ items_of_steps table.now.region_id (told_by_mark mark.now table.now);

@@ -76,3 +76,7 @@ pub mod ToldTables
 pub mod BackLemmas
 pub mod RowJoins
 pub mod OwnFronts
+pub mod StepEntries
+pub mod ToldNow
+pub mod ToldRegions
+pub mod ToldContexts

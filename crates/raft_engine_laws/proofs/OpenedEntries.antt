@@ -97,13 +97,13 @@ module _ (id : ℕ) (kept : List Step) (own : Option Table) (rewritten : List En
   abbrev own_entries : List EntryIndex
   own_entries = (table_of id own).entries
 
-  told_is : (i : ℕ) → unspoken (kept ++ Compact i ∷ []) rewritten ≡ from i (unspoken kept rewritten)
+  pub told_is : (i : ℕ) → unspoken (kept ++ Compact i ∷ []) rewritten ≡ from i (unspoken kept rewritten)
   told_is i = sym (unspoken-steps kept (Compact i ∷ []) rewritten) ∙ unspoken-compact i (unspoken kept rewritten)
 
   from_nil : (i : ℕ) → from i [] ≡ []
   from_nil i = all_from i [] tt
 
-  from_first : (l : List EntryIndex) → unspoken kept rewritten ≡ l → from (start_of (l ++ own_entries)) l ≡ l
+  pub from_first : (l : List EntryIndex) → unspoken kept rewritten ≡ l → from (start_of (l ++ own_entries)) l ≡ l
   from_first [] e = from_nil (start_of own_entries)
   from_first (x ∷ xs) e = all_from x.index (x ∷ xs) (left_above kept (start_of rewritten) rewritten x xs (rises rewritten run) e)
 

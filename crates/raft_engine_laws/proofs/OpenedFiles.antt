@@ -81,16 +81,22 @@ module _ (content : EntryIndex → List ℕ) (append rewrite : List Event) (foun
       untold (record { joins = ap (λ l. unspoken (kept r ++ Compact (start_of l) ∷ []) (table_of r (finite.get both.rewritten r)).entries) (sym same) ∙ later.joins; entries = later.entries; covers = later.covers; pairs = later.pairs; pair_covers = later.pair_covers }))
 
   -- where all may be told later
-  pub opened_later : Apart rewrite → (untold : List RegionStep) → ((r : ℕ) → MayBeToldLater (kept r) (steps_on r untold) (table_of r (finite.get both.rewritten r)) (table_of r (finite.get found r)))
-      → AreKept content append rewrite untold found
-  opened_later apart untold later = record {
+  pub opened_later : Apart rewrite → (untold : List RegionStep)
+      → ((r : ℕ) → IsToldNowOrLater (kept r) [] (steps_on r untold) (table_of r (finite.get both.rewritten r)) (table_of r (finite.get found r))) → AreKept content append rewrite untold found
+  opened_later apart untold each = record {
     append_sound = sound_append;
     rewrite_sound = sound_rewrite;
     apart = apart;
     rewritten = both.rewritten;
     read = both.rewrite_read;
-    each = λ r. region_later r (steps_on r untold) (later r);
+    each = λ r. go r (each r);
   }
+    where
+      go : (r : ℕ) → IsToldNowOrLater (kept r) [] (steps_on r untold) (table_of r (finite.get both.rewritten r)) (table_of r (finite.get found r))
+          → IsRegionKept content r (kept r) (steps_on r untold) (table_of r (finite.get both.rewritten r)) (table_of r (finite.get found r))
+      go r (inl now) = subst (λ l. IsRegionKept content r (kept r) l (table_of r (finite.get both.rewritten r)) (table_of r (finite.get found r)))
+          (sym now.none) (region r [] (finite.get both.rewritten r) tt now.says refl)
+      go r (inr then) = region_later r (steps_on r untold) then.1
 
   -- where there is nothing to tell
   pub opened_untold : Apart rewrite → ((r : ℕ) → SayEnoughAtOpening (kept r) [] (table_of r (finite.get both.rewritten r)) (table_of r (finite.get found r))) → AreKept content append rewrite [] found

@@ -20,7 +20,7 @@ use Rattle.raft_history.specs.RegionSteps.{RegionStep, Tables, steps_on, steps_o
 use Rattle.raft_history.proofs.SoundLemmas.{steps_good}
 use Rattle.raft_engine_laws.specs.Groups.{HasNoMarker}
 use Rattle.raft_engine_laws.specs.KeptTables.{AreKept}
-use Rattle.raft_engine_laws.specs.MarksTold.{MayBeToldLater, IsToldNowOrLater}
+use Rattle.raft_engine_laws.specs.MarksTold.{IsToldNowOrLater}
 use Rattle.raft_engine_laws.specs.NextBatches.{IsRewrittenNext}
 use Rattle.raft_engine_laws.specs.Records.{Records, entries_told, after_changes, live, HasRecords, HaveRecords}
 use Rattle.raft_engine_laws.specs.Stops.{Deed, Write, Sync, Stop, written, deleted, MayStand, in_files_from, IsLeft, IsNextIn, LoseNothing, IsSafe}
@@ -144,7 +144,7 @@ module _ (append rewrite : List Event) (found : Tables) (cleaned : List ℕ) (so
     safe_at_once none = safe_by [] (Stop rewrite 0 ∷ []) rewrite (opened_untold content append rewrite found cleaned sound_append sound_rewrite both sound apart none) sound_rewrite.files refl refl (λ h x. x)
 
     -- where all may be told later
-    pub safe_later : (untold : List RegionStep) → ((r : ℕ) → MayBeToldLater (kept r) (steps_on r untold) (table_of r (finite.get both.rewritten r)) (table_of r (finite.get found r)))
+    pub safe_later : (untold : List RegionStep) → ((r : ℕ) → IsToldNowOrLater (kept r) [] (steps_on r untold) (table_of r (finite.get both.rewritten r)) (table_of r (finite.get found r)))
         → IsSafe content (base content) (Stop append 0 ∷ []) (Stop rewrite 0 ∷ []) untold found
     safe_later untold later = safe_by untold (Stop rewrite 0 ∷ []) rewrite (opened_later content append rewrite found cleaned sound_append sound_rewrite both sound apart untold later) sound_rewrite.files refl refl (λ h x. x)
 

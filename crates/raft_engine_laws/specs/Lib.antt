@@ -24,3 +24,4 @@ pub mod Stops
 -- what region marks tell
 pub mod MarksTold
 pub mod RowSummaries
+pub mod TakenTold

@@ -5,7 +5,8 @@ use Rattle.raft_table.specs.Marks.{Mark}
 use Rattle.raft_table.specs.Steps.{Step, Compact}
 use Rattle.raft_table.specs.Table.{Table}
 use Rattle.raft_table.specs.TableEntries.{start_of}
-use Rattle.raft_contexts.specs.TakenAway.{takes_of, told_by_mark}
+use Rattle.raft_table.specs.Overlay.{IsExactMark}
+use Rattle.raft_contexts.specs.TakenAway.{first_of, steps_at_once, steps_later, takes_of, told_by_mark}
 use Rattle.raft_engine_laws.specs.Speaking.{unspoken, AreCovered, is_key_dropped, pair_left}
 use Rattle.raft_engine_laws.specs.Telling.{AreRemovals, SayEnoughAtOpening}
 
@@ -34,3 +35,10 @@ pub record IsToldNow (kept told untold : List Step) (rewritten found : Table) : 
 -- a region is told all now, or nothing now and all later
 abbrev pub IsToldNowOrLater : List Step → List Step → List Step → Table → Table → Type 0
 IsToldNowOrLater kept told untold rewritten found = IsToldNow kept told untold rewritten found ⊎ ((told ≡ []) × MayBeToldLater kept untold rewritten found)
+
+-- what is told of a region, at once and later, is what a region mark says that tells what the append files' steps take away: of the rewritten table, over which the appended one is put
+pub record IsToldByMark (kept told untold : List Step) (appended rewritten : Table) : Type 0 where
+  pub mark : Mark
+  pub exact : IsExactMark mark kept
+  pub at_once : told ≡ steps_at_once mark (first_of appended.entries) rewritten
+  pub later : untold ≡ steps_later mark (first_of appended.entries) rewritten

@@ -24,10 +24,11 @@ ghost use Rattle.raft_contexts.specs.TakenAway.{told_by_mark};
 ghost use Rattle.raft_engine_laws.specs.MarksTold.{Joins, MayBeToldLater, told_at_once};
 ghost use Rattle.raft_engine_laws.specs.GroupsInRows.{AreGroupsInRows};
 ghost use Rattle.raft_engine_laws.specs.RowSummaries.{Summary, FirstMayStand, IsSummaryOf, AreJoined};
+ghost use Rattle.raft_engine_laws.specs.TakenTold.{AreFoundTables, DoesTakenTakeAway, IsTakenToldByMarks, IsTakenToldNowOrLater};
 ghost use Rattle.raft_engine_laws.specs.Telling.{AreRemovals, SayEnoughAtOpening};
 
 /// States that once the rewrite queue was told what an opening tells, the next opening of the same append files has nothing to tell.
-pub fn a_second_opening_tells_nothing()
+pub fn a_second_opening_needs_to_tell_nothing()
     ensures { (append rewrite : List Event) (found : Tables) (cleaned : List ℕ) (e : Event)
         → IsSoundIn Append append → IsSoundIn Rewrite rewrite
         → (both : IsReadingOfBoth rewrite append found cleaned)
@@ -78,4 +79,14 @@ pub fn own_files_may_be_told_later()
         → AreKept content append rewrite untold tables
         → (both : IsReadingOfBoth rewrite append found cleaned) → (r : ℕ)
         → Joins (steps_of r (batches append)) (table_of r (finite.get both.rewritten r)) (table_of r (finite.get found r)) }
+{}
+
+/// States that what a context of the append queue takes away of the tables of one of the rewrite queue is told of each region as its
+/// mark says, and is told at once or may be told later; that it only takes away; and that the entries that both give are those of
+/// tables.
+pub fn taken_away_is_told()
+    ensures tells { IsTakenToldByMarks }
+    ensures says { IsTakenToldNowOrLater }
+    ensures away { DoesTakenTakeAway }
+    ensures entries { AreFoundTables }
 {}

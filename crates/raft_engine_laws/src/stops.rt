@@ -15,7 +15,7 @@ ghost use Rattle.raft_history.specs.RegionSteps.{RegionStep, Tables, steps_on, s
 ghost use Rattle.raft_accessor.specs.Writes.{Appending, Rewriting, after_items};
 ghost use Rattle.raft_engine_laws.specs.DeletedFiles.{AreLeastFrom};
 ghost use Rattle.raft_engine_laws.specs.Groups.{EndNoOlderGroup, HasNoMarker, LeavesOpen, IsWholeGroup};
-ghost use Rattle.raft_engine_laws.specs.MarksTold.{MayBeToldLater, IsToldNowOrLater};
+ghost use Rattle.raft_engine_laws.specs.MarksTold.{IsToldNowOrLater};
 ghost use Rattle.raft_engine_laws.specs.Moving.{AreRecordsMoved, IsMovingBatch, MoveAgain};
 ghost use Rattle.raft_engine_laws.specs.Records.{Records, no_base, live, HaveRecords};
 ghost use Rattle.raft_engine_laws.specs.Stops.{Deed, Write, Sync, Delete, Stop, written, synced, MayStand, MayBeGone, in_files_from, AreInFileOf, FilesEndNoOlderGroup, IsSynced, IsLeft, IsNextIn, LoseNothing, IsSafe};
@@ -177,11 +177,10 @@ pub fn restarting_is_safe()
 {}
 
 /// States that an engine may be opened over any sound files, whoever wrote these, with the tables that it finds, once the
-/// rewrite queue is told what the append files take away and, as a compaction, what lies in front of the entries that
-/// were found, and is synced; at once where there is nothing to tell. The records that there were before are then those
-/// found ones that no batch of the append files makes. No stop until then loses anything. It is enough to tell what takes
-/// something away of the rewritten tables, and that may be told later, of all regions or of some, where the append files
-/// leave no rewritten entry in front of those that were found.
+/// rewrite queue is told what the append files take away of the rewritten tables and, as a compaction, what lies in front of
+/// the entries that were found, and is synced; at once where there is nothing to tell. That may be told later, of all regions
+/// or of some, where the append files leave no rewritten entry in front of those that were found. The records that there were
+/// before are then those found ones that no batch of the append files makes. No stop until then loses anything.
 pub fn opening_is_safe()
     ensures told { (append rewrite : List Event) (found : Tables) (cleaned : List ℕ) (e : Event)
         → IsSoundIn Append append → IsSoundIn Rewrite rewrite → Apart rewrite
@@ -232,7 +231,7 @@ pub fn opening_is_safe()
         → (both : IsReadingOfBoth rewrite append found cleaned)
         → ((r : ℕ) → AreTableEntries (table_of r (finite.get found r)).entries)
         → (untold : List RegionStep)
-        → ((r : ℕ) → MayBeToldLater (steps_of r (batches append)) (steps_on r untold) (table_of r (finite.get both.rewritten r)) (table_of r (finite.get found r)))
+        → ((r : ℕ) → IsToldNowOrLater (steps_of r (batches append)) [] (steps_on r untold) (table_of r (finite.get both.rewritten r)) (table_of r (finite.get found r)))
         → (base : (EntryIndex → List ℕ) → ℕ → Records)
         × ((content : EntryIndex → List ℕ)
         → IsSafe content (base content) (Stop append 0 ∷ []) (Stop rewrite 0 ∷ []) untold found) }
@@ -247,5 +246,7 @@ pub fn opening_is_safe()
         × ((content : EntryIndex → List ℕ)
         → IsSafe content (base content) (Stop append 0 ∷ []) (Sync ∷ Write e ∷ Stop rewrite 0 ∷ []) untold found)
         × ((content : EntryIndex → List ℕ)
-        → LoseNothing content (base content) (Stop append 0 ∷ []) (Write e ∷ Stop rewrite 0 ∷ [])) }
+        → LoseNothing content (base content) (Stop append 0 ∷ []) (Write e ∷ Stop rewrite 0 ∷ []))
+        × ((content : EntryIndex → List ℕ)
+        → LoseNothing content (base content) (Stop append 0 ∷ []) (Stop rewrite 0 ∷ [])) }
 {}

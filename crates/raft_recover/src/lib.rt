@@ -38,6 +38,8 @@ pub use raft_shared::{SharedAccessor, Slot, shared_accessor, slot};
 pub use raft_table::{GlobalStats, MemTable, TableChange};
 pub use raft_tickets::{TicketSeat, Tickets, ticket_seat, tickets};
 pub use recovered::print_recovered;
+#[doc(hidden)]
+pub use recovery::replay_both;
 pub use recovery::{recover, recover_both, recover_bytes, recover_segments};
 pub use scan::append_scan;
 pub use scan_program::{run_scan, scan_without_words};

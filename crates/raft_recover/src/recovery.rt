@@ -100,11 +100,40 @@ pub fn recover_both<R: Threads + Sync>(
         → IfOk result (λ accessor. HaveSameRecords accessor.tables tables
         × (accessor.cleaned ≡ cleaned)) }
 {
-    check_arguments(alloc, rewrite, LogQueue::Rewrite, workers)?;
-    check_arguments(alloc, append, LogQueue::Append, workers)?;
-    let (mut both, appended) = both_replayed(rt, alloc, rewrite, append, workers)?;
+    let (mut both, appended) = replay_both(rt, alloc, rewrite, append, workers)?;
     both.merge_append_context(appended)?;
     both.finish()
+}
+
+/// Reads both queues as [`recover_both`] does, and returns the context that has read the rewrite queue, and the one that has read
+/// the append queue, which aren't put over each other yet.
+///
+/// # Errors
+///
+/// Those of [`recover_both`], but for `Full`.
+#[doc(hidden)]
+pub fn replay_both<R: Threads + Sync>(
+    rt: &R,
+    alloc: Global,
+    rewrite: &[Segment],
+    append: &[Segment],
+    workers: usize,
+) -> Result<(MemTableRecoverContext, MemTableRecoverContext)>
+    ensures rewritten { IfOk result
+        (λ both. IsReplayed HasRead HasReadExactly rewrite.entry.now both.0) }
+    ensures appended { IfOk result
+        (λ both. IsReplayed HasRead HasReadExactly append.entry.now both.1) }
+    ensures accepted { OnOk result (MayReplayBoth workers rewrite.entry.now append.entry.now) }
+    ensures place { MayReplayBoth workers rewrite.entry.now append.entry.now
+        → IfErr result (λ e. e ≢ Error.Memory
+        → StopsAmong IsNothing Sound (parts_within rewrite.entry.now) e
+        ⊎ StopsAmong IsNothing Sound (parts_within append.entry.now) e) }
+    ensures fault { ¬ (MayReplayBoth workers rewrite.entry.now append.entry.now)
+        → IfErr result (λ e. e ≢ Error.Memory → IsInvalidArgument e) }
+{
+    check_arguments(alloc, rewrite, LogQueue::Rewrite, workers)?;
+    check_arguments(alloc, append, LogQueue::Append, workers)?;
+    both_replayed(rt, alloc, rewrite, append, workers)
 }
 
 /// Reads both queues at once, by two workers or more.

@@ -2,13 +2,11 @@
 
 ghost use Rattle.std.specs.Prelude.{◌≡◌, ◌++◌, IfErr, IfOk, IfSome, OnOk, OnErr, MatchBool, Ok, Some};
 ghost use Rattle.raft_contexts.specs.Common.{LogQueue, fresh, joined_at, MayChangeMark, ChangesMark, IsOneUpdated};
-ghost use Rattle.raft_records.specs.LogBatch.{is_open};
-ghost use Rattle.raft_contexts.specs.TakenAway.{items_of_steps, told_by_mark};
+ghost use Rattle.raft_contexts.specs.TakenBatches.{AreOpen, with_mark_told};
 ghost use Rattle.std.specs.FinSet as finset;
 
-use crate::taken_away::tell_mark;
+use crate::taken_away::{TakenAway, tell_mark};
 use raft_base::{AllocResult, Error, LogQueue, Result};
-use raft_records::LogBatch;
 use raft_table::{Mark, MemTable};
 use std::alloc::Global;
 use std::marker::Model;
@@ -74,21 +72,25 @@ impl SmallMark {
         }
     }
 
-    /// Adds what the region mark takes away of the region's rewritten table to a batch.
+    /// Adds what the region mark takes away of the region's rewritten table, where the appended entries begin at this index, if
+    /// there are some.
     ///
     /// # Errors
     ///
     /// `Memory`.
-    pub(crate) fn tell(&self, table: &MemTable, told: &mut LogBatch) -> Result<()>
-        requires { told.old.stage ≡ is_open }
-        ensures ok { OnOk result (told.new ≡ record told.old {
-          items = told.old.items ++ items_of_steps table.now.region_id (told_by_mark self.now table.now);
-        }) }
+    pub(crate) fn tell(
+        &self,
+        first: Option<u64>,
+        table: &MemTable,
+        taken: &mut TakenAway,
+    ) -> Result<()>
+        requires { AreOpen taken.old }
+        ensures ok { OnOk result (taken.new ≡ with_mark_told self.now first table.now taken.old) }
         ensures memory { IfErr result (λ e. e ≡ Error.Memory) }
     {
         match &self.form {
-            Form::Run(start) => tell_mark(&Mark::of_run(self.alloc, *start), table, told),
-            Form::Whole(mark) => tell_mark(mark, table, told),
+            Form::Run(start) => tell_mark(&Mark::of_run(self.alloc, *start), first, table, taken),
+            Form::Whole(mark) => tell_mark(mark, first, table, taken),
         }
     }
 

@@ -46,4 +46,5 @@ returns-clause-mixed c = λ append rewrite found cleaned e sound_append sound_re
   base append rewrite found cleaned sound_append sound_rewrite apart both sound,
   λ content. safe_mixed append rewrite found cleaned sound_append sound_rewrite apart both sound content e next plain untold each,
   λ content. while_mixed append rewrite found cleaned sound_append sound_rewrite apart both sound content e next plain untold each,
+  λ content. at_first append rewrite found cleaned sound_append sound_rewrite apart both sound content,
 )

@@ -4,5 +4,7 @@ use Rattle.raft_contexts.proofs.marked_tables.MarkedTables.tell_table.Goals as g
 
 pub returns-in-Some-clause-ok : goal.returns-in-Some-clause-ok
 returns-in-Some-clause-ok c =
-    on_ok_weaker c.tell.result (under_mark c.args.self.now c.args.table.now c.region_id.result c.in-Some.mark.now c.args.told.now c.tell.new.told c.region_id.ensures
-    (kept_mark c.args.self.now c.region_id.result c.in-Some.mark.now c.in-Some.ensures)) c.tell.ensures.ok
+    on_ok_weaker c.tell.result
+    (under_mark c.args.self.now c.args.table.now c.region_id-region.result c.in-Some.mark.now c.first_appended.result c.args.taken.now c.tell.new.taken c.region_id-region.ensures
+    (kept_mark c.args.self.now c.region_id-region.result c.in-Some.mark.now c.in-Some.ensures) c.first_appended.ensures)
+    c.tell.ensures.ok

@@ -7,15 +7,17 @@ use Rattle.raft_contexts.proofs.marked_tables.MarkedTables.tell_unmarked.Goals a
 pub returns-in-Some-clause-ok : goal.returns-in-Some-clause-ok
 returns-in-Some-clause-ok c =
     on_ok_weaker c.tell_mark-in-Some.result
-    (under_mark c.args.self.now c.args.table.now c.region_id.result c.implied_by.result c.args.told.now c.tell_mark-in-Some.new.told c.region_id.ensures
-    (mark_of_table c.args.self.now c.region_id.result (Some c.in-Some.own.now) (ap (finite.get c.args.self.now.marks) c.region_id.ensures ∙ c.requires.none_kept) c.in-Some.ensures.value
-    ∙ sym c.implied_by.ensures))
+    (under_mark c.args.self.now c.args.table.now c.region_id-region.result c.implied_by.result c.first_appended-first.result c.args.taken.now c.tell_mark-in-Some.new.taken c.region_id-region.ensures
+    (mark_of_table c.args.self.now c.region_id-region.result (Some c.in-Some.own.now) (ap (finite.get c.args.self.now.marks) c.region_id-region.ensures ∙ c.requires.none_kept) c.in-Some.ensures.value
+    ∙ sym c.implied_by.ensures)
+    c.first_appended-first.ensures)
     c.tell_mark-in-Some.ensures.ok
 
 pub returns-in-None-clause-ok : goal.returns-in-None-clause-ok
 returns-in-None-clause-ok c =
     on_ok_weaker c.tell_mark-in-None-2.result
-    (under_mark c.args.self.now c.args.table.now c.region_id.result c.of_no_step.result c.args.told.now c.tell_mark-in-None-2.new.told c.region_id.ensures
-    (mark_of_table c.args.self.now c.region_id.result None (ap (finite.get c.args.self.now.marks) c.region_id.ensures ∙ c.requires.none_kept) c.in-None.ensures.value
-    ∙ sym c.of_no_step.ensures))
+    (under_mark c.args.self.now c.args.table.now c.region_id-region.result c.of_no_step.result c.first_appended-first.result c.args.taken.now c.tell_mark-in-None-2.new.taken c.region_id-region.ensures
+    (mark_of_table c.args.self.now c.region_id-region.result None (ap (finite.get c.args.self.now.marks) c.region_id-region.ensures ∙ c.requires.none_kept) c.in-None.ensures.value
+    ∙ sym c.of_no_step.ensures)
+    c.first_appended-first.ensures)
     c.tell_mark-in-None-2.ensures.ok

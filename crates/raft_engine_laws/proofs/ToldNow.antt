@@ -1,0 +1,156 @@
+-- What a region mark tells at once or later of a region that is found.
+use Rattle.std.proofs.Common.{◌≡◌, ℕ, Bool, true, false, cond, ◌||◌, List, [], ◌∷◌, ◌++◌, Option, Some, None, inl, inr, refl, sym, ap, subst, ◌∙◌}
+use Rattle.std.specs.Prelude.{filter, ◌&&◌}
+use Rattle.std.specs.List.{list_any}
+use Rattle.std.proofs.lemmas.Bool.{false≢true}
+use Rattle.raft_base.specs.declared.entry_index.EntryIndex.{EntryIndex}
+use Rattle.raft_base.specs.declared.pipe_log.LogQueue.TheVariants.{Append}
+use Rattle.raft_base.specs.Runs.{IsRun, end_of}
+use Rattle.raft_table.specs.Marks.{Mark, entries_within}
+use Rattle.raft_table.specs.Overlay.{IsExactMark, greatest_compaction, has_clean, is_unjoined, least_cut, overlay, rewritten_within}
+use Rattle.raft_table.specs.Steps.{Step, Compact, AreSteps, after, table_of}
+use Rattle.raft_table.specs.Table.{Table}
+use Rattle.raft_table.specs.TableEntries.{start_of}
+use Rattle.raft_contexts.specs.TakenAway.{first_of, front_told, is_apart_at, is_front_dropped, stays_under, steps_at_once, steps_later, takes_of, told_by_mark}
+use Rattle.raft_engine_laws.specs.MarksTold.{IsToldNowOrLater, Joins, told_at_once}
+use Rattle.raft_engine_laws.specs.Speaking.{unspoken}
+use Rattle.raft_engine_laws.specs.Telling.{AreRemovals, SayEnoughAtOpening}
+use Rattle.raft_engine_laws.proofs.OpenedEntries.{all_from, from_first, told_is}
+use Rattle.raft_engine_laws.proofs.SpokenWords.{unspoken_cleaned, unspoken_within}
+use Rattle.raft_engine_laws.proofs.TakenTables.{fewer_removals}
+use Rattle.raft_engine_laws.proofs.ToldTables.{told_later, told_now, told_removals}
+use Rattle.raft_engine_laws.proofs.UnspokenLemmas.{unspoken-steps, unspoken-nil}
+
+none_within : (m : Mark) (es : List EntryIndex) → list_any (stays_under m) es ≡ false → entries_within m.floor m.cut es ≡ []
+unfolding entries_within
+none_within m [] h = refl
+none_within m (e ∷ es) h = go (stays_under m e) h (none_within m es)
+  where
+    go : (b : Bool) → (b || list_any (stays_under m) es) ≡ false → (list_any (stays_under m) es ≡ false → entries_within m.floor m.cut es ≡ [])
+        → cond b (e ∷ entries_within m.floor m.cut es) (entries_within m.floor m.cut es) ≡ []
+    go true h rest = absurd (false≢true (sym h))
+    go false h rest = rest h
+
+and_both : (a b : Bool) → (a && b) ≡ true → (a ≡ true)
+and_both true b h = refl
+and_both false b h = absurd (false≢true h)
+
+and_rest : (a b : Bool) → a ≡ true → (a && b) ≡ false → b ≡ false
+and_rest true b e h = h
+and_rest false b e h = absurd (false≢true e)
+
+-- an appended table over a rewritten one, under a mark that tells these steps
+module _ (id : ℕ) (kept : List Step) (own : Option Table) (old found : Table) (m : Mark) (exact : IsExactMark m kept) (good : AreSteps kept) (is : after Append id None kept ≡ Some own) (run : IsRun old.entries)
+    (same : found.entries ≡ (overlay kept (table_of id own) old).entries) where
+  abbrev own_entries : List EntryIndex
+  own_entries = (table_of id own).entries
+
+  abbrev left : List EntryIndex
+  left = unspoken kept old.entries
+
+  -- what is dropped is what the mark says, where there is no Clean
+  dropped_is : m.cleaned ≡ false → (rest : List EntryIndex) (e : EntryIndex) → own_entries ≡ e ∷ rest
+      → is_front_dropped m (first_of own_entries) old ≡ (is_unjoined (least_cut kept) (end_of old.entries) own_entries && list_any (stays_under m) old.entries)
+  dropped_is clean rest e there =
+      ap (λ (l : List EntryIndex). is_front_dropped m (first_of l) old) there
+      ∙ ap (λ (b : Bool). cond b false (is_apart_at m.cut e.index (end_of old.entries) && list_any (stays_under m) old.entries)) clean
+      ∙ ap (λ (c : Option ℕ). is_apart_at c e.index (end_of old.entries) && list_any (stays_under m) old.entries) (exact.least clean)
+      ∙ ap (λ (b : Bool). b && list_any (stays_under m) old.entries) (at (least_cut kept))
+      ∙ ap (λ (l : List EntryIndex). is_unjoined (least_cut kept) (end_of old.entries) l && list_any (stays_under m) old.entries) (sym there)
+    where
+      at : (c : Option ℕ) → is_apart_at c e.index (end_of old.entries) ≡ is_unjoined c (end_of old.entries) (e ∷ rest)
+      at None = refl
+      at (Some cut) = refl
+
+  clean_is : has_clean kept ≡ false → m.cleaned ≡ false
+  clean_is none = exact.holds.cleaned ∙ none
+
+  within : has_clean kept ≡ false → entries_within m.floor m.cut old.entries ≡ left
+  within none =
+      ap (λ (n : ℕ). entries_within n m.cut old.entries) (exact.greatest (clean_is none)) ∙ ap (λ (c : Option ℕ). entries_within (greatest_compaction kept) c old.entries) (exact.least (clean_is none))
+      ∙ sym (unspoken_within kept old.entries none)
+
+  abbrev JoinsAt : List EntryIndex → Type 0
+  JoinsAt es = unspoken (kept ++ Compact (start_of es) ∷ []) old.entries ≡ left
+
+  joins_cleaned : has_clean kept ≡ true → (es : List EntryIndex) → JoinsAt es
+  joins_cleaned c es =
+      sym (unspoken-steps kept (Compact (start_of es) ∷ []) old.entries) ∙ ap (unspoken (Compact (start_of es) ∷ [])) (unspoken_cleaned kept old.entries c)
+      ∙ unspoken-nil (Compact (start_of es) ∷ []) ∙ sym (unspoken_cleaned kept old.entries c)
+
+  -- where nothing is left
+  joins_nothing : left ≡ [] → (es : List EntryIndex) → JoinsAt es
+  joins_nothing none es =
+      sym (unspoken-steps kept (Compact (start_of es) ∷ []) old.entries) ∙ ap (unspoken (Compact (start_of es) ∷ [])) none ∙ unspoken-nil (Compact (start_of es) ∷ []) ∙ sym none
+
+  joins_joined : JoinsAt (left ++ own_entries)
+  joins_joined = told_is id kept own old.entries good is run (start_of (left ++ own_entries)) ∙ from_first id kept own old.entries good is run left refl
+
+  module _ (kept_front : is_front_dropped m (first_of own_entries) old ≡ false) where
+    by_join : has_clean kept ≡ false → (b : Bool) → is_unjoined (least_cut kept) (end_of old.entries) own_entries ≡ b
+        → JoinsAt (cond b [] (entries_within (greatest_compaction kept) (least_cut kept) old.entries) ++ own_entries)
+    by_join none false u = subst (λ (l : List EntryIndex). JoinsAt (l ++ own_entries)) (unspoken_within kept old.entries none) joins_joined
+    by_join none true u = joins_nothing (go own_entries refl u) own_entries
+      where
+        unjoined : (c : Option ℕ) → is_unjoined c (end_of old.entries) [] ≡ true → ⊥
+        unjoined None e = false≢true e
+        unjoined (Some cut) e = false≢true e
+
+        go : (o : List EntryIndex) → own_entries ≡ o → is_unjoined (least_cut kept) (end_of old.entries) o ≡ true → left ≡ []
+        go [] there u = absurd (unjoined (least_cut kept) u)
+        go (e ∷ rest) there u =
+            sym (within none)
+            ∙ none_within m old.entries (and_rest (is_unjoined (least_cut kept) (end_of old.entries) own_entries) (list_any (stays_under m) old.entries)
+            (ap (is_unjoined (least_cut kept) (end_of old.entries)) there ∙ u) (sym (dropped_is (clean_is none) rest e there) ∙ kept_front))
+
+    joins : Joins kept old found
+    joins = subst JoinsAt (sym same) (go (has_clean kept) refl)
+      where
+        go : (b : Bool) → has_clean kept ≡ b → JoinsAt (cond b own_entries (rewritten_within (greatest_compaction kept) (least_cut kept) own_entries old.entries ++ own_entries))
+        go true c = joins_cleaned c own_entries
+        go false c = by_join c (is_unjoined (least_cut kept) (end_of old.entries) own_entries) refl
+
+  -- where the front is dropped, what is found are the appended entries
+  module _ (dropped : is_front_dropped m (first_of own_entries) old ≡ true) where
+    not_cleaned : m.cleaned ≡ false
+    not_cleaned = go (first_of own_entries) m.cleaned refl dropped
+      where
+        go : (f : Option ℕ) (b : Bool) → m.cleaned ≡ b → is_front_dropped m f old ≡ true → m.cleaned ≡ false
+        go None b e h = absurd (false≢true h)
+        go (Some first) true e h = absurd (false≢true (sym (ap (λ (b : Bool). cond b false (is_apart_at m.cut first (end_of old.entries) && list_any (stays_under m) old.entries)) e) ∙ h))
+        go (Some first) false e h = e
+
+    found_is : found.entries ≡ own_entries
+    found_is =
+        same ∙ ap (λ (b : Bool). cond b own_entries (rewritten_within (greatest_compaction kept) (least_cut kept) own_entries old.entries ++ own_entries)) (sym exact.holds.cleaned ∙ not_cleaned)
+        ∙ ap (λ (b : Bool). cond b [] (entries_within (greatest_compaction kept) (least_cut kept) old.entries) ++ own_entries) (go own_entries refl dropped)
+      where
+        go : (o : List EntryIndex) → own_entries ≡ o → is_front_dropped m (first_of o) old ≡ true → is_unjoined (least_cut kept) (end_of old.entries) own_entries ≡ true
+        go [] there h = absurd (false≢true h)
+        go (e ∷ rest) there h = and_both (is_unjoined (least_cut kept) (end_of old.entries) own_entries) (list_any (stays_under m) old.entries) (sym (dropped_is not_cleaned rest e there) ∙ dropped)
+
+    front_is : front_told (first_of own_entries) old ≡ filter (takes_of old) (Compact (start_of found.entries) ∷ [])
+    front_is = go own_entries refl dropped ∙ ap (λ (l : List EntryIndex). filter (takes_of old) (Compact (start_of l) ∷ [])) (sym found_is)
+      where
+        go : (o : List EntryIndex) → own_entries ≡ o → is_front_dropped m (first_of o) old ≡ true → front_told (first_of o) old ≡ filter (takes_of old) (Compact (start_of o) ∷ [])
+        go [] there h = absurd (false≢true h)
+        go (e ∷ rest) there h = refl
+
+    now_removals : AreRemovals (told_at_once m old found)
+    now_removals = more (told_by_mark m old) (filter (takes_of old) (Compact (start_of found.entries) ∷ [])) (told_removals m old) (fewer_removals (takes_of old) (Compact (start_of found.entries) ∷ []) (tt, tt))
+      where
+        more : (a b : List Step) → AreRemovals a → AreRemovals b → AreRemovals (a ++ b)
+        more [] b h k = k
+        more (s ∷ a) b h k = (h.0, more a b h.1 k)
+
+  pub now_or_later : IsToldNowOrLater kept (steps_at_once m (first_of own_entries) old) (steps_later m (first_of own_entries) old) old found
+  now_or_later = go (is_front_dropped m (first_of own_entries) old) refl
+    where
+      go : (b : Bool) → is_front_dropped m (first_of own_entries) old ≡ b
+          → IsToldNowOrLater kept (cond b (told_by_mark m old ++ front_told (first_of own_entries) old) []) (cond b [] (told_by_mark m old)) old found
+      go true e = inl (record {
+        removals = subst (λ (l : List Step). AreRemovals (told_by_mark m old ++ l)) (sym (front_is e)) (now_removals e);
+        says = subst (λ (l : List Step). SayEnoughAtOpening kept (told_by_mark m old ++ l) old found) (sym (front_is e)) (told_now m old kept exact found);
+        none = refl;
+      })
+      go false e = inr (refl, told_later m old kept exact found (joins e))

@@ -15,6 +15,7 @@ use Rattle.raft_records.specs.declared.command.Command.TheVariants as commands
 use Rattle.raft_records.specs.declared.key_value.OpType.{OpType}
 use Rattle.raft_records.specs.declared.key_value.OpType.TheVariants as operations
 use Rattle.raft_base.specs.Runs.{end_of}
+use Rattle.raft_records.specs.LogBatch.{Batch}
 use Rattle.raft_table.specs.KeyValues.{Keys}
 use Rattle.raft_table.specs.Marks.{entries_within}
 use Rattle.raft_table.specs.Overlay.{deleted_of, greatest_compaction, has_clean, is_unjoined, kept_if, least_cut, overlaid_table, overlay}
@@ -190,8 +191,8 @@ read_alone h tables cleaned sound both = record {
 
 -- ---- an engine that was opened
 
-pub opened_read_back : (version : Version) (append rewrite : List NumberedBytes) (asked : List Ask) (accessor : Accessor) → AreRead version append rewrite asked accessor → IsReadBackAlone version asked accessor
-opened_read_back version append rewrite asked accessor a none =
+pub opened_read_back : (version : Version) (append rewrite : List NumberedBytes) (asked : List Ask) (accessor : Accessor) (untold : Batch) → AreRead version append rewrite asked accessor untold → IsReadBackAlone version asked accessor
+opened_read_back version append rewrite asked accessor untold a none =
     let empty : a.rewritten ≡ [] = one_reading Rewrite version rewrite a.rewritten [] a.rewrite_held (none a.wanted _ rewrite a.asked) in
     let one = read_alone a.appended accessor.tables accessor.cleaned a.append_sound (subst (λ (h : List Event). IsReadingOfBoth h a.appended accessor.tables accessor.cleaned) empty a.reading) in
     record {

@@ -69,7 +69,7 @@ module _ (queue : LogQueue) (version : Version) where
               stops = u.ends s.0 s.1 split;
               is = split ∙ cut_whole s.0 s.1 ∙ ap (cut_last (length s.1.1)) (sym split);
             });
-            rising = consecutive_rise (numbers files) r.accepted.consecutive;
+            rising = consecutive_rise (numbers files) r.consecutive;
             held = subst (λ (l : List NumberedBytes). FilesHold queue version l h) u.same held;
           }
 
@@ -86,7 +86,7 @@ module _ (queue : LogQueue) (version : Version) where
       go (inr (inr c)) = record {
         cut = cut_last c.at files;
         are_cut = inr (record { closed = c.closed; last = c.last; at = c.at; split = c.split; stops = c.torn.0; is = refl });
-        rising = subst (AreRisingFrom 0) (sym (numbers_on_last (λ (old : List ℕ). take c.at old) files)) (consecutive_rise (numbers files) r.accepted.consecutive);
+        rising = subst (AreRisingFrom 0) (sym (numbers_on_last (λ (old : List ℕ). take c.at old) files)) (consecutive_rise (numbers files) r.consecutive);
         held = subst (λ (l : List NumberedBytes). FilesHold queue version l h) c.cut held;
       }
 

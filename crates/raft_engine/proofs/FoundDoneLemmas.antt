@@ -13,7 +13,7 @@ use Rattle.raft_recover.specs.Files.{FilesHold, whole_file}
 use Rattle.raft_engine_laws.specs.Stops.{Deed, Stop, deleted, in_files_from, IsSynced}
 use Rattle.raft_engine_fronts.specs.Done.{AreConsecutive, AreDone, AreDoneWhole, AreRisingFrom, Follows, numbers}
 use Rattle.raft_engine_fronts.specs.Fronts.{ArePut, ArePutWhole}
-use Rattle.raft_engine_fronts.specs.TornTails.{FilesHoldTorn, IsDamagedAt, StopsAt}
+use Rattle.raft_engine_fronts.specs.TornTails.{FilesHoldTorn, StopsAt}
 use Rattle.raft_engine_fronts.proofs.EventLemmas.{files_high}
 use Rattle.raft_engine_fronts.proofs.NumberLemmas.{consecutive_rise}
 use Rattle.raft_engine_fronts.proofs.TornLemmas.{one_file, whole_torn}
@@ -36,27 +36,26 @@ none_held queue version h held = go h (one_file queue version (1, []) h held)
 
 -- where the last file is cut, it held the same batches and a torn tail
 cut_torn : (queue : LogQueue) (version : Version) (closed : List NumberedBytes) (last : NumberedBytes) (at : ℕ) (h : List Event) →
-    at < length last.1 → IsUnreadableAt (whole_file queue version last) at → ¬ (IsDamagedAt (whole_file queue version last) at)
+    at < length last.1 → IsUnreadableAt (whole_file queue version last) at
     → FilesHold queue version (closed ++ (last.0, take at last.1) ∷ []) h → FilesHoldTorn queue version (closed ++ last ∷ []) h
-cut_torn queue version [] last at h less none alone held = record {
+cut_torn queue version [] last at h less none held = record {
   at = at;
   inside = omega (arith, less);
   held = one_file queue version (last.0, take at last.1) h held;
   torn = none;
-  undamaged = alone;
 }
-cut_torn queue version (c ∷ []) last at h less none alone held = record {
+cut_torn queue version (c ∷ []) last at h less none held = record {
   first = held.first;
   rest = held.rest;
   first_held = held.first_held;
-  rest_held = cut_torn queue version [] last at held.rest less none alone held.rest_held;
+  rest_held = cut_torn queue version [] last at held.rest less none held.rest_held;
   split = held.split;
 }
-cut_torn queue version (c ∷ d ∷ closed) last at h less none alone held = record {
+cut_torn queue version (c ∷ d ∷ closed) last at h less none held = record {
   first = held.first;
   rest = held.rest;
   first_held = held.first_held;
-  rest_held = cut_torn queue version (d ∷ closed) last at held.rest less none alone held.rest_held;
+  rest_held = cut_torn queue version (d ∷ closed) last at held.rest less none held.rest_held;
   split = held.split;
 }
 
@@ -163,7 +162,7 @@ module _
       → FilesHold queue version (cut_last at (closed ++ last ∷ [])) h → AreReadyDone queue version (closed ++ last ∷ []) (cut_last at (closed ++ last ∷ [])) (Cut at ∷ Found (closed ++ last ∷ []) ∷ []) h
   cut_ready queue version closed last at h consecutive no_other t held =
       let files = closed ++ last ∷ [] in
-      let torn : FilesHoldTorn queue version files h = cut_torn queue version closed last at h t.1 (unreadable queue version last at t) t.2
+      let torn : FilesHoldTorn queue version files h = cut_torn queue version closed last at h t.1 (unreadable queue version last at t)
       (subst (λ (l : List NumberedBytes). FilesHold queue version l h) (last_of (λ old. take at old) closed last) held) in
       let before = torn_done queue version files h consecutive no_other torn in record {
         torn = torn;
@@ -193,11 +192,11 @@ module _
       go (inr (inl u)) =
           subst (λ (l : List Act). AreReadyDone queue version files left l h) (sym (ap (acts_on queue) u.asked ∙ acts))
           (subst (λ (f : List NumberedBytes). AreReadyDone queue version files f (Found files ∷ []) h) (sym u.same)
-          (whole_ready queue version files h r.accepted.consecutive r.accepted.of_version (subst (λ (f : List NumberedBytes). FilesHold queue version f h) u.same held)))
+          (whole_ready queue version files h r.consecutive r.of_version (subst (λ (f : List NumberedBytes). FilesHold queue version f h) u.same held)))
       go (inr (inr c)) =
           subst (λ (l : List Act). AreReadyDone queue version files left l h) (more (Cut c.at) c.asked)
           (subst (λ (f : List NumberedBytes). AreReadyDone queue version files f (Cut c.at ∷ Found files ∷ []) h) (sym c.cut)
           (subst (λ (f : List NumberedBytes). AreReadyDone queue version f (cut_last c.at f) (Cut c.at ∷ Found f ∷ []) h) (sym c.split)
-          (cut_ready queue version c.closed c.last c.at h (subst (λ (f : List NumberedBytes). AreConsecutive (numbers f)) c.split r.accepted.consecutive)
-          (subst (λ (f : List NumberedBytes). ¬ (IsLastOfOther queue version f)) c.split r.accepted.of_version) c.torn
+          (cut_ready queue version c.closed c.last c.at h (subst (λ (f : List NumberedBytes). AreConsecutive (numbers f)) c.split r.consecutive)
+          (subst (λ (f : List NumberedBytes). ¬ (IsLastOfOther queue version f)) c.split r.of_version) c.torn
           (subst (λ (f : List NumberedBytes). FilesHold queue version (cut_last c.at f) h) c.split (subst (λ (f : List NumberedBytes). FilesHold queue version f h) c.cut held)))))

@@ -19,7 +19,8 @@ use Rattle.raft_engine_fronts.specs.TornTails.{IsDamagedAt, StopsAt}
 use Rattle.raft_tail.specs.Tails.{IsBrokenOff, IsNextElsewhere, IsNextSound}
 use Rattle.raft_engine_fronts.proofs.BatchPartLemmas.{batch_long, end_unreadable}
 use Rattle.raft_engine_fronts.proofs.TornLemmas.{one_stop}
-use Rattle.raft_engine.specs.FoundFiles.{BeginsInOther, IsDamaged, IsOfOther, in_other, other_version}
+use Rattle.raft_engine.specs.FoundFiles.{BeginsInOther, IsOfOther, IsRefusedAt, IsTailRefused, in_other, other_version}
+use Rattle.raft_engine.specs.declared.recovery_mode.RecoveryMode.{RecoveryMode}
 
 -- what stands somewhere stands before the end
 pub stands_inside : (part : Part) (i next : ℕ) (items : List Item) → IsBatchAt part i items next → i < length part.bytes
@@ -35,16 +36,16 @@ stop_unreadable part at s = elim s [ inl e ↦ end_unreadable part at e | inr no
 pub one_stopped : (part : Part) (at other : ℕ) → StopsAt part at → StopsAt part other → at ≡ other
 one_stopped part at other s o = one_stop part 0 at other s.batches.0 o.batches.0 s.batches.1 o.batches.1 (stop_unreadable part at s.stops) (stop_unreadable part other o.stops)
 
--- where a reader stops no damage begins, or it is the end
-pub undamaged : (part : Part) (at : ℕ) → StopsAt part at → ((at ≡ length part.bytes) ⊎ (¬ (IsDamagedAt part at))) → ¬ (IsDamaged part)
-undamaged part at stops none d = go none
+-- where a reader stops a mode refuses nothing, or it is the end
+pub tolerated : (mode : RecoveryMode) (part : Part) (at : ℕ) → StopsAt part at → ((at ≡ length part.bytes) ⊎ (¬ (IsRefusedAt mode part at))) → ¬ (IsTailRefused mode part)
+tolerated mode part at stops none d = go none
   where
     same : d.at ≡ at
     same = one_stopped part d.at at d.stops stops
 
-    go : (at ≡ length part.bytes) ⊎ (¬ (IsDamagedAt part at)) → ⊥
+    go : (at ≡ length part.bytes) ⊎ (¬ (IsRefusedAt mode part at)) → ⊥
     go (inl ends) = let less = d.before_end in omega (arith, same, ends, less)
-    go (inr not) = not (subst (IsDamagedAt part) same d.damaged)
+    go (inr not) = not (subst (IsRefusedAt mode part) same d.refused)
 
 -- ---- damage
 

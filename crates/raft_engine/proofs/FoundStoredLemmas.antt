@@ -29,7 +29,8 @@ use Rattle.raft_engine_laws.specs.GroupsInRows.{AreGroupsInRows}
 use Rattle.raft_engine_laws.specs.Records.{HaveRecords, Records, live}
 use Rattle.raft_engine_laws.specs.Stops as queue_deeds
 use Rattle.raft_engine_laws.specs.Stops.{Deed, Stop, Write, IsNextIn, IsSafe, LoseNothing, written}
-use Rattle.raft_engine_laws.specs.Telling.{AreRemovals, SayAllAtOpening, TakeAway}
+use Rattle.raft_engine_laws.specs.MarksTold.{IsToldNowOrLater}
+use Rattle.raft_engine_laws.specs.Telling.{TakeAway}
 use Rattle.raft_engine_fronts.specs.Done.{AreDone, HoldLeft, LastFileIsNext}
 use Rattle.raft_engine_fronts.specs.Fronts.{ArePut}
 use Rattle.raft_engine.specs.BatchBytes.{bytes_for, place_at, placed_at}
@@ -42,7 +43,7 @@ use Rattle.raft_engine.specs.Stored.{AreAllDone, Bases}
 use Rattle.raft_engine.specs.StoredAsks.{IsWritableBatch, WhatIsDoneLasts}
 use Rattle.raft_engine.specs.WellPut.{AreWellPut}
 use Rattle.raft_engine_fronts.specs.Contents.{AreBothTold, KeepsBytes}
-use Rattle.raft_engine.specs.StoredFound.{AreMadeReady, AreReady, AreStoredAlone, FoundFilesAreReady, FoundFilesAreStored, found_asks, told_asks}
+use Rattle.raft_engine.specs.StoredFound.{AreMadeReady, AreReady, AreStoredBeside, FoundFilesAreReady, FoundFilesAreStored, found_asks, told_asks}
 use Rattle.raft_engine.proofs.FoundDoneLemmas.{AreReadyDone, one_ask}
 use Rattle.raft_engine_laws.proofs.InRows.{rows_alone, rows_left}
 use Rattle.raft_engine.proofs.StoredLemmas.{first_on, goes_on}
@@ -204,30 +205,32 @@ module _ (ready : ReadyIsDone) (lasts : WhatIsDoneLasts) (left : LeftIsHeld)
     (sync : (queue : LogQueue) (version : Version) (acts : List Act) (deeds : List Deed)
     → AreAllDone queue version acts deeds → AreAllDone queue version (asks.Sync ∷ acts) (queue_deeds.Sync ∷ deeds))
     (next : LastFileIsNext)
-    (removals : (items : List Item) → TakeAway items → (r : ℕ) → AreRemovals (steps_on r (steps_of_items items)))
     (in_file : (file : FileId) (items : List Item) → TakeAway items → AreInFile file items)
     (status : (items : List Item) → TakeAway items → HaveStatus Rewrite items)
     (unmarked : (file : FileId) (items : List Item) → TakeAway items → HasNoMarker (record { items = items; file = file }))
-    (open_told : (append rewrite : List Event) (found : Tables) (cleaned : List ℕ) (e : Event)
-    → IsSoundIn Append append → IsSoundIn Rewrite rewrite → Apart rewrite → IsReadingOfBoth rewrite append found cleaned
+    (open_mixed : (append rewrite : List Event) (found : Tables) (cleaned : List ℕ) (e : Event)
+    → IsSoundIn Append append → IsSoundIn Rewrite rewrite → Apart rewrite → (both : IsReadingOfBoth rewrite append found cleaned)
     → ((r : ℕ) → AreTableEntries (table_of r (finite.get found r)).entries)
-    → IsNextIn Rewrite (Stop rewrite 0 ∷ []) e → HasNoMarker e → ((r : ℕ) → AreRemovals (steps_on r (steps_of_items e.items)))
-    → ((r : ℕ) → SayAllAtOpening (steps_of r (batches append)) (steps_on r (steps_of_items e.items)) (table_of r (finite.get found r)))
-    → (base : Bases) × ((content : EntryIndex → List ℕ) → IsSafe content (base content) (Stop append 0 ∷ []) (queue_deeds.Sync ∷ Write e ∷ Stop rewrite 0 ∷ []) [] found)
+    → IsNextIn Rewrite (Stop rewrite 0 ∷ []) e → HasNoMarker e → (untold : List RegionStep)
+    → ((r : ℕ) → IsToldNowOrLater (steps_of r (batches append)) (steps_on r (steps_of_items e.items)) (steps_on r untold) (table_of r (finite.get both.rewritten r)) (table_of r (finite.get found r)))
+    → (base : Bases) × ((content : EntryIndex → List ℕ) → IsSafe content (base content) (Stop append 0 ∷ []) (queue_deeds.Sync ∷ Write e ∷ Stop rewrite 0 ∷ []) untold found)
     × ((content : EntryIndex → List ℕ) → LoseNothing content (base content) (Stop append 0 ∷ []) (Write e ∷ Stop rewrite 0 ∷ []))
     × ((content : EntryIndex → List ℕ) → LoseNothing content (base content) (Stop append 0 ∷ []) (Stop rewrite 0 ∷ [])))
-    (open_nothing : (append rewrite : List Event) (found : Tables) (cleaned : List ℕ)
-    → IsSoundIn Append append → IsSoundIn Rewrite rewrite → Apart rewrite → IsReadingOfBoth rewrite append found cleaned
-    → ((r : ℕ) → AreTableEntries (table_of r (finite.get found r)).entries)
-    → ((r : ℕ) → SayAllAtOpening (steps_of r (batches append)) [] (table_of r (finite.get found r)))
-    → (base : Bases) × ((content : EntryIndex → List ℕ) → IsSafe content (base content) (Stop append 0 ∷ []) (Stop rewrite 0 ∷ []) [] found)) where
-  module _ (version : Version) (asked : List Ask) (append rewrite append_left rewrite_left : List NumberedBytes) (accessor : Accessor) (told : Batch)
-      (r : AreReady version append rewrite append_left rewrite_left asked) (g : AreRecovered version append_left rewrite_left accessor told) where
+    (open_later : (append rewrite : List Event) (found : Tables) (cleaned : List ℕ)
+    → IsSoundIn Append append → IsSoundIn Rewrite rewrite → Apart rewrite → (both : IsReadingOfBoth rewrite append found cleaned)
+    → ((r : ℕ) → AreTableEntries (table_of r (finite.get found r)).entries) → (untold : List RegionStep)
+    → ((r : ℕ) → IsToldNowOrLater (steps_of r (batches append)) [] (steps_on r untold) (table_of r (finite.get both.rewritten r)) (table_of r (finite.get found r)))
+    → (base : Bases) × ((content : EntryIndex → List ℕ) → IsSafe content (base content) (Stop append 0 ∷ []) (Stop rewrite 0 ∷ []) untold found)) where
+  module _ (version : Version) (asked : List Ask) (append rewrite append_left rewrite_left : List NumberedBytes) (accessor : Accessor) (told untold : Batch)
+      (r : AreReady version append rewrite append_left rewrite_left asked) (g : AreRecovered version append_left rewrite_left accessor told untold) where
     abbrev h : List Event
     h = g.appended
 
     abbrev k : List Event
     k = g.rewritten
+
+    abbrev left_untold : List RegionStep
+    left_untold = steps_of_items untold.items
 
     append_done : AreAllDone Append version (acts_on Append asked) (Stop h 0 ∷ [])
     append_done = append_all ready version asked append rewrite append_left rewrite_left h k r g.append_held g.rewrite_held
@@ -257,15 +260,16 @@ module _ (ready : ReadyIsDone) (lasts : WhatIsDoneLasts) (left : LeftIsHeld)
         (λ l done done' put well. records_found left content version (base content) l h (Stop k 0 ∷ []) done done' g.rows (none content))
 
     module _ (nothing : told.items ≡ []) where
-      open_so : (base : Bases) × ((content : EntryIndex → List ℕ) → IsSafe content (base content) (Stop h 0 ∷ []) (Stop k 0 ∷ []) [] accessor.tables)
+      open_so : (base : Bases) × ((content : EntryIndex → List ℕ) → IsSafe content (base content) (Stop h 0 ∷ []) (Stop k 0 ∷ []) left_untold accessor.tables)
       open_so =
-          open_nothing h k accessor.tables accessor.cleaned g.append_sound g.rewrite_sound g.apart g.reading g.runs
-          (λ i. subst (λ (l : List Step). SayAllAtOpening (steps_of i (batches h)) l (table_of i (finite.get accessor.tables i))) (ap (λ (l : List Item). steps_on i (steps_of_items l)) nothing ∙ own_none i) (g.says i))
+          open_later h k accessor.tables accessor.cleaned g.append_sound g.rewrite_sound g.apart g.reading g.runs left_untold
+          (λ i. subst (λ (l : List Step). IsToldNowOrLater (steps_of i (batches h)) l (steps_on i left_untold) (table_of i (finite.get g.reading.rewritten i)) (table_of i (finite.get accessor.tables i)))
+          (ap (λ (l : List Item). steps_on i (steps_of_items l)) nothing ∙ own_none i) (g.says i))
 
       none_lost : (content : EntryIndex → List ℕ) → LoseNothing content (open_so.0 content) (Stop h 0 ∷ []) (Stop k 0 ∷ [])
-      none_lost content = lose content (open_so.0 content) (Stop h 0 ∷ []) (Stop k 0 ∷ []) [] accessor.tables (open_so.1 content)
+      none_lost content = lose content (open_so.0 content) (Stop h 0 ∷ []) (Stop k 0 ∷ []) left_untold accessor.tables (open_so.1 content)
 
-      at_once : AreStoredAlone version asked accessor.tables
+      at_once : AreStoredBeside version asked untold.items accessor.tables
       at_once = (
         open_so.0,
         record {
@@ -292,7 +296,7 @@ module _ (ready : ReadyIsDone) (lasts : WhatIsDoneLasts) (left : LeftIsHeld)
       items = placed_at id (length bytes) told
 
       taken : TakeAway items
-      taken = placed_away (entry_place handle told.entry_bytes) compressions.None told.items g.away
+      taken = placed_away (entry_place handle told.entry_bytes) compressions.None told.items g.told_away
 
       is_last : begun (acts_on Rewrite asked) ≡ closed ++ (seq, bytes) ∷ []
       is_last = rewrite_done.are ∙ split
@@ -304,14 +308,15 @@ module _ (ready : ReadyIsDone) (lasts : WhatIsDoneLasts) (left : LeftIsHeld)
       rows_more = rows_alone k e (unmarked id items taken) g.rows
 
       steps : steps_of_items items ≡ steps_of_items told.items
-      steps = placed_steps (entry_place handle told.entry_bytes) compressions.None told.items g.away
+      steps = placed_steps (entry_place handle told.entry_bytes) compressions.None told.items g.told_away
 
-      o : (base : Bases) × ((content : EntryIndex → List ℕ) → IsSafe content (base content) (Stop h 0 ∷ []) (queue_deeds.Sync ∷ Write e ∷ Stop k 0 ∷ []) [] accessor.tables)
+      o : (base : Bases) × ((content : EntryIndex → List ℕ) → IsSafe content (base content) (Stop h 0 ∷ []) (queue_deeds.Sync ∷ Write e ∷ Stop k 0 ∷ []) left_untold accessor.tables)
           × ((content : EntryIndex → List ℕ) → LoseNothing content (base content) (Stop h 0 ∷ []) (Write e ∷ Stop k 0 ∷ []))
           × ((content : EntryIndex → List ℕ) → LoseNothing content (base content) (Stop h 0 ∷ []) (Stop k 0 ∷ []))
       o =
-          open_told h k accessor.tables accessor.cleaned e g.append_sound g.rewrite_sound g.apart g.reading g.runs is_next (unmarked id items taken) (removals items taken)
-          (λ i. subst (λ (l : List RegionStep). SayAllAtOpening (steps_of i (batches h)) (steps_on i l) (table_of i (finite.get accessor.tables i))) (sym steps) (g.says i))
+          open_mixed h k accessor.tables accessor.cleaned e g.append_sound g.rewrite_sound g.apart g.reading g.runs is_next (unmarked id items taken) left_untold
+          (λ i. subst (λ (l : List RegionStep). IsToldNowOrLater (steps_of i (batches h)) (steps_on i l) (steps_on i left_untold) (table_of i (finite.get g.reading.rewritten i)) (table_of i (finite.get accessor.tables i)))
+          (sym steps) (g.says i))
 
       abbrev put_ask : Ask
       put_ask = ask Rewrite (Put (bytes_for (record { id = id; version = version }) told))
@@ -328,10 +333,10 @@ module _ (ready : ReadyIsDone) (lasts : WhatIsDoneLasts) (left : LeftIsHeld)
           (lasts content version (o.0 content) (put_ask ∷ asked) (Stop h 0 ∷ []) (Write e ∷ Stop k 0 ∷ []) append_done.done.done put_all.done.done append_done.put.put
           (both_well version (put_ask ∷ asked) append_done.well put_all.well) rows_more (o.2 content)).0
 
-      once_told : AreStoredAlone version (told_asks version seq told asked) accessor.tables
+      once_told : AreStoredBeside version (told_asks version seq told asked) untold.items accessor.tables
       once_told = (
         o.0,
-        goes_on lasts lose keep version (ask Rewrite asks.Sync) (put_ask ∷ asked) o.0 [] accessor.tables tt (first_on put_ask asked begun_or_found) (λ content told. ever_put content) (record {
+        goes_on lasts lose keep version (ask Rewrite asks.Sync) (put_ask ∷ asked) o.0 untold.items accessor.tables tt (first_on put_ask asked begun_or_found) (λ content told. ever_put content) (record {
           appended = Stop h 0 ∷ [];
           rewritten = queue_deeds.Sync ∷ Write e ∷ Stop k 0 ∷ [];
           append_done = append_done;
@@ -349,18 +354,18 @@ module _ (ready : ReadyIsDone) (lasts : WhatIsDoneLasts) (left : LeftIsHeld)
             (one_more (HaveLeft content version (live content (o.0 content) h)) put_ask asked (ever_found o.0 o.3 content)
             (records_found left content version (o.0 content) (put_ask ∷ asked) h (Write e ∷ Stop k 0 ∷ []) append_done.done.done put_all.done.done rows_more (o.2 content)))
             (records_found left content version (o.0 content) (ask Rewrite asks.Sync ∷ put_ask ∷ asked) h (queue_deeds.Sync ∷ Write e ∷ Stop k 0 ∷ []) append_done.done.done sync_all.done.done rows_more
-            (lose content (o.0 content) (Stop h 0 ∷ []) (queue_deeds.Sync ∷ Write e ∷ Stop k 0 ∷ []) [] accessor.tables (o.1 content))),
+            (lose content (o.0 content) (Stop h 0 ∷ []) (queue_deeds.Sync ∷ Write e ∷ Stop k 0 ∷ []) left_untold accessor.tables (o.1 content))),
       )
 
   pub found_stored : FoundFilesAreStored
-  found_stored version asked append rewrite append_left rewrite_left accessor told r g =
-      (at_once version asked append rewrite append_left rewrite_left accessor told r g, once_told version asked append rewrite append_left rewrite_left accessor told r g)
+  found_stored version asked append rewrite append_left rewrite_left accessor told untold r g =
+      (at_once version asked append rewrite append_left rewrite_left accessor told untold r g, once_told version asked append rewrite append_left rewrite_left accessor told untold r g)
 
   pub found_records : FoundRecordsLast
-  found_records version asked append rewrite append_left rewrite_left accessor told r g closed seq bytes split writable = go told.items refl
+  found_records version asked append rewrite append_left rewrite_left accessor told untold r g closed seq bytes split writable = go told.items refl
     where
       go : (items : List Item) → told.items ≡ items → (records : Bases) × HaveEverRecords version (asks_that_tell version seq told items ++ asked) records
-      go [] none = records_at_once version asked append rewrite append_left rewrite_left accessor told r g none
+      go [] none = records_at_once version asked append rewrite append_left rewrite_left accessor told untold r g none
       go (item ∷ items) some =
-          records_once_told version asked append rewrite append_left rewrite_left accessor told r g closed seq bytes split
+          records_once_told version asked append rewrite append_left rewrite_left accessor told untold r g closed seq bytes split
           (writable (λ none. no_item item items (sym some ∙ none)))

@@ -12,8 +12,9 @@ use Rattle.raft_engine_laws.specs.Stops.{Deed, Write, Delete, Stop, in_files_fro
 use Rattle.raft_engine_fronts.specs.EntryPlaces.{FilesEndWithin, FoundEndWithin}
 use Rattle.raft_engine_fronts.specs.Fronts.{ArePut, IsFrontWith}
 use Rattle.raft_engine_fronts.proofs.EndLemmas.{left_within}
-use Rattle.raft_engine_fronts.specs.TornTails.{FilesHoldTorn}
+use Rattle.raft_engine_fronts.specs.TornTails.{AreUndamaged, FilesHoldTorn, FoundUndamaged}
 use Rattle.raft_engine_fronts.proofs.TornLemmas.{whole_torn}
+use Rattle.raft_engine_fronts.proofs.UndamagedLemmas.{left_undamaged}
 use Rattle.raft_engine_fronts.specs.AnyTails.{IsUnforgedLeftOf}
 use Rattle.raft_engine_fronts.specs.Contents.{AreTold, AreToldByFiles}
 use Rattle.raft_engine_fronts.specs.Done.{AreDone, HoldLeft}
@@ -135,6 +136,7 @@ done_lasts left all any content version base asked appended rewritten append_don
         );
     told = told_of;
     of_version = λ queue files l. left_not_other queue version asked files (well queue).of_version l;
+    undamaged = undamaged_of;
     ends = ends_of;
     whole =
         let a = whole_of Append version asked appended append_done in
@@ -162,6 +164,10 @@ done_lasts left all any content version base asked appended rewritten append_don
         → (files : List NumberedBytes) → IsLeftOf queue asked files → FilesEndWithin queue version files
     done_ends queue deeds d found files l =
         left_within queue version asked (in_files_from d.first (queue_deeds.synced deeds)) (in_files_from d.first (written deeds)) files d.put d.stays ((well queue).within found) l
+
+    undamaged_of : (queue : LogQueue) → FoundUndamaged queue version (acts_on queue asked) → (files : List NumberedBytes) → IsLeftOf queue asked files → AreUndamaged queue version files
+    undamaged_of Append found files l = left_undamaged Append version asked files append_done.undamaged found l
+    undamaged_of Rewrite found files l = left_undamaged Rewrite version asked files rewrite_done.undamaged found l
 
     ends_of : (queue : LogQueue) → FoundEndWithin queue version (acts_on queue asked) → (files : List NumberedBytes) → IsLeftOf queue asked files → FilesEndWithin queue version files
     ends_of Append found files l = done_ends Append appended append_done found files l

@@ -4,8 +4,6 @@ mod FileNumbers
 mod ReadyLemmas
 mod AskedLemmas
 mod OfVersionLemmas
-mod ToldLemmas
-mod OpeningLemmas
 mod MarkerLemmas
 mod RowLemmas
 mod RecoveredLemmas
@@ -19,6 +17,7 @@ mod FrontFiles
 mod LeftBytes
 mod UnreadLemmas
 mod OpensLemmas
+mod ModeLemmas
 mod CopiesLemmas
 mod RestartLemmas
 mod SyncedLemmas
@@ -67,7 +66,6 @@ mod AloneLemmas
 mod RoundTripLemmas
 mod FaultLemmas
 mod MovingFaultLemmas
-pub mod OverLemmas
 mod MomentLemmas
 mod EntryLemmas
 mod LifeLemmas

@@ -12,6 +12,7 @@ use Rattle.raft_accessor.specs.Accessor.{Accessor}
 use Rattle.raft_files.specs.Asks.{Ask, NumberedBytes, Put, acts_on, ask}
 use Rattle.raft_files.specs.Disk.{begun}
 use Rattle.raft_recover.specs.Files.{FilesHold}
+use Rattle.raft_engine_laws.specs.Telling.{TakeAway}
 use Rattle.raft_engine.specs.BatchBytes.{bytes_for}
 use Rattle.raft_engine.specs.FoundRecords.{FoundRecordsLast, HaveEverRecords}
 use Rattle.raft_engine.specs.KeptEngineView.{AreFilesOf, IsKeptBy}
@@ -19,7 +20,7 @@ use Rattle.raft_engine.specs.Opened.{AreRead}
 use Rattle.raft_engine.specs.OpeningAsks.{AreWanted, Failures, FailsAmong, asks_that_tell, missing_asks, opening_asks}
 use Rattle.raft_engine.specs.ReadFound.{AreReadFound, reading_asks}
 use Rattle.raft_engine.specs.Stored.{Bases}
-use Rattle.raft_engine.specs.StoredFound.{AreMadeReady, AreReady, AreStoredAlone, FoundFilesAreReady, FoundFilesAreStored, found_asks, told_asks}
+use Rattle.raft_engine.specs.StoredFound.{AreMadeReady, AreReady, AreStoredBeside, FoundFilesAreReady, FoundFilesAreStored, found_asks, told_asks}
 use Rattle.raft_engine.specs.Unopened.{IsHalfOpened}
 use Rattle.raft_engine.specs.declared.queue_files.QueueFiles.{QueueFiles}
 use Rattle.raft_engine.specs.declared.reading.Reading.{Reading}
@@ -29,9 +30,11 @@ use Rattle.raft_engine.proofs.AskedLemmas.{AreAskedInPart, asked_part}
 use Rattle.raft_engine.proofs.ReadyLemmas.{both_ready, opening_split}
 
 -- what an engine is made of when it is opened
-pub record AreOpened (version : Version) (append rewrite : List NumberedBytes) (asks : List Ask) (append_files rewrite_files : QueueFiles) (accessor : Accessor) : Type 0 where
-  pub read : AreRead version append rewrite asks accessor
-  pub stored : AreStoredAlone version asks accessor.tables
+pub record AreOpened (version : Version) (append rewrite : List NumberedBytes) (asks : List Ask) (append_files rewrite_files : QueueFiles) (accessor : Accessor) (untold : Batch) : Type 0 where
+  pub read : AreRead version append rewrite asks accessor untold
+  pub still_open : untold ≡ record empty_batch { items = untold.items }
+  pub away : TakeAway untold.items
+  pub stored : AreStoredBeside version asks untold.items accessor.tables
   pub append_known : AreFilesOf Append asks append_files
   pub rewrite_known : AreFilesOf Rewrite asks rewrite_files
 
@@ -47,9 +50,9 @@ same_files : (files : QueueFiles) (n : ℕ) → n ≡ 0 → record files { len =
 same_files files n none = ap (λ (l : ℕ). record files { len = l }) (omega (arith, none))
 
 -- what is known once all this was asked: the tables are stored, the append files hold these batches, and the files of both queues have their numbers and lengths
-pub record AreKnown (version : Version) (asks : List Ask) (append_files rewrite_files : QueueFiles) (accessor : Accessor) (appended : List Event) : Type 0 where
+pub record AreKnown (version : Version) (asks : List Ask) (append_files rewrite_files : QueueFiles) (accessor : Accessor) (untold : Batch) (appended : List Event) : Type 0 where
   pub stays : FilesHold Append version (begun (acts_on Append asks)) appended
-  pub stored : AreStoredAlone version asks accessor.tables
+  pub stored : AreStoredBeside version asks untold.items accessor.tables
   pub append_known : AreFilesOf Append asks append_files
   pub rewrite_known : AreFilesOf Rewrite asks rewrite_files
 
@@ -103,10 +106,10 @@ module _ (ready : FoundFilesAreReady) (stored : FoundFilesAreStored) (lasting : 
   stays : FilesHold Append version (begun (acts_on Append asked)) f.recovered.appended
   stays = subst (λ (l : List NumberedBytes). FilesHold Append version l f.recovered.appended) (sym m.append_files) f.recovered.append_held
 
-  at_once : f.told.items ≡ [] → AreKnown version asked r.append r.rewrite r.accessor f.recovered.appended
+  at_once : f.told.items ≡ [] → AreKnown version asked r.append r.rewrite r.accessor r.untold f.recovered.appended
   at_once none = record {
     stays = stays;
-    stored = (stored version asked append rewrite f.append_left f.rewrite_left r.accessor f.told are_ready f.recovered).0 none;
+    stored = (stored version asked append rewrite f.append_left f.rewrite_left r.accessor f.told r.untold are_ready f.recovered).0 none;
     append_known = append_files;
     rewrite_known = rewrite_files;
   }
@@ -120,25 +123,25 @@ module _ (ready : FoundFilesAreReady) (stored : FoundFilesAreStored) (lasting : 
   told_len : r.told_len ≡ encoded_length f.told.items f.told.entry_bytes
   told_len = f.to_be_told.len ∙ ap (λ (b : Batch). encoded_length b.items b.entry_bytes) f.made
 
-  once_told : f.told.items ≢ [] → AreKnown version (told_asks version r.rewrite.seq f.told asked) r.append new_rewrite r.accessor f.recovered.appended
+  once_told : f.told.items ≢ [] → AreKnown version (told_asks version r.rewrite.seq f.told asked) r.append new_rewrite r.accessor r.untold f.recovered.appended
   once_told some = record {
     stays = stays;
-    stored = (stored version asked append rewrite f.append_left f.rewrite_left r.accessor f.told are_ready f.recovered).1 f.rewrite_of.closed r.rewrite.seq f.rewrite_of.bytes f.rewrite_of.split (f.writable some);
+    stored = (stored version asked append rewrite f.append_left f.rewrite_left r.accessor f.told r.untold are_ready f.recovered).1 f.rewrite_of.closed r.rewrite.seq f.rewrite_of.bytes f.rewrite_of.split (f.writable some);
     append_known = files_same Append asked (told_asks version r.rewrite.seq f.told asked) r.append r.append refl refl refl refl refl append_files;
     rewrite_known = files_same Rewrite (ask Rewrite (Put put_bytes) ∷ asked) (told_asks version r.rewrite.seq f.told asked) new_rewrite new_rewrite refl refl refl refl refl
         (files_told asked put_bytes r.rewrite new_rewrite refl refl (ap (λ (n : ℕ). r.rewrite.len + n) (told_len ∙ sym (log_batch_length (signature_in version r.rewrite.seq) f.told.items f.told.entry_bytes))) rewrite_files);
   }
 
-  all_known : AreKnown version (reading_asks version r ++ first) r.append new_rewrite r.accessor f.recovered.appended
-  all_known = subst (λ (l : List Ask). AreKnown version l r.append new_rewrite r.accessor f.recovered.appended) (sym all_asked) (go f.told.items refl)
+  all_known : AreKnown version (reading_asks version r ++ first) r.append new_rewrite r.accessor r.untold f.recovered.appended
+  all_known = subst (λ (l : List Ask). AreKnown version l r.append new_rewrite r.accessor r.untold f.recovered.appended) (sym all_asked) (go f.told.items refl)
     where
-      go : (items : List Item) → f.told.items ≡ items → AreKnown version (asks_that_tell version r.rewrite.seq f.told items ++ asked) r.append new_rewrite r.accessor f.recovered.appended
+      go : (items : List Item) → f.told.items ≡ items → AreKnown version (asks_that_tell version r.rewrite.seq f.told items ++ asked) r.append new_rewrite r.accessor r.untold f.recovered.appended
       go [] none =
-          subst (λ (q : QueueFiles). AreKnown version asked r.append q r.accessor f.recovered.appended)
+          subst (λ (q : QueueFiles). AreKnown version asked r.append q r.accessor r.untold f.recovered.appended)
           (sym (same_files r.rewrite r.told_len (told_len ∙ ap (λ (items : List Item). encoded_length items f.told.entry_bytes) none))) (at_once none)
       go (item ∷ items) some = once_told (λ none. no_item item items (sym some ∙ none))
 
-  are_wanted : AreWanted version append rewrite r.accessor (reading_asks version r)
+  are_wanted : AreWanted version append rewrite r.accessor r.untold (reading_asks version r)
   are_wanted = record {
     append_missing = missing_asks Append r.append_missing;
     rewrite_missing = missing_asks Rewrite r.rewrite_missing;
@@ -155,7 +158,7 @@ module _ (ready : FoundFilesAreReady) (stored : FoundFilesAreStored) (lasting : 
     are = told_same;
   }
 
-  all_opened : AreOpened version append rewrite (reading_asks version r ++ first) r.append new_rewrite r.accessor
+  all_opened : AreOpened version append rewrite (reading_asks version r ++ first) r.append new_rewrite r.accessor r.untold
   all_opened = record {
     read = record {
       wanted = reading_asks version r;
@@ -171,6 +174,8 @@ module _ (ready : FoundFilesAreReady) (stored : FoundFilesAreStored) (lasting : 
       reading = f.recovered.reading;
       append_stays = all_known.stays;
     };
+    still_open = f.recovered.untold_open;
+    away = f.recovered.untold_away;
     stored = all_known.stored;
     append_known = all_known.append_known;
     rewrite_known = all_known.rewrite_known;
@@ -178,14 +183,15 @@ module _ (ready : FoundFilesAreReady) (stored : FoundFilesAreStored) (lasting : 
 
   -- once all of it was asked, of which the reading keeps all but the batch
   pub opened_so : (left : Reading) (asks later : List Ask) → asks ≡ first → later ≡ reading_asks version r ++ asks → left ≡ record r { told = left.told }
-      → AreOpened version append rewrite later left.append (record left.rewrite { len = left.rewrite.len + left.told_len }) left.accessor
+      → AreOpened version append rewrite later left.append (record left.rewrite { len = left.rewrite.len + left.told_len }) left.accessor left.untold
   opened_so left asks later are all same =
-      subst (λ (x : Reading). AreOpened version append rewrite later x.append (record x.rewrite { len = x.rewrite.len + x.told_len }) x.accessor) (sym same)
-      (subst (λ (l : List Ask). AreOpened version append rewrite l r.append new_rewrite r.accessor) (sym (all ∙ ap (λ (l : List Ask). reading_asks version r ++ l) are)) all_opened)
+      subst (λ (x : Reading). AreOpened version append rewrite later x.append (record x.rewrite { len = x.rewrite.len + x.told_len }) x.accessor x.untold) (sym same)
+      (subst (λ (l : List Ask). AreOpened version append rewrite l r.append new_rewrite r.accessor r.untold) (sym (all ∙ ap (λ (l : List Ask). reading_asks version r ++ l) are)) all_opened)
 
   pub half_opened : (MayFail : Failures) (later : List Ask) (e : Error) → FailsAmong MayFail (reading_asks version r) first later e → IsHalfOpened MayFail version append rewrite later e
   half_opened MayFail later e failed = record {
     accessor = r.accessor;
+    untold = r.untold;
     wanted = reading_asks version r;
     are_wanted = are_wanted;
     failed = failed;
@@ -200,22 +206,22 @@ module _ (ready : FoundFilesAreReady) (stored : FoundFilesAreStored) (lasting : 
       half = asked_part MayFail (reading_asks version r) first later e failed
 
       all : (records : Bases) × HaveEverRecords version (asks_that_tell version r.rewrite.seq f.told f.told.items ++ asked) records
-      all = lasting version asked append rewrite f.append_left f.rewrite_left r.accessor f.told are_ready f.recovered f.rewrite_of.closed r.rewrite.seq f.rewrite_of.bytes f.rewrite_of.split f.writable
+      all = lasting version asked append rewrite f.append_left f.rewrite_left r.accessor f.told r.untold are_ready f.recovered f.rewrite_of.closed r.rewrite.seq f.rewrite_of.bytes f.rewrite_of.split f.writable
 
 -- an engine that was opened
 pub kept_opened : (version : Version) (append rewrite : List NumberedBytes) (asks : List Ask) (append_known rewrite_known : QueueFiles) (untold : Batch) (accessor : Accessor)
-    → AreOpened version append rewrite asks append_known rewrite_known accessor → untold ≡ empty_batch → IsKeptBy version asks append_known rewrite_known untold accessor true
-kept_opened version append rewrite asks append_known rewrite_known untold accessor o none = record {
+    → AreOpened version append rewrite asks append_known rewrite_known accessor untold → IsKeptBy version asks append_known rewrite_known untold accessor true
+kept_opened version append rewrite asks append_known rewrite_known untold accessor o = record {
   base = o.stored.0;
-  untold = [];
+  untold = untold.items;
   tables = accessor.tables;
   stored = o.stored.1;
   whole = λ intact. record {
     are_tables = refl;
-    are_untold = none;
-    take_away = tt;
+    are_untold = o.still_open;
+    take_away = o.away;
     append_files = o.append_known;
     rewrite_files = o.rewrite_known;
-    read_back = opened_read_back version append rewrite asks accessor o.read;
+    read_back = opened_read_back version append rewrite asks accessor untold o.read;
   };
 }

@@ -6,10 +6,7 @@ use Rattle.raft_base.specs.declared.pipe_log.LogQueue.{LogQueue}
 use Rattle.raft_base.specs.declared.pipe_log.LogQueue.TheVariants.{Append, Rewrite}
 use Rattle.raft_base.specs.declared.pipe_log.Version.{Version}
 use Rattle.raft_history.specs.Batches.{Event}
-use Rattle.raft_history.specs.Contexts.{Suits, files_of}
-use Rattle.raft_history.specs.Histories.{FilesFrom, IsSmall, IsSoundIn}
-use Rattle.raft_contexts.specs.OverlaidContext.{IsMergeAppendFault}
-use Rattle.raft_contexts.specs.RecoverContext.{HasRead, RecoverContext}
+use Rattle.raft_history.specs.Histories.{IsSmall, IsSoundIn}
 use Rattle.raft_files.specs.Asks.{Ask, NumberedBytes}
 use Rattle.raft_files.specs.Disk.{cut_last}
 use Rattle.raft_files.proofs.LastLemmas.{last_of}
@@ -18,12 +15,11 @@ use Rattle.raft_engine_fronts.specs.Done.{numbers}
 use Rattle.raft_engine_fronts.specs.TornTails.{FilesHoldTorn}
 use Rattle.raft_engine_laws.specs.GroupsInRows.{AreGroupsInRows}
 use Rattle.raft_engine.specs.FoundFiles.{AreAccepted, IsCut, IsFirstBegun, IsFoundFault, IsReady, IsUntorn}
-use Rattle.raft_engine.specs.Markers.{NoneIsHeld, NoneIsInRows}
-use Rattle.raft_engine.specs.ReadContexts.{AreUnmergedAs}
 use Rattle.raft_engine.specs.Restarts.{OpeningsOverSucceed, OpeningsSucceed}
 use Rattle.raft_engine.proofs.FileNumbers.{not_together}
 use Rattle.raft_engine.proofs.UnreadLemmas.{stops_unread}
-use Rattle.raft_engine.specs.Unopened.{AreUnrecoveredAs, IsOpeningRefusal, IsReadingFault, IsRecoveryFault, IsTooLongAs, Refusal}
+use Rattle.raft_engine.specs.declared.recovery_mode.RecoveryMode.{RecoveryMode}
+use Rattle.raft_engine.specs.Unopened.{AreUngroupedAs, AreUnrecoveredAs, IsOpeningRefusal, IsReadingFault, IsRecoveryFault, IsTooLongAs, Refusal}
 
 -- ---- refusals
 
@@ -42,10 +38,10 @@ memory_or errors.Failed = inr (λ h. absurd cc)
 memory_or errors.Memory = inl refl
 
 -- files that can be made ready aren't refused
-no_fault : (queue : LogQueue) (version : Version) (files : List NumberedBytes) (e : Error) → AreAccepted queue version files → ¬ (IsFoundFault queue version files e)
-no_fault queue version files e a (inl n) = not_together (numbers files) n.last n.next n.together a.consecutive (elim n.why [ inl back ↦ inl back.0 | inr gap ↦ inr gap.0 ])
-no_fault queue version files e a (inr (inl d)) = a.undamaged (record { closed = d.closed; last = d.last; split = d.split; damaged = d.damaged.damaged })
-no_fault queue version files e a (inr (inr o)) = a.of_version (record { closed = o.closed; last = o.last; split = o.split; other = o.other.other })
+no_fault : (mode : RecoveryMode) (queue : LogQueue) (version : Version) (files : List NumberedBytes) (e : Error) → AreAccepted mode queue version files → ¬ (IsFoundFault mode queue version files e)
+no_fault mode queue version files e a (inl n) = not_together (numbers files) n.last n.next n.together a.consecutive (elim n.why [ inl back ↦ inl back.0 | inr gap ↦ inr gap.0 ])
+no_fault mode queue version files e a (inr (inl d)) = a.tolerated (record { closed = d.closed; last = d.last; split = d.split; tail = d.tail.tail })
+no_fault mode queue version files e a (inr (inr o)) = a.of_version (record { closed = o.closed; last = o.last; split = o.split; other = o.other.other })
 
 -- they are one at least, or as many, once they are ready
 ready_count : (queue : LogQueue) (version : Version) (asks later : List Ask) (files left : List NumberedBytes) → IsReady queue version asks later files left → length files < 2 ^ 62 → length left < 2 ^ 62
@@ -61,10 +57,10 @@ ready_count queue version asks later files left r few = go r.ready
         let m = length-append c.closed (c.last ∷ []) in
         omega (arith, cut, old, n, m, few)
 
--- what is known of the files: they can be made ready, and hold these batches then, which can be read, each group of the rewrite files in a row
-pub record AreSoundFiles (version : Version) (append rewrite : List NumberedBytes) : Type 0 where
-  pub append_accepted : AreAccepted Append version append
-  pub rewrite_accepted : AreAccepted Rewrite version rewrite
+-- what is known of the files: they can be made ready in a mode, and hold these batches then, which can be read, each group of the rewrite files in a row
+pub record AreSoundFiles (mode : RecoveryMode) (version : Version) (append rewrite : List NumberedBytes) : Type 0 where
+  pub append_accepted : AreAccepted mode Append version append
+  pub rewrite_accepted : AreAccepted mode Rewrite version rewrite
   pub appended : List Event
   pub rewritten : List Event
   pub append_sound : IsSoundIn Append appended
@@ -75,42 +71,15 @@ pub record AreSoundFiles (version : Version) (append rewrite : List NumberedByte
   pub append_held : (asks later : List Ask) (ready : List NumberedBytes) → IsReady Append version asks later append ready → FilesHold Append version ready appended
   pub rewrite_held : (asks later : List Ask) (ready : List NumberedBytes) → IsReady Rewrite version asks later rewrite ready → FilesHold Rewrite version ready rewritten
 
--- ---- contexts
-
--- a context that has read batches of a queue is of that queue
-suits : (queue : LogQueue) (c : RecoverContext) (h : List Event) → IsSoundIn queue h → HasRead c h → Suits queue c.context.files
-suits queue c h sound read = subst (Suits queue) (sym read.stands.files) (go h sound.files)
-  where
-    go : (h : List Event) → FilesFrom queue 0 h → Suits queue (files_of h)
-    go [] files = tt
-    go (e ∷ h) files = files.0
-
--- contexts that have read the batches of both queues can't be put over each other for want of room alone
-merge_full : (e : Error) → e ≢ errors.Memory → (rewritten appended : RecoverContext) (h g : List Event) → IsSoundIn Rewrite h → IsSoundIn Append g → HasRead rewritten h → HasRead appended g
-    → IsMergeAppendFault rewritten appended e → e ≡ errors.Full
-merge_full (errors.InvalidArgument text) other rewritten appended h g sound_h sound_g read_h read_g f =
-    absurd (f (record { rewrite_suits = suits Rewrite rewritten h sound_h read_h; append_suits = suits Append appended g sound_g read_g }))
-merge_full errors.Full other rewritten appended h g sound_h sound_g read_h read_g f = refl
-merge_full errors.Failed other rewritten appended h g sound_h sound_g read_h read_g f = absurd (elim f [ inl n ↦ n read_h.stage | inr n ↦ n read_g.stage ])
-merge_full errors.Memory other rewritten appended h g sound_h sound_g read_h read_g f = absurd (other refl)
-merge_full (errors.Corruption text) other rewritten appended h g sound_h sound_g read_h read_g f = absurd f
-merge_full (errors.Io fault) other rewritten appended h g sound_h sound_g read_h read_g f = absurd f
-merge_full (errors.Codec fault) other rewritten appended h g sound_h sound_g read_h read_g f = absurd f
-merge_full (errors.Message fault) other rewritten appended h g sound_h sound_g read_h read_g f = absurd f
-merge_full (errors.TryAgain text) other rewritten appended h g sound_h sound_g read_h read_g f = absurd f
-merge_full errors.EntryCompacted other rewritten appended h g sound_h sound_g read_h read_g f = absurd f
-merge_full errors.EntryNotFound other rewritten appended h g sound_h sound_g read_h read_g f = absurd f
-merge_full (errors.Other text) other rewritten appended h g sound_h sound_g read_h read_g f = absurd f
-
 -- ---- the files
 
 module _
     (one : (queue : LogQueue) (version : Version) (files : List NumberedBytes) (g h : List Event) → FilesHold queue version files g → FilesHold queue version files h → g ≡ h)
     (few_records : (queue : LogQueue) (version : Version) (files : List NumberedBytes) (h : List Event) → FilesHold queue version files h → bytes_of_files files < 2 ^ 63 → IsSmall h)
-    (version : Version) (append rewrite : List NumberedBytes) (s : AreSoundFiles version append rewrite) where
+    (mode : RecoveryMode) (version : Version) (append rewrite : List NumberedBytes) (s : AreSoundFiles mode version append rewrite) where
   -- ---- what a reading of them refuses
 
-  module _ (IsRefused : Refusal) (e : Error) (f : IsReadingFault IsRefused version append rewrite e) where
+  module _ (IsRefused : Refusal) (e : Error) (f : IsReadingFault IsRefused mode version append rewrite e) where
     append_left : FilesHold Append version f.append_left s.appended
     append_left = s.append_held [] (f.append_missing ++ []) f.append_left (f.append_ready [])
 
@@ -127,16 +96,16 @@ module _
         go (inr long) = long.full
 
   -- an opening that is refused only so in reading is refused for want of memory or room
-  memory_or_full : (IsRefused : Refusal) (e : Error) → (e ≢ errors.Memory → IsReadingFault IsRefused version append rewrite e → e ≡ errors.Full)
-      → IsOpeningRefusal IsRefused version append rewrite e → (e ≡ errors.Memory) ⊎ (e ≡ errors.Full)
+  memory_or_full : (IsRefused : Refusal) (e : Error) → (e ≢ errors.Memory → IsReadingFault IsRefused mode version append rewrite e → e ≡ errors.Full)
+      → IsOpeningRefusal IsRefused mode version append rewrite e → (e ≡ errors.Memory) ⊎ (e ≡ errors.Full)
   memory_or_full IsRefused e full refused = elim (memory_or e) [
     | inl memory ↦ inl memory
     | inr other ↦ inr (go other (refused other))
   ]
     where
-      go : e ≢ errors.Memory → IsFoundFault Append version append e ⊎ (IsFoundFault Rewrite version rewrite e ⊎ IsReadingFault IsRefused version append rewrite e) → e ≡ errors.Full
-      go other (inl fault) = absurd (no_fault Append version append e s.append_accepted fault)
-      go other (inr (inl fault)) = absurd (no_fault Rewrite version rewrite e s.rewrite_accepted fault)
+      go : e ≢ errors.Memory → IsFoundFault mode Append version append e ⊎ (IsFoundFault mode Rewrite version rewrite e ⊎ IsReadingFault IsRefused mode version append rewrite e) → e ≡ errors.Full
+      go other (inl fault) = absurd (no_fault mode Append version append e s.append_accepted fault)
+      go other (inr (inl fault)) = absurd (no_fault mode Rewrite version rewrite e s.rewrite_accepted fault)
       go other (inr (inr fault)) = full other fault
 
   -- ---- by workers
@@ -145,11 +114,11 @@ module _
       → ¬ (FilesCannotBeRead queue version files)
   sound_unread queue files h held few sound bad = bad.unsound h held (few_records queue version files h held few) (record { queue = queue; sound = sound })
 
-  pub openings_succeed : OpeningsSucceed version append rewrite
+  pub openings_succeed : OpeningsSucceed mode version append rewrite
   openings_succeed workers e may refused =
       memory_or_full (AreUnrecoveredAs version workers) e (λ other f. is_full (AreUnrecoveredAs version workers) e f (λ u. absurd (unrecovered other f u))) refused
     where
-      unrecovered : e ≢ errors.Memory → (f : IsReadingFault (AreUnrecoveredAs version workers) version append rewrite e) → ¬ (AreUnrecoveredAs version workers f.append_left f.rewrite_left e)
+      unrecovered : e ≢ errors.Memory → (f : IsReadingFault (AreUnrecoveredAs version workers) mode version append rewrite e) → ¬ (AreUnrecoveredAs version workers f.append_left f.rewrite_left e)
       unrecovered other f (inl u) =
           elim (u.stops (
             may.0,
@@ -165,24 +134,7 @@ module _
 
   -- ---- over contexts
 
-  pub openings_over_succeed : OpeningsOverSucceed version append rewrite
-  openings_over_succeed appended rewritten e have refused =
-      memory_or_full (AreUnmergedAs version appended rewritten) e (λ other f. is_full (AreUnmergedAs version appended rewritten) e f (unmerged other f)) refused
-    where
-      unmerged : e ≢ errors.Memory → (f : IsReadingFault (AreUnmergedAs version appended rewritten) version append rewrite e) → AreUnmergedAs version appended rewritten f.append_left f.rewrite_left e
-          → e ≡ errors.Full
-      unmerged other f u = go u.why
-        where
-          held : FilesHold Append version f.append_left s.appended
-          held = append_left (AreUnmergedAs version appended rewritten) e f
-
-          rewrite_there : FilesHold Rewrite version f.rewrite_left s.rewritten
-          rewrite_there = rewrite_left (AreUnmergedAs version appended rewritten) e f
-
-          go : IsMergeAppendFault rewritten appended e ⊎ (NoneIsHeld (FilesHold Append version f.append_left) ⊎ NoneIsInRows (FilesHold Rewrite version f.rewrite_left) e) → e ≡ errors.Full
-          go (inl fault) =
-              let read = have s.appended s.rewritten s.append_found s.rewrite_found in
-              merge_full e other rewritten appended s.rewritten s.appended s.rewrite_sound s.append_sound
-              (read.1 (few_records Rewrite version f.rewrite_left s.rewritten rewrite_there u.few.1)).0 (read.0 (few_records Append version f.append_left s.appended held u.few.0)).0 fault
-          go (inr (inl none)) = absurd (none s.appended held)
-          go (inr (inr none)) = absurd ((none s.rewritten rewrite_there s.rewrite_sound.markers).0 s.rows)
+  pub openings_over_succeed : OpeningsOverSucceed mode version append rewrite
+  openings_over_succeed e refused =
+      memory_or_full (AreUngroupedAs version) e (λ other f. is_full (AreUngroupedAs version) e f (λ o.
+      absurd (o.out (subst AreGroupsInRows (one Rewrite version f.rewrite_left s.rewritten o.batches (rewrite_left (AreUngroupedAs version) e f) o.held) s.rows)))) refused

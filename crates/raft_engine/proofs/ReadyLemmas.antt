@@ -11,32 +11,34 @@ use Rattle.raft_recover.specs.Files.{whole_file}
 use Rattle.raft_engine_fronts.specs.Done.{AreConsecutive, numbers}
 use Rattle.raft_engine_fronts.specs.TornTails.{StopsAt}
 use Rattle.raft_engine.specs.CutTails.{IsTailOf, IsTailTold, tail_of}
-use Rattle.raft_engine.specs.FoundFiles.{AreAccepted, AreReadyBy, IsDamaged, IsDamagedAs, IsFoundFault, IsOfOther, IsOtherAs}
+use Rattle.raft_engine.specs.FoundFiles.{AreAccepted, AreReadyBy, IsFoundFault, IsOfOther, IsOtherAs, IsTailRefused, IsTailRefusedAs}
 use Rattle.raft_engine.specs.OpeningAsks.{asks_that_tell, missing_asks, opening_asks}
 use Rattle.raft_engine.specs.StoredFound.{AreReady, found_asks}
 use Rattle.raft_engine.specs.declared.missing.Missing.{Missing}
 use Rattle.raft_engine.specs.declared.missing.Missing.TheVariants.{Nothing, FirstFile, Cut}
 use Rattle.raft_engine.specs.declared.recovered.CutTail.{CutTail}
+use Rattle.raft_engine.specs.declared.recovery_mode.RecoveryMode.{RecoveryMode}
 use Rattle.raft_engine.proofs.FoundLemmas.{one_last}
 
 pub no_last : {A : Type 0} (closed : List A) (last : A) → [] ≡ closed ++ last ∷ [] → ⊥
 no_last [] last e = absurd cc
 no_last (c ∷ closed) last e = absurd cc
 
-module _ (queue : LogQueue) (version : Version) (files : List NumberedBytes) (consecutive : AreConsecutive (numbers files)) where
+module _ (mode : RecoveryMode) (queue : LogQueue) (version : Version) (files : List NumberedBytes) (consecutive : AreConsecutive (numbers files)) where
   -- ---- no file
 
   module _ (none : files ≡ []) where
-    pub first_accepted : AreAccepted queue version files
+    pub first_accepted : AreAccepted mode queue version files
     first_accepted = record {
       consecutive = consecutive;
-      undamaged = λ d. no_last d.closed d.last (sym none ∙ d.split);
+      tolerated = λ d. no_last d.closed d.last (sym none ∙ d.split);
       of_version = λ o. no_last o.closed o.last (sym none ∙ o.split);
     }
 
     pub first_ready : (missing : Missing) (left : List NumberedBytes) → missing ≡ FirstFile → left ≡ (1, []) ∷ [] → AreReadyBy queue version (missing_asks queue missing) files left
     first_ready missing left is first asks = record {
-      accepted = first_accepted;
+      consecutive = first_accepted.consecutive;
+      of_version = first_accepted.of_version;
       ready = inl (record { none = none; asked = ap (λ (m : Missing). missing_asks queue m ++ asks) is; first = first });
     }
 
@@ -46,7 +48,7 @@ module _ (queue : LogQueue) (version : Version) (files : List NumberedBytes) (co
         subst (λ (m : Missing). IsTailTold queue version files (tail_of m)) (sym is) (λ closed last e. absurd (no_last closed last (sym none ∙ e)))
 
     pub first_so : (r : Result Missing Error) (left : List NumberedBytes) → IfOk r (λ missing. missing ≡ FirstFile) → OnOk r (left ≡ (1, []) ∷ [])
-        → IfOk r (λ missing. AreReadyBy queue version (missing_asks queue missing) files left) × OnOk r (AreAccepted queue version files)
+        → IfOk r (λ missing. AreReadyBy queue version (missing_asks queue missing) files left) × OnOk r (AreAccepted mode queue version files)
     first_so (Err e) left is first = (tt, tt)
     first_so (Ok missing) left is first = (first_ready missing left is first, first_accepted)
 
@@ -56,20 +58,21 @@ module _ (queue : LogQueue) (version : Version) (files : List NumberedBytes) (co
     is_last : (closed' : List NumberedBytes) (last' : NumberedBytes) → files ≡ closed' ++ last' ∷ [] → last' ≡ last
     is_last closed' last' e = one_last closed' closed last' last (sym e ∙ split)
 
-    pub last_accepted : ¬ (IsDamaged (whole_file queue version last)) → ¬ (IsOfOther (whole_file queue version last)) → AreAccepted queue version files
-    last_accepted undamaged of_version = record {
+    pub last_accepted : ¬ (IsTailRefused mode (whole_file queue version last)) → ¬ (IsOfOther (whole_file queue version last)) → AreAccepted mode queue version files
+    last_accepted tolerated of_version = record {
       consecutive = consecutive;
-      undamaged = λ d. undamaged (subst (λ (f : NumberedBytes). IsDamaged (whole_file queue version f)) (is_last d.closed d.last d.split) d.damaged);
+      tolerated = λ d. tolerated (subst (λ (f : NumberedBytes). IsTailRefused mode (whole_file queue version f)) (is_last d.closed d.last d.split) d.tail);
       of_version = λ o. of_version (subst (λ (f : NumberedBytes). IsOfOther (whole_file queue version f)) (is_last o.closed o.last o.split) o.other);
     }
 
-    pub last_fault : (e : Error) → IsDamagedAs (whole_file queue version last) e ⊎ IsOtherAs (whole_file queue version last) e → IsFoundFault queue version files e
-    last_fault e (inl d) = inr (inl (record { closed = closed; last = last; split = split; damaged = d }))
+    pub last_fault : (e : Error) → IsTailRefusedAs mode (whole_file queue version last) e ⊎ IsOtherAs (whole_file queue version last) e → IsFoundFault mode queue version files e
+    last_fault e (inl d) = inr (inl (record { closed = closed; last = last; split = split; tail = d }))
     last_fault e (inr o) = inr (inr (record { closed = closed; last = last; split = split; other = o }))
 
-    pub untorn_ready : AreAccepted queue version files → StopsAt (whole_file queue version last) (length last.1) → AreReadyBy queue version (missing_asks queue Nothing) files files
+    pub untorn_ready : AreAccepted mode queue version files → StopsAt (whole_file queue version last) (length last.1) → AreReadyBy queue version (missing_asks queue Nothing) files files
     untorn_ready accepted stops asks = record {
-      accepted = accepted;
+      consecutive = accepted.consecutive;
+      of_version = accepted.of_version;
       ready = inr (inl (record {
         asked = refl;
         same = refl;
@@ -77,10 +80,11 @@ module _ (queue : LogQueue) (version : Version) (files : List NumberedBytes) (co
       }));
     }
 
-    pub cut_ready : AreAccepted queue version files → (tail : CutTail) (missing : Missing) (left : List NumberedBytes) → IsTailOf (whole_file queue version last) tail → missing ≡ Cut tail → left ≡ cut_last tail.offset files
+    pub cut_ready : AreAccepted mode queue version files → (tail : CutTail) (missing : Missing) (left : List NumberedBytes) → IsTailOf (whole_file queue version last) tail → missing ≡ Cut tail → left ≡ cut_last tail.offset files
         → AreReadyBy queue version (missing_asks queue missing) files left
     cut_ready accepted tail missing left told is cut asks = record {
-      accepted = accepted;
+      consecutive = accepted.consecutive;
+      of_version = accepted.of_version;
       ready = inr (inr (record {
         at = tail.offset;
         closed = closed;

@@ -1,6 +1,5 @@
 -- What a recovery gives of the files that are found.
 use Rattle.std.proofs.Common.{◌≡◌, ◌≢◌, ◌⊎◌, inl, inr, ℕ, ◌<◌, ◌^◌, List, [], ◌∷◌, ◌++◌, map, Vec, refl, sym, ap, subst, ◌∙◌, arith, Result, Ok, Err, IfErr}
-use Rattle.std.specs.FinMap as finite
 use Rattle.std.specs.Global.{Global}
 use Rattle.raft_base.specs.Errors.{IsInvalidArgument}
 use Rattle.raft_base.specs.declared.errors.Error.{Error}
@@ -11,96 +10,155 @@ use Rattle.raft_base.specs.declared.pipe_log.Version.{Version}
 use Rattle.raft_records.specs.FilePart.{Part}
 use Rattle.raft_records.specs.Item.{Item}
 use Rattle.raft_records.specs.LogBatch.{Batch, empty_batch}
-use Rattle.raft_table.specs.Steps.{table_of}
-use Rattle.raft_history.specs.Batches.{Event, batches}
-use Rattle.raft_history.specs.Effects.{steps_of}
-use Rattle.raft_history.specs.Histories.{Apart, IsSmall, IsSoundIn, Sound}
-use Rattle.raft_history.specs.RegionSteps.{steps_of_items, steps_on}
+use Rattle.raft_history.specs.Batches.{Event}
+use Rattle.raft_history.specs.BothQueues.{IsReadingOfBoth}
+use Rattle.raft_history.specs.Contexts.{Suits, files_of}
+use Rattle.raft_history.specs.Histories.{Apart, IsOfQueue, IsSmall, IsSoundIn, Sound}
+use Rattle.raft_history.proofs.SoundLemmas.{append_apart}
 use Rattle.raft_accessor.specs.Accessor.{Accessor}
+use Rattle.raft_contexts.specs.OverlaidContext.{AreOfBothQueues, IsOfBothExactly}
+use Rattle.raft_contexts.specs.RecoverContext.{HasRead, HasReadExactly, RecoverContext}
+use Rattle.raft_contexts.specs.TakenBatches.{IsTakenAway}
+use Rattle.raft_contexts.specs.declared.context_stage.ContextStage.TheVariants.{Reading}
+use Rattle.raft_contexts.specs.declared.taken_away.TakenAway.{TakenAway}
 use Rattle.raft_files.specs.Asks.{NumberedBytes}
-use Rattle.raft_replay.specs.Segments.{SegmentsHold, parts_within}
+use Rattle.raft_replay.specs.Replays.{IsReplayed}
+use Rattle.raft_replay.specs.Segments.{SegmentsAreOf, SegmentsHold, parts_within}
 use Rattle.raft_replay.specs.Stops.{IsNothing, StopsAmong}
 use Rattle.raft_replay.specs.WrittenParts.{bytes_of_parts, bytes_of_segments}
+use Rattle.raft_replay.proofs.MachineOrderLemmas.{segments_read_of_queue}
 use Rattle.raft_recover.specs.Files.{AreWholeFiles, FilesHold, bytes_of_files, segment_shown, whole_file}
-use Rattle.raft_recover.specs.Recovery.{AreBothRecovered, MayReplayBoth}
-use Rattle.raft_engine_laws.specs.Telling.{SayAllAtOpening, SayTheSame, TakeAway, told_items}
-use Rattle.raft_engine.specs.FileSegments.{AreSegmentsOfFiles}
-use Rattle.raft_engine.specs.Markers.{AreOutOfRows, NoneIsHeld, NoneIsInRows}
-use Rattle.raft_engine.specs.Opening.{AreInRows, AreRecovered, IsToldAtOpening, fronts_of, items_in, with_items}
-use Rattle.raft_engine.specs.OpeningAsks.{missing_asks}
-use Rattle.raft_engine.specs.ReadFound.{AreReadyFiles, IsUntellable}
-use Rattle.raft_engine.specs.declared.reading.Ready.{Ready}
-use Rattle.raft_engine.specs.Unopened.{AreManyAs, AreUnreadableAs, IsOpeningRefusal, IsRecoveryFault, IsTooLongAs, MayRecover, Refusal}
-use Rattle.raft_engine.proofs.OpeningLemmas.{runs_found, says_all, take_away}
+use Rattle.raft_recover.specs.Recovery.{MayReplayBoth}
 use Rattle.raft_engine_laws.specs.GroupsInRows.{AreGroupsInRows}
+use Rattle.raft_engine_laws.specs.TakenTold.{AreBothRead, AreFoundTables, DoesTakenTakeAway, IsTakenToldByMarks, IsTakenToldNowOrLater}
 use Rattle.raft_engine_laws.proofs.InRows.{rows_apart}
+use Rattle.raft_engine.specs.FileSegments.{AreSegmentsOfFiles}
+use Rattle.raft_engine.specs.Markers.{AreOutOfRows, NoneIsInRows}
+use Rattle.raft_engine.specs.Opening.{AreInRows, AreRecovered}
+use Rattle.raft_engine.specs.OpeningAsks.{missing_asks}
+use Rattle.raft_engine.specs.ReadContexts.{AreReadBy, HasReadAll}
+use Rattle.raft_engine.specs.ReadFound.{AreReadyFiles}
+use Rattle.raft_engine.specs.declared.reading.Ready.{Ready}
+use Rattle.raft_engine.specs.declared.recovery_mode.RecoveryMode.{RecoveryMode}
+use Rattle.raft_engine.specs.Unopened.{AreManyAs, AreUnreadableAs, IsOpeningRefusal, IsRecoveryFault, IsTooLongAs, MayRecover, Refusal}
 
+suits : (queue : LogQueue) (h : List Event) → IsOfQueue queue h → Suits queue (files_of h)
+suits queue [] all = tt
+suits queue (e ∷ h) all = all.each.0
+
+-- what a context has read of the segments of files can be read
+pub read_sound : (queue : LogQueue) (segments : List (Vec Part Global)) (context : RecoverContext) → SegmentsAreOf queue segments → (h : List Event) → SegmentsHold segments h → HasReadAll context h
+    → IsSmall h → IsSoundIn queue h
+read_sound queue segments context of h held read small =
+    let stands = (read small).0.stands in
+    (stands.stands queue (subst (Suits queue) (sym stands.files) (suits queue h (segments_read_of_queue queue segments of h held)))).sound
+
+-- files that hold batches, which contexts have read
 module _
     (few_records : (queue : LogQueue) (version : Version) (files : List NumberedBytes) (h : List Event) → FilesHold queue version files h → bytes_of_files files < 2 ^ 63 → IsSmall h)
     (one : (segments : List (Vec Part Global)) (g h : List Event) → SegmentsHold segments g → SegmentsHold segments h → g ≡ h)
-    (same : (items : List Item) (r : ℕ) → SayTheSame (steps_on r (steps_of_items (told_items items))) (steps_on r (steps_of_items items)))
-    (away : (items : List Item) → TakeAway (told_items items))
     (version : Version) (append rewrite : List NumberedBytes) (append_segments rewrite_segments : List (Vec Part Global))
     (a : AreSegmentsOfFiles Append version append append_segments) (r : AreSegmentsOfFiles Rewrite version rewrite rewrite_segments)
-    (rows : AreInRows (SegmentsHold rewrite_segments)) (accessor : Accessor) (both : AreBothRecovered (SegmentsHold rewrite_segments) (SegmentsHold append_segments) accessor)
-    (told : Batch) (is_told : IsToldAtOpening (SegmentsHold append_segments) accessor.tables told) where
-  append_held : FilesHold Append version append both.append
-  append_held = (a.same both.append).1 both.append_held
-
-  rewrite_held : FilesHold Rewrite version rewrite both.rewrite
-  rewrite_held = (r.same both.rewrite).1 both.rewrite_held
-
-  append_small : IsSmall both.append
-  append_small = few_records Append version append both.append append_held a.few
-
-  rewrite_small : IsSmall both.rewrite
-  rewrite_small = few_records Rewrite version rewrite both.rewrite rewrite_held r.few
-
-  in_rows : AreGroupsInRows both.rewrite
-  in_rows = subst AreGroupsInRows (one rewrite_segments rows.batches both.rewrite rows.held both.rewrite_held) rows.rows
-
-  apart : Apart both.rewrite
-  apart = rows_apart both.rewrite in_rows
-
-  abbrev all_items : List Item
-  all_items = told_items (items_in both.append) ++ fronts_of is_told.of_tables.each
-
-  told_so : told ≡ record empty_batch { items = all_items }
-  told_so =
-      is_told.of_tables.told ∙ ap (λ (b : Batch). with_items b (fronts_of is_told.of_tables.each)) is_told.of_batches.told
-      ∙ ap (λ (h : List Event). record empty_batch { items = told_items (items_in h) ++ fronts_of is_told.of_tables.each })
-      (one append_segments is_told.of_batches.batches both.append is_told.of_batches.held both.append_held)
-
-  items_so : all_items ≡ told.items
-  items_so = sym (ap (λ (b : Batch). b.items) told_so)
-
-  pub recovered_so : AreRecovered version append rewrite accessor told
-  recovered_so = record {
-    appended = both.append;
-    rewritten = both.rewrite;
-    append_held = append_held;
-    rewrite_held = rewrite_held;
-    append_sound = both.append_sound append_small;
-    rewrite_sound = both.rewrite_sound rewrite_small;
-    apart = apart;
-    rows = in_rows;
-    reading = both.reading rewrite_small append_small apart;
-    runs = runs_found accessor.tables is_told.of_tables.each is_told.of_tables.all is_told.of_tables.runs;
-    is_told = record {
-      removals = is_told.removals;
-      of_batches = record {
-        batches = is_told.of_batches.batches;
-        held = (a.same is_told.of_batches.batches).1 is_told.of_batches.held;
-        told = is_told.of_batches.told;
-      };
-      of_tables = is_told.of_tables;
-    };
-    still_open = told_so ∙ ap (λ (l : List Item). record empty_batch { items = l }) items_so;
-    away = subst TakeAway items_so (take_away away both.append is_told.of_tables.each);
-    says = λ r. subst (λ (l : List Item). SayAllAtOpening (steps_of r (batches both.append)) (steps_on r (steps_of_items l)) (table_of r (finite.get accessor.tables r))) items_so
-        (says_all same both.append both.rewrite accessor.tables accessor.cleaned is_told.of_tables.each (both.append_sound append_small) (both.rewrite_sound rewrite_small)
-        (both.reading rewrite_small append_small apart) is_told.of_tables.all r);
+    (rows : AreInRows (SegmentsHold rewrite_segments)) (appended rewritten : RecoverContext) where
+  pub read_by : (g h : List Event) → FilesHold Append version append g → FilesHold Rewrite version rewrite h → HasReadAll appended g → HasReadAll rewritten h → AreReadBy version append rewrite appended rewritten
+  read_by g h g_held h_held g_read h_read = record {
+    append_batches = g;
+    rewrite_batches = h;
+    append_held = g_held;
+    rewrite_held = h_held;
+    append_of = segments_read_of_queue Append append_segments a.of_queue g ((a.same g).0 g_held);
+    rewrite_of = segments_read_of_queue Rewrite rewrite_segments r.of_queue h ((r.same h).0 h_held);
+    append_small = few_records Append version append g g_held a.few;
+    rewrite_small = few_records Rewrite version rewrite h h_held r.few;
+    append_read = g_read;
+    rewrite_read = h_read;
+    rows = subst AreGroupsInRows (one rewrite_segments rows.batches h rows.held ((r.same h).0 h_held)) rows.rows;
   }
+
+  pub replayed_by : IsReplayed HasRead HasReadExactly append_segments appended → IsReplayed HasRead HasReadExactly rewrite_segments rewritten → AreReadBy version append rewrite appended rewritten
+  replayed_by g h =
+      read_by g.history h.history ((a.same g.history).1 g.held) ((r.same h.history).1 h.held) (λ small. (g.stands small, g.exact small)) (λ small. (h.stands small, h.exact small))
+
+-- what contexts give that have read the batches of files
+module _ (version : Version) (append rewrite : List NumberedBytes) (appended rewritten : RecoverContext) (by : AreReadBy version append rewrite appended rewritten) where
+  abbrev g : List Event
+  g = by.append_batches
+
+  abbrev h : List Event
+  h = by.rewrite_batches
+
+  pub append_stands : HasRead appended g
+  append_stands = (by.append_read by.append_small).0
+
+  pub rewrite_stands : HasRead rewritten h
+  rewrite_stands = (by.rewrite_read by.rewrite_small).0
+
+  append_suits : Suits Append appended.context.files
+  append_suits = subst (Suits Append) (sym append_stands.stands.files) (suits Append g by.append_of)
+
+  rewrite_suits : Suits Rewrite rewritten.context.files
+  rewrite_suits = subst (Suits Rewrite) (sym rewrite_stands.stands.files) (suits Rewrite h by.rewrite_of)
+
+  append_sound : IsSoundIn Append g
+  append_sound = (append_stands.stands.stands Append append_suits).sound
+
+  rewrite_sound : IsSoundIn Rewrite h
+  rewrite_sound = (rewrite_stands.stands.stands Rewrite rewrite_suits).sound
+
+  apart : Apart h
+  apart = rows_apart h by.rows
+
+  append_exactly : HasReadExactly appended g
+  append_exactly = (by.append_read by.append_small).1 (record { each = append_apart 0 g append_sound.files })
+
+  rewrite_exactly : HasReadExactly rewritten h
+  rewrite_exactly = (by.rewrite_read by.rewrite_small).1 apart
+
+  queues : AreOfBothQueues rewritten.context appended.context
+  queues = record { rewrite_suits = rewrite_suits; append_suits = append_suits }
+
+  pub read_on : (appended.stage ≢ Reading) ⊎ (rewritten.stage ≢ Reading) → ⊥
+  read_on stopped = elim stopped [
+    | inl a ↦ a append_stands.stage
+    | inr r ↦ r rewrite_stands.stage
+  ]
+
+  both_read : AreBothRead appended rewritten g h
+  both_read = record { append_read = append_stands; rewrite_read = rewrite_exactly; queues = queues }
+
+  -- contexts that read on are put over each other for want of memory alone
+  pub merge_memory : (e : Error)
+      → ((rewrite appended_too : List Event) → IsSmall rewrite → IsSmall appended_too → IsOfQueue Rewrite rewrite → IsOfQueue Append appended_too → HasRead rewritten rewrite → HasRead appended appended_too
+      → e ≡ errors.Memory) → e ≡ errors.Memory
+  merge_memory e memory = memory h g by.rewrite_small by.append_small by.rewrite_of by.append_of rewrite_stands append_stands
+
+  pub both_exactly : (new : RecoverContext) → ((h g : List Event) → HasReadExactly rewritten h → HasReadExactly appended g → IsOfBothExactly new h g) → IsOfBothExactly new h g
+  both_exactly new exact = exact h g rewrite_exactly append_exactly
+
+  module _ (tells : IsTakenToldByMarks) (says : IsTakenToldNowOrLater) (away : DoesTakenTakeAway) (entries : AreFoundTables) (taken : TakenAway) (is : IsTakenAway appended.context.regions rewritten.context.regions.tables taken)
+      (accessor : Accessor) (reading : IsReadingOfBoth h g accessor.tables accessor.cleaned) where
+    opened : (told : Batch) (items : List Item) → told ≡ record empty_batch { items = items } → told ≡ record empty_batch { items = told.items }
+    opened told items e = e ∙ ap (λ (l : List Item). record empty_batch { items = l }) (sym (ap (λ (b : Batch). b.items) e))
+
+    pub recovered_by : AreRecovered version append rewrite accessor taken.at_once taken.later
+    recovered_by = record {
+      appended = g;
+      rewritten = h;
+      append_held = by.append_held;
+      rewrite_held = by.rewrite_held;
+      append_sound = append_sound;
+      rewrite_sound = rewrite_sound;
+      apart = apart;
+      rows = by.rows;
+      reading = reading;
+      runs = entries appended rewritten g h both_read accessor.tables accessor.cleaned reading;
+      told_open = opened taken.at_once _ is.at_once;
+      untold_open = opened taken.later _ is.later;
+      told_away = (away appended.context.regions rewritten.context.regions.tables taken is).0;
+      untold_away = (away appended.context.regions rewritten.context.regions.tables taken is).1;
+      tells = tells appended rewritten g h both_read taken is accessor.tables accessor.cleaned reading;
+      says = says appended rewritten g h both_read taken is accessor.tables accessor.cleaned reading;
+    }
 
 -- ---- why nothing is recovered
 
@@ -176,9 +234,10 @@ out_of_rows few_records version rewrite h e held few sound none =
     record { batches = h; held = held; out = why.0; invalid = why.1 }
 
 -- why a reading is refused, once the files of both queues are ready
-module _ (IsRefused : Refusal) (version : Version) (append rewrite append_left rewrite_left : List NumberedBytes) (ready : Ready) (are : AreReadyFiles version append rewrite append_left rewrite_left ready) where
-  pub reading_refused : (e : Error) → (e ≢ errors.Memory → IsRecoveryFault IsRefused append_left rewrite_left e ⊎ IsTooLongAs version append_left rewrite_left e) → IsOpeningRefusal IsRefused version append rewrite e
+module _ (IsRefused : Refusal) (mode : RecoveryMode) (version : Version) (append rewrite append_left rewrite_left : List NumberedBytes) (ready : Ready) (are : AreReadyFiles mode version append rewrite append_left rewrite_left ready) where
+  pub reading_refused : (e : Error) → (e ≢ errors.Memory → IsRecoveryFault IsRefused append_left rewrite_left e ⊎ IsTooLongAs version append_left rewrite_left e) → IsOpeningRefusal IsRefused mode version append rewrite e
   reading_refused e fault other = inr (inr (record {
+    accepted = are.accepted;
     append_missing = missing_asks Append ready.append_missing;
     rewrite_missing = missing_asks Rewrite ready.rewrite_missing;
     append_left = append_left;
@@ -189,18 +248,13 @@ module _ (IsRefused : Refusal) (version : Version) (append rewrite append_left r
   }))
 
   -- they have too many bytes
-  pub many_refused : (e : Error) → (e ≢ errors.Memory → AreManyAs append_left e ⊎ AreManyAs rewrite_left e) → IsOpeningRefusal IsRefused version append rewrite e
+  pub many_refused : (e : Error) → (e ≢ errors.Memory → AreManyAs append_left e ⊎ AreManyAs rewrite_left e) → IsOpeningRefusal IsRefused mode version append rewrite e
   many_refused e many = reading_refused e (λ other. elim (many other) [
     | inl m ↦ inl (inl m)
     | inr m ↦ inl (inr (inl m))
   ])
 
-  -- what is told of them can't be told
-  pub untellable_refused : {T : Type 0} (result : Result T Error) (Held : List Event → Type 0) (accessor : Accessor) → IfErr result (λ e. e ≢ errors.Memory → IsUntellable Held accessor e)
-      → ((told : Batch) → IsToldAtOpening Held accessor.tables told → AreRecovered version append_left rewrite_left accessor told)
-      → ((e : Error) → NoneIsHeld Held → IsRefused append_left rewrite_left e) → IfErr result (IsOpeningRefusal IsRefused version append rewrite)
-  untellable_refused (Ok r) Held accessor why recovered none = tt
-  untellable_refused (Err e) Held accessor why recovered none = reading_refused e (λ other. elim (why other) [
-    | inl unheld ↦ inl (inr (inr (none e unheld)))
-    | inr long ↦ inr (record { accessor = accessor; told = long.0; recovered = recovered long.0 long.1; long = long.2; full = long.3 })
-  ])
+  -- what is told of them at once is too long
+  pub long_refused : {T : Type 0} (result : Result T Error) → IfErr result (λ e. e ≢ errors.Memory → IsTooLongAs version append_left rewrite_left e) → IfErr result (IsOpeningRefusal IsRefused mode version append rewrite)
+  long_refused (Ok r) long = tt
+  long_refused (Err e) long = reading_refused e (λ other. inr (long other))

@@ -20,13 +20,15 @@ use Rattle.raft_recover.specs.Recovery.{AreBothRecovered}
 use Rattle.raft_engine_laws.specs.Records.{Records, HaveRecords, live}
 use Rattle.raft_engine_fronts.specs.Done.{AreConsecutive, numbers}
 use Rattle.raft_engine_fronts.specs.Fronts.{IsFrontWith}
-use Rattle.raft_engine_fronts.specs.TornTails.{FilesHoldTorn, IsDamagedAt, StopsAt}
+use Rattle.raft_engine_fronts.specs.TornTails.{AreUndamaged, FilesHoldTorn, StopsAt}
 use Rattle.raft_engine.specs.CutFiles.{AreCut}
-use Rattle.raft_engine.specs.FoundFiles.{IsCut, IsFirstBegun, IsLastOfOther, IsReady, IsUntorn}
+use Rattle.raft_engine.specs.FoundFiles.{IsCut, IsFirstBegun, IsLastOfOther, IsLastRefused, IsReady, IsUntorn}
 use Rattle.raft_engine.specs.KeptEngine.{KeptEngine}
 use Rattle.raft_engine.specs.Lasting.{AreFoundIn, IsLasting, IsLastingAfter}
 use Rattle.raft_engine.specs.Opened.{IsOpened}
-use Rattle.raft_engine.specs.Restarts.{AreFromBefore, AreOpenable, AreSegmentsOf, HaveSame, IsFoundByRestarts, IsKeptByRestarts, IsKeptUnordered, RestartsFind}
+use Rattle.raft_engine.specs.Restarts.{AreFromBefore, AreOpenable, AreSegmentsOf, AreTailsTolerated, HaveSame, IsFoundByRestarts, IsKeptByRestarts, IsKeptUnordered, RestartsFind}
+use Rattle.raft_engine.specs.declared.recovery_mode.RecoveryMode.{RecoveryMode}
+use Rattle.raft_engine.specs.declared.recovery_mode.RecoveryMode.TheVariants.{TolerateTornTail}
 use Rattle.raft_engine.proofs.OpensLemmas.{AreSoundFiles, openings_over_succeed, openings_succeed}
 
 -- a front of all batches with the synced ones is all of them, if all are synced
@@ -40,6 +42,10 @@ whole_front synced h front f same =
 -- files are read in one way
 abbrev pub OneReading : Type 0
 OneReading = (queue : LogQueue) (version : Version) (files : List NumberedBytes) (g h : List Event) → FilesHoldTorn queue version files g → FilesHoldTorn queue version files h → g ≡ h
+
+-- the default mode refuses no tail of files that aren't damaged
+not_refused : (queue : LogQueue) (version : Version) (files : List NumberedBytes) → AreUndamaged queue version files → ¬ (IsLastRefused TolerateTornTail queue version files)
+not_refused queue version files u d = u d.closed d.last d.tail.at d.split d.tail.stops d.tail.refused
 
 -- any reading of what the files hold has the records that were found
 pub found_read : OneReading → (content : EntryIndex → List ℕ) (version : Version) (append rewrite : List NumberedBytes) (records : ℕ → Records) → AreFoundIn content version append rewrite records
@@ -55,8 +61,6 @@ module _
     (one : OneReading)
     (cut : (queue : LogQueue) (version : Version) (closed : List NumberedBytes) (last : NumberedBytes) (h : List Event) (at : ℕ)
     → FilesHoldTorn queue version (closed ++ last ∷ []) h → StopsAt (whole_file queue version last) at → FilesHold queue version (cut_last at (closed ++ last ∷ [])) h)
-    (undamaged : (queue : LogQueue) (version : Version) (closed : List NumberedBytes) (last : NumberedBytes) (h : List Event) (at : ℕ)
-    → FilesHoldTorn queue version (closed ++ last ∷ []) h → StopsAt (whole_file queue version last) at → ¬ (IsDamagedAt (whole_file queue version last) at))
     (few_records : (queue : LogQueue) (version : Version) (files : List NumberedBytes) (h : List Event) → FilesHold queue version files h → bytes_of_files files < 2 ^ 63 → IsSmall h) where
   opened_has : (content : EntryIndex → List ℕ) (version : Version) (append rewrite : List NumberedBytes) (records : ℕ → Records) → AreFoundIn content version append rewrite records
       → (engine : KeptEngine) → IsOpened version append rewrite engine → HaveRecords content engine.accessor.tables records
@@ -119,7 +123,7 @@ module _
   }
 
   -- files that are ready hold the same
-  ready_held : (queue : LogQueue) (version : Version) (asks later : List Ask) (files left : List NumberedBytes) (h : List Event) → IsReady queue version asks later files left
+  pub ready_held : (queue : LogQueue) (version : Version) (asks later : List Ask) (files left : List NumberedBytes) (h : List Event) → IsReady queue version asks later files left
       → FilesHoldTorn queue version files h → FilesHold queue version left h
   ready_held queue version asks later files left h ready held = go ready.ready
     where
@@ -133,14 +137,10 @@ module _
           subst (λ (fs : List NumberedBytes). FilesHold queue version fs h) (sym (c.cut ∙ ap (cut_last c.at) c.split))
           (cut queue version c.closed c.last h c.at (subst (λ (fs : List NumberedBytes). FilesHoldTorn queue version fs h) c.split held) c.torn.0)
 
-  one_openable : (queue : LogQueue) (version : Version) (files : List NumberedBytes) (h : List Event) → AreConsecutive (numbers files) → ¬ (IsLastOfOther queue version files)
-      → FilesHoldTorn queue version files h → IsSoundIn queue h → AreOpenable queue version files
-  one_openable queue version files h consecutive of_version held sound = record {
-    accepted = record {
-      consecutive = consecutive;
-      undamaged = λ d. undamaged queue version d.closed d.last h d.damaged.at (subst (λ (fs : List NumberedBytes). FilesHoldTorn queue version fs h) d.split held) d.damaged.stops d.damaged.damaged;
-      of_version = of_version;
-    };
+  one_openable : (mode : RecoveryMode) (queue : LogQueue) (version : Version) (files : List NumberedBytes) (h : List Event) → AreConsecutive (numbers files) → ¬ (IsLastRefused mode queue version files)
+      → ¬ (IsLastOfOther queue version files) → FilesHoldTorn queue version files h → IsSoundIn queue h → AreOpenable mode queue version files
+  one_openable mode queue version files h consecutive tolerated of_version held sound = record {
+    accepted = record { consecutive = consecutive; tolerated = tolerated; of_version = of_version };
     readable = λ asks later ready is few bad.
         let there = ready_held queue version asks later files ready h is held in
         bad.unsound h there (few_records queue version ready h there few) (record { queue = queue; sound = sound });
@@ -154,12 +154,12 @@ module _
   held_once : (queue : LogQueue) (version : Version) (files : List NumberedBytes) (g h : List Event) → FilesHold queue version files g → FilesHold queue version files h → g ≡ h
   held_once queue version files g h first second = one queue version files g h (whole queue version files g first) (whole queue version files h second)
 
-  sound_files : (content : EntryIndex → List ℕ) (version : Version) (base : ℕ → Records) (asks : List Ask) (l : IsLastingAfter content version base asks) (append rewrite : List NumberedBytes)
-      → IsLeftOf Append asks append → IsLeftOf Rewrite asks rewrite → AreSoundFiles version append rewrite
-  sound_files content version base asks l append rewrite a r =
+  sound_files : (content : EntryIndex → List ℕ) (version : Version) (base : ℕ → Records) (asks : List Ask) (l : IsLastingAfter content version base asks) (mode : RecoveryMode) (append rewrite : List NumberedBytes)
+      → IsLeftOf Append asks append → IsLeftOf Rewrite asks rewrite → AreTailsTolerated mode version append rewrite → AreSoundFiles mode version append rewrite
+  sound_files content version base asks l mode append rewrite a r t =
       let f = (l.left append rewrite a r).2 in record {
-        append_accepted = (one_openable Append version append f.appended f.append_consecutive (l.of_version Append append a) f.append_held f.append_sound).accepted;
-        rewrite_accepted = (one_openable Rewrite version rewrite f.rewritten f.rewrite_consecutive (l.of_version Rewrite rewrite r) f.rewrite_held f.rewrite_sound).accepted;
+        append_accepted = (one_openable mode Append version append f.appended f.append_consecutive t.0 (l.of_version Append append a) f.append_held f.append_sound).accepted;
+        rewrite_accepted = (one_openable mode Rewrite version rewrite f.rewritten f.rewrite_consecutive t.1 (l.of_version Rewrite rewrite r) f.rewrite_held f.rewrite_sound).accepted;
         appended = f.appended;
         rewritten = f.rewritten;
         append_sound = f.append_sound;
@@ -183,14 +183,15 @@ module _
     opened_any = λ append rewrite a r engine o.
         let s = l.left_any append rewrite a r o.read.appended o.read.rewritten o.read.append_held o.read.rewrite_held in
         (s.0, s.1, opened_has content version append rewrite (live content base s.0) s.2 engine o);
-    accepted = λ append rewrite a r.
+    tolerated = λ found append rewrite a r. (not_refused Append version append (l.undamaged Append found.0 append a), not_refused Rewrite version rewrite (l.undamaged Rewrite found.1 rewrite r));
+    accepted = λ mode append rewrite a r t.
         let f = (l.left append rewrite a r).2 in (
-          one_openable Append version append f.appended f.append_consecutive (l.of_version Append append a) f.append_held f.append_sound,
-          one_openable Rewrite version rewrite f.rewritten f.rewrite_consecutive (l.of_version Rewrite rewrite r) f.rewrite_held f.rewrite_sound,
+          one_openable mode Append version append f.appended f.append_consecutive t.0 (l.of_version Append append a) f.append_held f.append_sound,
+          one_openable mode Rewrite version rewrite f.rewritten f.rewrite_consecutive t.1 (l.of_version Rewrite rewrite r) f.rewrite_held f.rewrite_sound,
           λ asked later ready is. record { batches = f.rewritten; held = ready_held Rewrite version asked later rewrite ready f.rewritten is f.rewrite_held; rows = f.rows },
         );
-    opens = λ append rewrite a r. openings_succeed held_once few_records version append rewrite (sound_files content version base asks l append rewrite a r);
-    opens_over = λ append rewrite a r. openings_over_succeed held_once few_records version append rewrite (sound_files content version base asks l append rewrite a r);
+    opens = λ mode append rewrite a r t. openings_succeed held_once few_records mode version append rewrite (sound_files content version base asks l mode append rewrite a r t);
+    opens_over = λ mode append rewrite a r t. openings_over_succeed held_once few_records mode version append rewrite (sound_files content version base asks l mode append rewrite a r t);
     whole =
         restarts_find content version (files_of Append asks) (files_of Rewrite asks) (live content base l.batches) (λ tables. HaveRecords content tables (live content base l.batches)) (λ tables have. have) l.whole;
     told = λ queue told files left is cut_is. l.told queue told files left is cut_is;

@@ -19,7 +19,7 @@ use Rattle.raft_replay.specs.Segments.{SegmentsHold}
 use Rattle.raft_recover.specs.Files.{FilesHold, bytes_of_files, whole_file}
 use Rattle.raft_recover.specs.Recovery.{AreBothRecovered, IsRecovered}
 use Rattle.raft_engine_fronts.specs.Fronts.{ArePut, HoldFrontWith}
-use Rattle.raft_engine_fronts.specs.TornTails.{FilesHoldTorn, IsDamagedAt, StopsAt}
+use Rattle.raft_engine_fronts.specs.TornTails.{FilesHoldTorn, StopsAt}
 use Rattle.raft_engine.specs.KeptEngine.{KeptEngine}
 use Rattle.raft_engine.specs.Opened.{IsOpened}
 use Rattle.raft_engine.specs.ReadBack.{IsReadBack, NothingMoved}
@@ -33,8 +33,6 @@ module _
     (one : OneReading)
     (cut : (queue : LogQueue) (version : Version) (closed : List NumberedBytes) (last : NumberedBytes) (h : List Event) (at : ℕ)
     → FilesHoldTorn queue version (closed ++ last ∷ []) h → StopsAt (whole_file queue version last) at → FilesHold queue version (cut_last at (closed ++ last ∷ [])) h)
-    (undamaged : (queue : LogQueue) (version : Version) (closed : List NumberedBytes) (last : NumberedBytes) (h : List Event) (at : ℕ)
-    → FilesHoldTorn queue version (closed ++ last ∷ []) h → StopsAt (whole_file queue version last) at → ¬ (IsDamagedAt (whole_file queue version last) at))
     (few_records : (queue : LogQueue) (version : Version) (files : List NumberedBytes) (h : List Event) → FilesHold queue version files h → bytes_of_files files < 2 ^ 63 → IsSmall h)
     (apart : (h : List Event) → IsSoundIn Append h → Apart h)
     (same_tables : (q : LogQueue) (h : List Event) (m n : Tables) (a b : List ℕ) → IsOneReading q h m a → IsOneReading q h n b → m ≡ n)
@@ -49,7 +47,7 @@ module _
   read_of queue version files segments g h (inl s) there held =
       let holds : FilesHold queue version files g = (s.0 g).1 there in
       (one queue version files g h (whole queue version files g holds) held, few_records queue version files g holds s.1)
-  read_of queue version files segments g h (inr s) there held = segments_one whole one cut undamaged few_records queue version files segments g h s there held
+  read_of queue version files segments g h (inr s) there held = segments_one whole one cut few_records queue version files segments g h s there held
 
   none_apart : Apart []
   unfolding effects_behind

@@ -21,7 +21,7 @@ tail_of Nothing = None
 tail_of FirstFile = None
 tail_of (Cut tail) = Some tail
 
--- the torn tail of a part that begins its file: from where reading stops to the end, with the reason why no batch is read there
+-- the tail of a part that begins its file: from where reading stops to the end, with the reason why no batch is read there
 pub record IsTailOf (part : Part) (tail : CutTail) : Type 0 where
   pub torn : IsTornFrom part (Some tail.offset)
   pub file : tail.file ≡ part.id.seq
@@ -29,19 +29,19 @@ pub record IsTailOf (part : Part) (tail : CutTail) : Type 0 where
   pub why : IsNextFault (signature_in part.version part.id.seq) (drop tail.offset part.bytes) tail.error
   pub not_memory : tail.error ≢ errors.Memory
 
--- a part ends with its batches, or this is its torn tail
+-- a part ends with its batches, or this is its tail
 abbrev pub IsTornAs : Part → Option CutTail → Type 0
 IsTornAs part None = IsTornFrom part None
 IsTornAs part (Some tail) = IsTailOf part tail
 
--- the last file of a queue has this torn tail
+-- the last file of a queue has this tail
 pub record IsLastTail (queue : LogQueue) (version : Version) (files : List NumberedBytes) (tail : CutTail) : Type 0 where
   pub closed : List NumberedBytes
   pub last : NumberedBytes
   pub split : files ≡ closed ++ last ∷ []
   pub is : IsTailOf (whole_file queue version last) tail
 
--- the last file of a queue ends with its batches, if there is one; or it has this torn tail
+-- the last file of a queue ends with its batches, if there is one; or it has this tail
 abbrev pub IsTailTold : LogQueue → Version → List NumberedBytes → Option CutTail → Type 0
 IsTailTold queue version files None =
     (closed : List NumberedBytes) (last : NumberedBytes) → files ≡ closed ++ last ∷ [] → StopsAt (whole_file queue version last) (length last.1)

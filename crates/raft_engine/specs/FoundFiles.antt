@@ -1,4 +1,4 @@
--- Files that are found when an engine is opened: where their torn tails begin, and when they are damaged or of the other version.
+-- Files that are found when an engine is opened: where their tails begin that can't be read, which of them a mode refuses, and when files are of the other version.
 use Rattle.std.specs.Prelude.{◌≡◌, ◌⊎◌, ℕ, suc, ◌<◌, ◌≤◌, List, [], ◌∷◌, ◌++◌, length, codes, Option, Some, None}
 use Rattle.std.specs.Fmt.{decimal}
 use Rattle.raft_base.specs.Corruption.{IsCorruption}
@@ -16,13 +16,25 @@ use Rattle.raft_recover.specs.Files.{whole_file}
 use Rattle.raft_engine_fronts.specs.Done.{AreConsecutive, numbers}
 use Rattle.raft_engine_fronts.specs.TornTails.{IsDamagedAt, StopsAt}
 use Rattle.raft_tail.specs.Tails.{IsNextElsewhere, IsNextSound}
+use Rattle.raft_engine.specs.declared.recovery_mode.RecoveryMode.{RecoveryMode}
+use Rattle.raft_engine.specs.declared.recovery_mode.RecoveryMode.TheVariants.{AbsoluteConsistency, TolerateTailCorruption, TolerateTornTail}
 
--- a part is damaged: before its end a reader stops, and damage begins there
-pub record IsDamaged (part : Part) : Type 0 where
+-- which bytes a mode refuses, of those at which no batch can be read: each; those where damage begins; none
+abbrev pub IsRefusedAt : RecoveryMode → Part → ℕ → Type 0
+IsRefusedAt AbsoluteConsistency part at = Unit {0}
+IsRefusedAt TolerateTornTail part at = IsDamagedAt part at
+IsRefusedAt TolerateTailCorruption part at = ⊥
+
+-- a mode refuses the tail of a part: before the end a reader stops, at a byte that the mode refuses
+pub record IsTailRefused (mode : RecoveryMode) (part : Part) : Type 0 where
   pub at : ℕ
   pub stops : StopsAt part at
   pub before_end : at < length part.bytes
-  pub damaged : IsDamagedAt part at
+  pub refused : IsRefusedAt mode part at
+
+-- the refusal of a file at this offset where nothing may be cut off
+abbrev pub uncut_text : FileId → ℕ → List ℕ
+uncut_text id at = place_text id at ++ codes "no batch can be read there, and nothing may be cut off"
 
 -- the refusal of a file for a batch that can be read at this offset, behind one that can't be
 abbrev pub followed_text : FileId → ℕ → ℕ → List ℕ
@@ -39,10 +51,16 @@ IsDamageText part at e =
     ((sound : ℕ) × IsNextSound part at (Some sound) × IsCorruption (followed_text part.id at sound) e)
     ⊎ (IsNextSound part at None × (found : ℕ × ℕ) × IsNextElsewhere part at (Some found) × IsCorruption (elsewhere_text part.id at found.0 found.1) e)
 
--- a part that begins its file is damaged, and the refusal says where
-pub record IsDamagedAs (part : Part) (e : Error) : Type 0 where
-  pub damaged : IsDamaged part
-  pub text : IsDamageText part damaged.at e
+-- what a mode says of a byte that it refuses
+abbrev pub IsRefusalText : RecoveryMode → Part → ℕ → Error → Type 0
+IsRefusalText AbsoluteConsistency part at e = IsCorruption (uncut_text part.id at) e
+IsRefusalText TolerateTornTail part at e = IsDamageText part at e
+IsRefusalText TolerateTailCorruption part at e = ⊥
+
+-- a mode refuses the tail of a part that begins its file, and says where
+pub record IsTailRefusedAs (mode : RecoveryMode) (part : Part) (e : Error) : Type 0 where
+  pub tail : IsTailRefused mode part
+  pub text : IsRefusalText mode part tail.at e
 
 -- the other version
 abbrev pub other_version : Version → Version
@@ -71,10 +89,10 @@ pub record IsOtherAs (part : Part) (e : Error) : Type 0 where
   pub other : IsOfOther part
   pub text : IsOtherText part.id 0 e
 
--- a part ends with its batches; or a reader stops before its end, from where on it is to be cut, since no damage begins there
+-- a part ends with its batches; or a reader stops before its end, from where on it is to be cut
 abbrev pub IsTornFrom : Part → Option ℕ → Type 0
 IsTornFrom part None = StopsAt part (length part.bytes)
-IsTornFrom part (Some at) = StopsAt part at × (at < length part.bytes) × ¬ (IsDamagedAt part at)
+IsTornFrom part (Some at) = StopsAt part at × (at < length part.bytes)
 
 -- the last file of a queue, if there is one, ends with its batches, and nothing is asked
 pub record IsUntorn (queue : LogQueue) (version : Version) (asks later : List Ask) (files left : List NumberedBytes) : Type 0 where
@@ -82,7 +100,7 @@ pub record IsUntorn (queue : LogQueue) (version : Version) (asks later : List As
   pub same : left ≡ files
   pub ends : (closed : List NumberedBytes) (last : NumberedBytes) → files ≡ closed ++ last ∷ [] → StopsAt (whole_file queue version last) (length last.1)
 
--- the last file of a queue has a torn tail, which is cut off
+-- the last file of a queue has a tail that can't be read, which is cut off
 pub record IsCut (queue : LogQueue) (version : Version) (asks later : List Ask) (files left : List NumberedBytes) : Type 0 where
   pub at : ℕ
   pub closed : List NumberedBytes
@@ -96,19 +114,19 @@ pub record IsCut (queue : LogQueue) (version : Version) (asks later : List Ask) 
 abbrev pub IsTailCut : LogQueue → Version → List Ask → List Ask → List NumberedBytes → List NumberedBytes → Type 0
 IsTailCut queue version asks later files left = IsUntorn queue version asks later files left ⊎ IsCut queue version asks later files left
 
--- the last file of a queue is damaged
-pub record IsLastDamaged (queue : LogQueue) (version : Version) (files : List NumberedBytes) : Type 0 where
+-- a mode refuses the tail of the last file of a queue
+pub record IsLastRefused (mode : RecoveryMode) (queue : LogQueue) (version : Version) (files : List NumberedBytes) : Type 0 where
   pub closed : List NumberedBytes
   pub last : NumberedBytes
   pub split : files ≡ closed ++ last ∷ []
-  pub damaged : IsDamaged (whole_file queue version last)
+  pub tail : IsTailRefused mode (whole_file queue version last)
 
--- the last file of a queue is damaged, and the refusal says where
-pub record IsLastDamagedAs (queue : LogQueue) (version : Version) (files : List NumberedBytes) (e : Error) : Type 0 where
+-- so it does, and says where
+pub record IsLastRefusedAs (mode : RecoveryMode) (queue : LogQueue) (version : Version) (files : List NumberedBytes) (e : Error) : Type 0 where
   pub closed : List NumberedBytes
   pub last : NumberedBytes
   pub split : files ≡ closed ++ last ∷ []
-  pub damaged : IsDamagedAs (whole_file queue version last) e
+  pub tail : IsTailRefusedAs mode (whole_file queue version last) e
 
 -- the last file of a queue is of the other version
 pub record IsLastOfOther (queue : LogQueue) (version : Version) (files : List NumberedBytes) : Type 0 where
@@ -148,15 +166,15 @@ pub record AreApartAs (queue : LogQueue) (files : List NumberedBytes) (e : Error
   pub together : StandTogether (numbers files) last next
   pub why : IsApartAs queue last next e
 
--- the found files of a queue can be made ready: their numbers are consecutive, and the last one is neither damaged nor of the other version
-pub record AreAccepted (queue : LogQueue) (version : Version) (files : List NumberedBytes) : Type 0 where
+-- the found files of a queue can be made ready in a mode: their numbers are consecutive, and the last one neither has a tail that the mode refuses nor is of the other version
+pub record AreAccepted (mode : RecoveryMode) (queue : LogQueue) (version : Version) (files : List NumberedBytes) : Type 0 where
   pub consecutive : AreConsecutive (numbers files)
-  pub undamaged : ¬ (IsLastDamaged queue version files)
+  pub tolerated : ¬ (IsLastRefused mode queue version files)
   pub of_version : ¬ (IsLastOfOther queue version files)
 
 -- why they can't be
-abbrev pub IsFoundFault : LogQueue → Version → List NumberedBytes → Error → Type 0
-IsFoundFault queue version files e = AreApartAs queue files e ⊎ IsLastDamagedAs queue version files e ⊎ IsLastOtherAs queue version files e
+abbrev pub IsFoundFault : RecoveryMode → LogQueue → Version → List NumberedBytes → Error → Type 0
+IsFoundFault mode queue version files e = AreApartAs queue files e ⊎ IsLastRefusedAs mode queue version files e ⊎ IsLastOtherAs queue version files e
 
 -- a queue has no file, and its first one is begun
 pub record IsFirstBegun (queue : LogQueue) (asks later : List Ask) (files left : List NumberedBytes) : Type 0 where
@@ -164,9 +182,11 @@ pub record IsFirstBegun (queue : LogQueue) (asks later : List Ask) (files left :
   pub asked : later ≡ ask queue (Begin 1) ∷ asks
   pub first : left ≡ (1, []) ∷ []
 
--- the found files of a queue can be made ready, and are ready for what is put next: its first file is begun, if there is none, and a torn tail of its last file is cut off
+-- The found files of a queue, whose numbers are consecutive, and of which the last isn't of the other version, are ready for what is put
+-- next: its first file is begun, if there is none, and what can't be read of its last file is cut off.
 pub record IsReady (queue : LogQueue) (version : Version) (asks later : List Ask) (files left : List NumberedBytes) : Type 0 where
-  pub accepted : AreAccepted queue version files
+  pub consecutive : AreConsecutive (numbers files)
+  pub of_version : ¬ (IsLastOfOther queue version files)
   pub ready : IsFirstBegun queue asks later files left ⊎ IsTailCut queue version asks later files left
 
 -- the found files of a queue are ready, and are these then, once this is asked, which is missing

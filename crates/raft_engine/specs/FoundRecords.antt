@@ -20,10 +20,10 @@ HaveEverRecords version asks records =
     (content : EntryIndex → List ℕ) (later earlier : List Ask) → asks ≡ later ++ earlier → HaveBothBegun earlier
     → (append rewrite : List NumberedBytes) → IsLeftOf Append earlier append → IsLeftOf Rewrite earlier rewrite → AreFoundIn content version append rewrite (records content)
 
--- found files that are ready, and of which tables are recovered, have ever the same records, once the rewrite queue is told what it is to be told too
+-- found files that are ready, and of which tables are recovered, have ever the same records, once the rewrite queue is told what it is to be told at once too
 abbrev pub FoundRecordsLast : Type 0
 FoundRecordsLast =
-    (version : Version) (asks : List Ask) (append rewrite append_left rewrite_left : List NumberedBytes) (accessor : Accessor) (told : Batch)
-    → AreReady version append rewrite append_left rewrite_left asks → AreRecovered version append_left rewrite_left accessor told
+    (version : Version) (asks : List Ask) (append rewrite append_left rewrite_left : List NumberedBytes) (accessor : Accessor) (told untold : Batch)
+    → AreReady version append rewrite append_left rewrite_left asks → AreRecovered version append_left rewrite_left accessor told untold
     → (closed : List NumberedBytes) (seq : ℕ) (bytes : List ℕ) → rewrite_left ≡ closed ++ (seq, bytes) ∷ [] → (told.items ≢ [] → IsWritableBatch told)
     → (records : Bases) × HaveEverRecords version (asks_that_tell version seq told told.items ++ asks) records

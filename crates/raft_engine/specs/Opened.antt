@@ -2,7 +2,7 @@
 use Rattle.std.specs.Prelude.{◌≡◌, true, List, ◌++◌}
 use Rattle.raft_base.specs.declared.pipe_log.LogQueue.TheVariants.{Append, Rewrite}
 use Rattle.raft_base.specs.declared.pipe_log.Version.{Version}
-use Rattle.raft_records.specs.LogBatch.{empty_batch}
+use Rattle.raft_records.specs.LogBatch.{Batch}
 use Rattle.raft_history.specs.Batches.{Event}
 use Rattle.raft_history.specs.BothQueues.{IsReadingOfBoth}
 use Rattle.raft_history.specs.Histories.{Apart, IsSoundIn}
@@ -16,10 +16,10 @@ use Rattle.raft_engine.specs.OpeningAsks.{AreWanted}
 use Rattle.raft_engine.specs.StoredFound.{found_asks}
 
 -- The tables are a reading of the batches that found files hold, but for a torn tail of each queue; of these files is asked
--- what an opening asks, and nothing else, and the append files hold the same batches still.
-pub record AreRead (version : Version) (append rewrite : List NumberedBytes) (asks : List Ask) (accessor : Accessor) : Type 0 where
+-- what an opening asks, and nothing else, and the append files hold the same batches still. What may be told later is untold.
+pub record AreRead (version : Version) (append rewrite : List NumberedBytes) (asks : List Ask) (accessor : Accessor) (untold : Batch) : Type 0 where
   pub wanted : List Ask
-  pub are_wanted : AreWanted version append rewrite accessor wanted
+  pub are_wanted : AreWanted version append rewrite accessor untold wanted
   pub asked : asks ≡ wanted ++ found_asks append rewrite
   pub appended : List Event
   pub rewritten : List Event
@@ -31,9 +31,8 @@ pub record AreRead (version : Version) (append rewrite : List NumberedBytes) (as
   pub reading : IsReadingOfBoth rewritten appended accessor.tables accessor.cleaned
   pub append_stays : FilesHold Append version (begun (acts_on Append asks)) appended
 
--- an intact engine with such tables, which the rewrite queue is told all of
+-- an intact engine with such tables, and what the rewrite queue isn't told yet
 pub record IsOpened (version : Version) (append rewrite : List NumberedBytes) (engine : KeptEngine) : Type 0 where
   pub of_version : engine.version ≡ version
   pub intact : engine.intact ≡ true
-  pub none_untold : engine.untold ≡ empty_batch
-  pub read : AreRead version append rewrite engine.asks engine.accessor
+  pub read : AreRead version append rewrite engine.asks engine.accessor engine.untold

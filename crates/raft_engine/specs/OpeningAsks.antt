@@ -43,8 +43,8 @@ asks_that_tell version seq told (item ∷ items) = told_asks version seq told []
 abbrev pub opening_asks : Version → List Ask → List Ask → ℕ → Batch → List Ask
 opening_asks version append_missing rewrite_missing seq told = asks_that_tell version seq told told.items ++ (rewrite_missing ++ append_missing)
 
--- what an opening asks of found files once these tables are recovered of them, newest first: what is missing of both queues, and what tells the rewrite queue, behind its last file
-pub record AreWanted (version : Version) (append rewrite : List NumberedBytes) (accessor : Accessor) (wanted : List Ask) : Type 0 where
+-- what an opening asks of found files once these tables are recovered of them, newest first: what is missing of both queues, and what tells the rewrite queue, behind its last file, what may not be told later; and what stays untold
+pub record AreWanted (version : Version) (append rewrite : List NumberedBytes) (accessor : Accessor) (untold : Batch) (wanted : List Ask) : Type 0 where
   pub append_missing : List Ask
   pub rewrite_missing : List Ask
   pub append_left : List NumberedBytes
@@ -52,7 +52,7 @@ pub record AreWanted (version : Version) (append rewrite : List NumberedBytes) (
   pub append_ready : AreReadyBy Append version append_missing append append_left
   pub rewrite_ready : AreReadyBy Rewrite version rewrite_missing rewrite rewrite_left
   pub told : Batch
-  pub recovered : AreRecovered version append_left rewrite_left accessor told
+  pub recovered : AreRecovered version append_left rewrite_left accessor told untold
   pub closed : List NumberedBytes
   pub seq : ℕ
   pub bytes : List ℕ

@@ -1,32 +1,38 @@
--- Contexts that read the batches of files on other threads.
-use Rattle.std.specs.Prelude.{◌⊎◌, ◌<◌, ◌^◌, List}
-use Rattle.raft_base.specs.declared.errors.Error.{Error}
+-- Contexts that read the batches of files.
+use Rattle.std.specs.Prelude.{List}
 use Rattle.raft_base.specs.declared.pipe_log.LogQueue.TheVariants.{Append, Rewrite}
 use Rattle.raft_base.specs.declared.pipe_log.Version.{Version}
 use Rattle.raft_history.specs.Batches.{Event}
-use Rattle.raft_history.specs.Histories.{Apart, IsSmall}
-use Rattle.raft_contexts.specs.OverlaidContext.{IsMergeAppendFault}
+use Rattle.raft_history.specs.Histories.{Apart, IsOfQueue, IsSmall}
 use Rattle.raft_contexts.specs.RecoverContext.{HasRead, HasReadExactly, RecoverContext}
 use Rattle.raft_files.specs.Asks.{NumberedBytes}
-use Rattle.raft_recover.specs.Files.{FilesHold, bytes_of_files}
+use Rattle.raft_recover.specs.Files.{FilesHold}
 use Rattle.raft_engine_fronts.specs.TornTails.{FilesHoldTorn}
-use Rattle.raft_engine.specs.Markers.{NoneIsHeld, NoneIsInRows}
+use Rattle.raft_engine_laws.specs.GroupsInRows.{AreGroupsInRows}
 
 -- a context has read these batches, where they name few records, and exactly where their effects are apart
 abbrev pub HasReadAll : RecoverContext → List Event → Type 0
 HasReadAll context h = IsSmall h → HasRead context h × (Apart h → HasReadExactly context h)
 
--- the contexts of both queues have read the batches of files, whichever they are, but for a torn tail of each queue
-abbrev pub HaveReadFound : Version → List NumberedBytes → List NumberedBytes → RecoverContext → RecoverContext → Type 0
-HaveReadFound version append rewrite appended rewritten =
-    (g h : List Event) → FilesHoldTorn Append version append g → FilesHoldTorn Rewrite version rewrite h → HasReadAll appended g × HasReadAll rewritten h
+-- the contexts of both queues have read the batches that files hold, but for a torn tail of each queue
+pub record HaveReadFound (version : Version) (append rewrite : List NumberedBytes) (appended rewritten : RecoverContext) : Type 0 where
+  pub append_batches : List Event
+  pub rewrite_batches : List Event
+  pub append_held : FilesHoldTorn Append version append append_batches
+  pub rewrite_held : FilesHoldTorn Rewrite version rewrite rewrite_batches
+  pub append_read : HasReadAll appended append_batches
+  pub rewrite_read : HasReadAll rewritten rewrite_batches
 
--- the same of files that end with their batches
-abbrev pub HaveReadReady : Version → List NumberedBytes → List NumberedBytes → RecoverContext → RecoverContext → Type 0
-HaveReadReady version append rewrite appended rewritten =
-    (g h : List Event) → FilesHold Append version append g → FilesHold Rewrite version rewrite h → HasReadAll appended g × HasReadAll rewritten h
-
--- of files of fewer than 2^63 bytes no tables are made: contexts can't be put over each other, an append file can't be read, or the rewrite files can't or have a group that doesn't stand in a row
-pub record AreUnmergedAs (version : Version) (appended rewritten : RecoverContext) (append rewrite : List NumberedBytes) (e : Error) : Type 0 where
-  pub few : (bytes_of_files append < 2 ^ 63) × (bytes_of_files rewrite < 2 ^ 63)
-  pub why : IsMergeAppendFault rewritten appended e ⊎ NoneIsHeld (FilesHold Append version append) ⊎ NoneIsInRows (FilesHold Rewrite version rewrite) e
+-- the contexts of both queues have read the batches that files which are ready hold, few records, each group of the rewrite queue in a row
+pub record AreReadBy (version : Version) (append rewrite : List NumberedBytes) (appended rewritten : RecoverContext) : Type 0 where
+  pub append_batches : List Event
+  pub rewrite_batches : List Event
+  pub append_held : FilesHold Append version append append_batches
+  pub rewrite_held : FilesHold Rewrite version rewrite rewrite_batches
+  pub append_of : IsOfQueue Append append_batches
+  pub rewrite_of : IsOfQueue Rewrite rewrite_batches
+  pub append_small : IsSmall append_batches
+  pub rewrite_small : IsSmall rewrite_batches
+  pub append_read : HasReadAll appended append_batches
+  pub rewrite_read : HasReadAll rewritten rewrite_batches
+  pub rows : AreGroupsInRows rewrite_batches

@@ -1,35 +1,32 @@
 -- What the reading of found files gives, before anything is asked of them.
-use Rattle.std.specs.Prelude.{◌≡◌, ◌≢◌, ◌⊎◌, ◌<◌, ◌≤◌, ◌^◌, List, []}
-use Rattle.raft_base.specs.declared.errors.Error.{Error}
-use Rattle.raft_base.specs.declared.errors.Error.TheVariants as errors
+use Rattle.std.specs.Prelude.{◌≡◌, ◌≢◌, ◌<◌, ◌^◌, List, []}
 use Rattle.raft_base.specs.declared.pipe_log.LogQueue.TheVariants.{Append, Rewrite}
 use Rattle.raft_base.specs.declared.pipe_log.Version.{Version}
 use Rattle.raft_records.specs.LogBatch.{Batch, encoded, encoded_length}
-use Rattle.raft_history.specs.Batches.{Event}
-use Rattle.raft_accessor.specs.Accessor.{Accessor}
 use Rattle.raft_files.specs.Asks.{Ask, NumberedBytes}
 use Rattle.raft_engine.specs.CutTails.{IsTailTold, tail_of}
 use Rattle.raft_engine.specs.FoundFiles.{AreReadyBy}
-use Rattle.raft_engine.specs.Markers.{NoneIsHeld}
-use Rattle.raft_engine.specs.Opening.{AreRecovered, IsToldAtOpening}
+use Rattle.raft_engine.specs.Opening.{AreRecovered}
 use Rattle.raft_engine.specs.OpeningAsks.{missing_asks, opening_asks}
 use Rattle.raft_engine.specs.QueueFilesOf.{AreOf}
 use Rattle.raft_engine.specs.StoredAsks.{IsWritableBatch}
+use Rattle.raft_engine.specs.Unopened.{AreBothAccepted}
 use Rattle.raft_engine.specs.declared.reading.Reading.{Reading}
 use Rattle.raft_engine.specs.declared.reading.Ready.{Ready}
+use Rattle.raft_engine.specs.declared.recovery_mode.RecoveryMode.{RecoveryMode}
 
 -- newest first, what is to be asked once found files are read
 abbrev pub reading_asks : Version → Reading → List Ask
 reading_asks version r = opening_asks version (missing_asks Append r.append_missing) (missing_asks Rewrite r.rewrite_missing) r.rewrite.seq r.told
 
--- what the rewrite queue is to be told is encoded, in so many bytes, and the last rewrite file has room for it
+-- what the rewrite queue is to be told at once is encoded, in so many bytes, and the last rewrite file has room for it
 pub record IsToBeTold (r : Reading) : Type 0 where
   pub encoded : r.told.stage ≡ encoded
   pub len : r.told_len ≡ encoded_length r.told.items r.told.entry_bytes
   pub short : r.told_len < 2 ^ 56
   pub room : r.rewrite.len < 2 ^ 63
 
--- the found files of both queues are ready once what is missing was asked, and are these files then, with what is known of them; of these the tables are recovered, and what the rewrite queue is to be told
+-- the found files of both queues are ready once what is missing was asked, and are these files then, with what is known of them; of these the tables are recovered, what the rewrite queue is to be told at once, and what may be told later
 pub record AreReadFound (version : Version) (append rewrite : List NumberedBytes) (r : Reading) : Type 0 where
   pub append_left : List NumberedBytes
   pub rewrite_left : List NumberedBytes
@@ -38,15 +35,16 @@ pub record AreReadFound (version : Version) (append rewrite : List NumberedBytes
   pub append_of : AreOf append_left r.append
   pub rewrite_of : AreOf rewrite_left r.rewrite
   pub told : Batch
-  pub recovered : AreRecovered version append_left rewrite_left r.accessor told
+  pub recovered : AreRecovered version append_left rewrite_left r.accessor told r.untold
   pub writable : told.items ≢ [] → IsWritableBatch told
   pub made : r.told ≡ record told { stage = encoded }
   pub to_be_told : IsToBeTold r
   pub append_told : IsTailTold Append version append (tail_of r.append_missing)
   pub rewrite_told : IsTailTold Rewrite version rewrite (tail_of r.rewrite_missing)
 
--- the found files of both queues are ready once what is missing was asked, and are these files then, with what is known of them
-pub record AreReadyFiles (version : Version) (append rewrite append_left rewrite_left : List NumberedBytes) (r : Ready) : Type 0 where
+-- the found files of both queues can be made ready in a mode, are ready once what is missing was asked, and are these files then, with what is known of them
+pub record AreReadyFiles (mode : RecoveryMode) (version : Version) (append rewrite append_left rewrite_left : List NumberedBytes) (r : Ready) : Type 0 where
+  pub accepted : AreBothAccepted mode version append rewrite
   pub append_ready : AreReadyBy Append version (missing_asks Append r.append_missing) append append_left
   pub rewrite_ready : AreReadyBy Rewrite version (missing_asks Rewrite r.rewrite_missing) rewrite rewrite_left
   pub append_of : AreOf append_left r.append
@@ -54,8 +52,3 @@ pub record AreReadyFiles (version : Version) (append rewrite append_left rewrite
   pub room : r.rewrite.len < 2 ^ 63
   pub append_told : IsTailTold Append version append (tail_of r.append_missing)
   pub rewrite_told : IsTailTold Rewrite version rewrite (tail_of r.rewrite_missing)
-
--- the batches of the append files can't be read, or what the rewrite queue is to be told of them has 2^56 bytes or more
-abbrev pub IsUntellable : (List Event → Type 0) → Accessor → Error → Type 0
-IsUntellable Held accessor e =
-    NoneIsHeld Held ⊎ ((told : Batch) × IsToldAtOpening Held accessor.tables told × (2 ^ 56 ≤ encoded_length told.items told.entry_bytes) × (e ≡ errors.Full))

@@ -16,30 +16,30 @@ use Rattle.raft_history.specs.Batches.{Event}
 use Rattle.raft_history.specs.BothQueues.{IsReadingOfBoth}
 use Rattle.raft_history.specs.RegionSteps.{Tables}
 use Rattle.raft_accessor.specs.Accessor.{Accessor}
-use Rattle.raft_contexts.specs.RecoverContext.{RecoverContext}
 use Rattle.raft_files.specs.Asks.{Ask, Begin, NumberedBytes, acts_on, ask}
 use Rattle.raft_files.specs.Disk.{IsLeftOf, files_of}
 use Rattle.raft_files.specs.Places.{bytes_at}
 use Rattle.raft_replay.specs.Segments.{CannotBeRead, SegmentsHold}
-use Rattle.raft_recover.specs.Files.{FilesCannotBeRead, FilesHold, bytes_of_files}
+use Rattle.raft_recover.specs.Files.{FilesCannotBeRead, FilesHold, bytes_of_files, whole_file}
 use Rattle.raft_recover.specs.Recovery.{AreBothRecovered}
 use Rattle.raft_engine_laws.specs.Records.{Records, HaveRecords, live}
 use Rattle.raft_engine_fronts.specs.AnyTails.{IsUnforgedLeftOf}
 use Rattle.raft_engine_fronts.specs.Contents.{AreBothTold, AreTold, AreToldByFiles}
 use Rattle.raft_engine_fronts.specs.EntryPlaces.{FilesEndWithin}
 use Rattle.raft_engine_fronts.specs.Fronts.{IsFrontWith}
-use Rattle.raft_engine_fronts.specs.TornTails.{FilesHoldTorn}
+use Rattle.raft_engine_fronts.specs.TornTails.{FilesHoldTorn, FoundUndamaged, StopsAt}
 use Rattle.raft_engine.specs.BatchBytes.{event_at}
 use Rattle.raft_engine.specs.CutFiles.{AreCut}
-use Rattle.raft_engine.specs.FoundFiles.{AreAccepted, IsReady}
+use Rattle.raft_engine.specs.FoundFiles.{AreAccepted, IsLastRefused, IsReady}
 use Rattle.raft_engine.specs.KeptEngine.{KeptEngine, table_in}
 use Rattle.raft_engine.specs.Lasting.{AreSynced, HaveBothBegun, IsBegunOrFound, IsLasting, IsLastingAfter}
 use Rattle.raft_engine.specs.Opened.{IsOpened}
 use Rattle.raft_engine.specs.Opening.{AreInRows}
 use Rattle.raft_engine.specs.StoredFound.{found_asks}
-use Rattle.raft_engine.specs.ReadContexts.{AreUnmergedAs, HaveReadFound}
-use Rattle.raft_engine.specs.Unopened.{AreUnrecoveredAs, IsOpeningRefusal, MayRecover}
+use Rattle.raft_engine.specs.Unopened.{AreBothAccepted, AreUngroupedAs, AreUnrecoveredAs, IsOpeningRefusal, MayRecover}
 use Rattle.raft_engine.specs.WrittenBatch.{IsOneMore, file_of}
+use Rattle.raft_engine.specs.declared.recovery_mode.RecoveryMode.{RecoveryMode}
+use Rattle.raft_engine.specs.declared.recovery_mode.RecoveryMode.TheVariants.{AbsoluteConsistency, TolerateTailCorruption, TolerateTornTail}
 
 -- ---- files that are left, cut and read
 
@@ -50,10 +50,10 @@ pub record AreSegmentsOf (queue : LogQueue) (version : Version) (files : List Nu
   pub few : bytes_of_files cut < 2 ^ 63
   pub same : (h : List Event) → FilesHold queue version cut h ↔ SegmentsHold segments h
 
--- Nothing is refused in these files of a queue: they can be made ready, and once they are, or are cut where reading stops, and have
+-- Nothing is refused in these files of a queue: they can be made ready in a mode, and once they are, or are cut where reading stops, and have
 -- fewer than 2^63 bytes together, they can be read.
-pub record AreOpenable (queue : LogQueue) (version : Version) (files : List NumberedBytes) : Type 0 where
-  pub accepted : AreAccepted queue version files
+pub record AreOpenable (mode : RecoveryMode) (queue : LogQueue) (version : Version) (files : List NumberedBytes) : Type 0 where
+  pub accepted : AreAccepted mode queue version files
   pub readable : (asks later : List Ask) (ready : List NumberedBytes) → IsReady queue version asks later files ready → bytes_of_files ready < 2 ^ 63
       → ¬ (FilesCannotBeRead queue version ready)
   pub recoverable : (segments : List (Vec Part Global)) → AreSegmentsOf queue version files segments → ¬ (CannotBeRead segments)
@@ -62,18 +62,41 @@ pub record AreOpenable (queue : LogQueue) (version : Version) (files : List Numb
 abbrev pub HaveGroupsInRows : Version → List NumberedBytes → Type 0
 HaveGroupsInRows version files = (asks later : List Ask) (ready : List NumberedBytes) → IsReady Rewrite version asks later files ready → AreInRows (FilesHold Rewrite version ready)
 
--- an opening of these files of both queues, by so many workers as may recover them, is refused for want of memory alone, or of room
-abbrev pub OpeningsSucceed : Version → List NumberedBytes → List NumberedBytes → Type 0
-OpeningsSucceed version append rewrite =
-    (workers : ℕ) (e : Error) → MayRecover workers append rewrite → IsOpeningRefusal (AreUnrecoveredAs version workers) version append rewrite e
+-- an opening of these files of both queues in a mode, by so many workers as may recover them, is refused for want of memory alone, or of room
+abbrev pub OpeningsSucceed : RecoveryMode → Version → List NumberedBytes → List NumberedBytes → Type 0
+OpeningsSucceed mode version append rewrite =
+    (workers : ℕ) (e : Error) → MayRecover workers append rewrite → IsOpeningRefusal (AreUnrecoveredAs version workers) mode version append rewrite e
     → (e ≡ errors.Memory) ⊎ (e ≡ errors.Full)
 
 -- so is one over contexts that have read them
-abbrev pub OpeningsOverSucceed : Version → List NumberedBytes → List NumberedBytes → Type 0
-OpeningsOverSucceed version append rewrite =
-    (appended rewritten : RecoverContext) (e : Error) → HaveReadFound version append rewrite appended rewritten
-    → IsOpeningRefusal (AreUnmergedAs version appended rewritten) version append rewrite e
-    → (e ≡ errors.Memory) ⊎ (e ≡ errors.Full)
+abbrev pub OpeningsOverSucceed : RecoveryMode → Version → List NumberedBytes → List NumberedBytes → Type 0
+OpeningsOverSucceed mode version append rewrite =
+    (e : Error) → IsOpeningRefusal (AreUngroupedAs version) mode version append rewrite e → (e ≡ errors.Memory) ⊎ (e ≡ errors.Full)
+
+-- ---- what a mode refuses
+
+-- a mode refuses the tail of neither queue's last file
+abbrev pub AreTailsTolerated : RecoveryMode → Version → List NumberedBytes → List NumberedBytes → Type 0
+AreTailsTolerated mode version append rewrite = ¬ (IsLastRefused mode Append version append) × ¬ (IsLastRefused mode Rewrite version rewrite)
+
+-- no files that were found, of either queue, are damaged
+abbrev pub BothFoundUndamaged : Version → List Ask → Type 0
+BothFoundUndamaged version asks = FoundUndamaged Append version (acts_on Append asks) × FoundUndamaged Rewrite version (acts_on Rewrite asks)
+
+-- Each mode accepts what the one before it does: the one that refuses each tail, the one that refuses damage, and the one that
+-- refuses none; and of files of which the last ends with its batches none refuses the tail.
+pub record ModesAcceptMore (queue : LogQueue) (version : Version) (files : List NumberedBytes) : Type 0 where
+  pub torn : AreAccepted AbsoluteConsistency queue version files → AreAccepted TolerateTornTail queue version files
+  pub corrupted : AreAccepted TolerateTornTail queue version files → AreAccepted TolerateTailCorruption queue version files
+  pub none : ¬ (IsLastRefused TolerateTailCorruption queue version files)
+  pub whole : ((closed : List NumberedBytes) (last : NumberedBytes) → files ≡ closed ++ last ∷ [] → StopsAt (whole_file queue version last) (length last.1))
+      → (mode : RecoveryMode) → ¬ (IsLastRefused mode queue version files)
+
+-- the files that an engine found which was opened in the mode that refuses damage aren't damaged
+abbrev pub OpenedFoundUndamaged : Type 0
+OpenedFoundUndamaged =
+    (version : Version) (append rewrite : List NumberedBytes) (engine : KeptEngine) → IsOpened version append rewrite engine
+    → AreBothAccepted TolerateTornTail version append rewrite → BothFoundUndamaged version engine.asks
 
 -- ---- what a restart finds
 
@@ -94,16 +117,21 @@ OpenedHaveSynced content version base asks synced batches =
 
 -- What restarts find in the files that the machine leaves if it stops once all this was asked: in whatever is left, all of them
 -- the records of the same front of these batches, with the synced ones at least, and of what there was before them; and nothing
--- that is refused, so that it can be opened; if nothing is lost, the records of all batches. Contents that were told by what was asked of a queue are those
+-- that is refused, so that it can be opened in each mode that refuses no tail of it. The default mode refuses none where the files
+-- that were found aren't damaged. If nothing is lost, restarts find the records of all batches. Contents that were told by what was asked of a queue are those
 -- that its files have that are left, once they are cut where reading stops.
 pub record IsFoundByRestarts (content : EntryIndex → List ℕ) (version : Version) (base : ℕ → Records) (asks : List Ask) (synced batches : List Event) : Type 0 where
   pub left : (append rewrite : List NumberedBytes) → IsLeftOf Append asks append → IsLeftOf Rewrite asks rewrite
       → (standing : List Event) × IsFrontWith synced batches standing × RestartsFind version append rewrite (λ tables. HaveRecords content tables (live content base standing))
   pub opened_any : OpenedHaveSynced content version base asks synced batches
-  pub accepted : (append rewrite : List NumberedBytes) → IsLeftOf Append asks append → IsLeftOf Rewrite asks rewrite
-      → AreOpenable Append version append × AreOpenable Rewrite version rewrite × HaveGroupsInRows version rewrite
-  pub opens : (append rewrite : List NumberedBytes) → IsLeftOf Append asks append → IsLeftOf Rewrite asks rewrite → OpeningsSucceed version append rewrite
-  pub opens_over : (append rewrite : List NumberedBytes) → IsLeftOf Append asks append → IsLeftOf Rewrite asks rewrite → OpeningsOverSucceed version append rewrite
+  pub tolerated : BothFoundUndamaged version asks → (append rewrite : List NumberedBytes) → IsLeftOf Append asks append → IsLeftOf Rewrite asks rewrite
+      → AreTailsTolerated TolerateTornTail version append rewrite
+  pub accepted : (mode : RecoveryMode) (append rewrite : List NumberedBytes) → IsLeftOf Append asks append → IsLeftOf Rewrite asks rewrite → AreTailsTolerated mode version append rewrite
+      → AreOpenable mode Append version append × AreOpenable mode Rewrite version rewrite × HaveGroupsInRows version rewrite
+  pub opens : (mode : RecoveryMode) (append rewrite : List NumberedBytes) → IsLeftOf Append asks append → IsLeftOf Rewrite asks rewrite → AreTailsTolerated mode version append rewrite
+      → OpeningsSucceed mode version append rewrite
+  pub opens_over : (mode : RecoveryMode) (append rewrite : List NumberedBytes) → IsLeftOf Append asks append → IsLeftOf Rewrite asks rewrite → AreTailsTolerated mode version append rewrite
+      → OpeningsOverSucceed mode version append rewrite
   pub whole : RestartsFind version (files_of Append asks) (files_of Rewrite asks) (λ tables. HaveRecords content tables (live content base batches))
   pub told : (queue : LogQueue) → AreTold queue (acts_on queue asks) content → (files cut : List NumberedBytes) → IsLeftOf queue asks files → AreCut queue version files cut
       → AreToldByFiles queue cut content

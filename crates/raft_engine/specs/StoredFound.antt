@@ -2,6 +2,7 @@
 use Rattle.std.specs.Prelude.{◌≡◌, ℕ, List, [], ◌∷◌, ◌++◌}
 use Rattle.raft_base.specs.declared.pipe_log.LogQueue.TheVariants.{Append, Rewrite}
 use Rattle.raft_base.specs.declared.pipe_log.Version.{Version}
+use Rattle.raft_records.specs.Item.{Item}
 use Rattle.raft_records.specs.LogBatch.{Batch}
 use Rattle.raft_history.specs.Batches.{Event}
 use Rattle.raft_history.specs.RegionSteps.{Tables}
@@ -42,20 +43,20 @@ FoundFilesAreReady =
     → AreReady version append rewrite append_left rewrite_left asks → FilesHold Append version append_left appended → FilesHold Rewrite version rewrite_left rewritten
     → AreMadeReady version append rewrite append_left rewrite_left asks appended rewritten
 
--- these tables are stored, beside some records that there were before, and nothing is untold
-abbrev pub AreStoredAlone : Version → List Ask → Tables → Type 0
-AreStoredAlone version asks tables = (base : Bases) × AreKeptStored version asks base [] tables
+-- these tables are stored, beside some records that there were before, and these items are untold
+abbrev pub AreStoredBeside : Version → List Ask → List Item → Tables → Type 0
+AreStoredBeside version asks untold tables = (base : Bases) × AreKeptStored version asks base untold tables
 
 -- a batch is put behind those of a rewrite file, and the rewrite queue is synced
 abbrev pub told_asks : Version → ℕ → Batch → List Ask → List Ask
 told_asks version seq told asks =
     ask Rewrite Sync ∷ ask Rewrite (Put (bytes_for (record { id = record { queue = Rewrite; seq = seq }; version = version }) told)) ∷ asks
 
--- the tables that a recovery gives of found files are stored by these at once, if the rewrite queue is to be told nothing, or else once it is told
+-- the tables that a recovery gives of found files are stored by these at once, if the rewrite queue is to be told nothing at once, or else once it is told
 abbrev pub FoundFilesAreStored : Type 0
 FoundFilesAreStored =
-    (version : Version) (asks : List Ask) (append rewrite append_left rewrite_left : List NumberedBytes) (accessor : Accessor) (told : Batch)
-    → AreReady version append rewrite append_left rewrite_left asks → AreRecovered version append_left rewrite_left accessor told
-    → (told.items ≡ [] → AreStoredAlone version asks accessor.tables)
+    (version : Version) (asks : List Ask) (append rewrite append_left rewrite_left : List NumberedBytes) (accessor : Accessor) (told untold : Batch)
+    → AreReady version append rewrite append_left rewrite_left asks → AreRecovered version append_left rewrite_left accessor told untold
+    → (told.items ≡ [] → AreStoredBeside version asks untold.items accessor.tables)
     × ((closed : List NumberedBytes) (seq : ℕ) (bytes : List ℕ) → rewrite_left ≡ closed ++ (seq, bytes) ∷ [] → IsWritableBatch told
-    → AreStoredAlone version (told_asks version seq told asks) accessor.tables)
+    → AreStoredBeside version (told_asks version seq told asks) untold.items accessor.tables)

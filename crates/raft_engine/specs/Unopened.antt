@@ -19,12 +19,13 @@ use Rattle.raft_engine.specs.Opening.{AreRecovered}
 use Rattle.raft_engine.specs.OpeningAsks.{AreWanted, Failures, FailsAmong}
 use Rattle.raft_engine.specs.Stored.{Bases}
 use Rattle.raft_engine.specs.StoredFound.{found_asks}
+use Rattle.raft_engine.specs.declared.recovery_mode.RecoveryMode.{RecoveryMode}
 
 -- ---- why
 
--- the found files of both queues can be made ready
-abbrev pub AreBothAccepted : Version → List NumberedBytes → List NumberedBytes → Type 0
-AreBothAccepted version append rewrite = AreAccepted Append version append × AreAccepted Rewrite version rewrite
+-- the found files of both queues can be made ready in a mode
+abbrev pub AreBothAccepted : RecoveryMode → Version → List NumberedBytes → List NumberedBytes → Type 0
+AreBothAccepted mode version append rewrite = AreAccepted mode Append version append × AreAccepted mode Rewrite version rewrite
 
 -- so many workers may recover these files
 abbrev pub MayRecover : ℕ → List NumberedBytes → List NumberedBytes → Type 0
@@ -48,24 +49,30 @@ pub record AreUnreadableAs (version : Version) (workers : ℕ) (append rewrite :
   pub stops : MayRecover workers append rewrite → StopsInFiles Append version append e ⊎ StopsInFiles Rewrite version rewrite e
   pub fault : ¬ (MayRecover workers append rewrite) → IsInvalidArgument e
 
+-- in the rewrite files a group doesn't stand in a row
+abbrev pub AreUngroupedAs : Version → Refusal
+AreUngroupedAs version append rewrite e = AreOutOfRows (FilesHold Rewrite version rewrite) e
+
 -- these can't be read, or in the rewrite files a group doesn't stand in a row
 abbrev pub AreUnrecoveredAs : Version → ℕ → Refusal
-AreUnrecoveredAs version workers append rewrite e = AreUnreadableAs version workers append rewrite e ⊎ AreOutOfRows (FilesHold Rewrite version rewrite) e
+AreUnrecoveredAs version workers append rewrite e = AreUnreadableAs version workers append rewrite e ⊎ AreUngroupedAs version append rewrite e
 
 -- why no tables are recovered of files that are ready: those of a queue have 2^63 bytes or more, or a recovery refuses them
 abbrev pub IsRecoveryFault : Refusal → List NumberedBytes → List NumberedBytes → Error → Type 0
 IsRecoveryFault IsRefused append rewrite e = AreManyAs append e ⊎ AreManyAs rewrite e ⊎ IsRefused append rewrite e
 
--- what the rewrite queue is to be told has 2^56 bytes or more
+-- what the rewrite queue is to be told at once has 2^56 bytes or more
 pub record IsTooLongAs (version : Version) (append rewrite : List NumberedBytes) (e : Error) : Type 0 where
   pub accessor : Accessor
   pub told : Batch
-  pub recovered : AreRecovered version append rewrite accessor told
+  pub untold : Batch
+  pub recovered : AreRecovered version append rewrite accessor told untold
   pub long : 2 ^ 56 ≤ encoded_length told.items told.entry_bytes
   pub full : e ≡ errors.Full
 
--- once the found files of both queues are ready, no tables are recovered of them, or there is too much to tell
-pub record IsReadingFault (IsRefused : Refusal) (version : Version) (append rewrite : List NumberedBytes) (e : Error) : Type 0 where
+-- the found files of both queues can be made ready in a mode, but once they are, no tables are recovered of them, or there is too much to tell
+pub record IsReadingFault (IsRefused : Refusal) (mode : RecoveryMode) (version : Version) (append rewrite : List NumberedBytes) (e : Error) : Type 0 where
+  pub accepted : AreBothAccepted mode version append rewrite
   pub append_missing : List Ask
   pub rewrite_missing : List Ask
   pub append_left : List NumberedBytes
@@ -75,9 +82,10 @@ pub record IsReadingFault (IsRefused : Refusal) (version : Version) (append rewr
   pub fault : IsRecoveryFault IsRefused append_left rewrite_left e ⊎ IsTooLongAs version append_left rewrite_left e
 
 -- why nothing is asked of found files: those of a queue can't be made ready, or there is a fault of their reading; or there is no memory
-abbrev pub IsOpeningRefusal : Refusal → Version → List NumberedBytes → List NumberedBytes → Error → Type 0
-IsOpeningRefusal IsRefused version append rewrite e =
-    e ≢ errors.Memory → IsFoundFault Append version append e ⊎ IsFoundFault Rewrite version rewrite e ⊎ IsReadingFault IsRefused version append rewrite e
+abbrev pub IsOpeningRefusal : Refusal → RecoveryMode → Version → List NumberedBytes → List NumberedBytes → Error → Type 0
+IsOpeningRefusal IsRefused mode version append rewrite e =
+    e ≢ errors.Memory
+    → IsFoundFault mode Append version append e ⊎ IsFoundFault mode Rewrite version rewrite e ⊎ IsReadingFault IsRefused mode version append rewrite e
 
 -- ---- what lasts
 
@@ -85,13 +93,15 @@ IsOpeningRefusal IsRefused version append rewrite e =
 -- of the files, now and at each moment since they were found, has the same records.
 pub record IsHalfOpened (MayFail : Failures) (version : Version) (append rewrite : List NumberedBytes) (asks : List Ask) (e : Error) : Type 0 where
   pub accessor : Accessor
+  pub untold : Batch
   pub wanted : List Ask
-  pub are_wanted : AreWanted version append rewrite accessor wanted
+  pub are_wanted : AreWanted version append rewrite accessor untold wanted
   pub failed : FailsAmong MayFail wanted (found_asks append rewrite) asks e
   pub records : Bases
   pub ever : HaveEverRecords version asks records
 
--- nothing was asked of the found files, for one of these reasons; or they are half opened
-abbrev pub IsUnopened : Refusal → Failures → Version → List NumberedBytes → List NumberedBytes → List Ask → Error → Type 0
-IsUnopened IsRefused MayFail version append rewrite asks e =
-    ((asks ≡ found_asks append rewrite) × IsOpeningRefusal IsRefused version append rewrite e) ⊎ IsHalfOpened MayFail version append rewrite asks e
+-- nothing was asked of the found files, for one of these reasons; or they can be made ready in the mode, and are half opened
+abbrev pub IsUnopened : Refusal → Failures → RecoveryMode → Version → List NumberedBytes → List NumberedBytes → List Ask → Error → Type 0
+IsUnopened IsRefused MayFail mode version append rewrite asks e =
+    ((asks ≡ found_asks append rewrite) × IsOpeningRefusal IsRefused mode version append rewrite e)
+    ⊎ (AreBothAccepted mode version append rewrite × IsHalfOpened MayFail version append rewrite asks e)

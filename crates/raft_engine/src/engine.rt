@@ -21,6 +21,7 @@ ghost use Rattle.raft_engine.specs.Opened.{IsOpened};
 ghost use Rattle.raft_engine.specs.ReadFound.{AreReadFound, IsToBeTold};
 ghost use Rattle.raft_engine.specs.StoredFound.{found_asks};
 ghost use Rattle.raft_engine.specs.Unopened.{AreBothAccepted, AreUnrecoveredAs, IsHalfOpened, IsUnopened};
+ghost use Rattle.raft_engine.specs.declared.recovery_mode.RecoveryMode.TheVariants.{TolerateTornTail};
 ghost use Rattle.raft_engine.specs.Purged.{ArePurged, IsUnpurged};
 ghost use Rattle.raft_engine.specs.WrittenBatch.{IsNextRefused, IsOneMore, IsOnlySynced, IsRotated, IsUnrotated, IsUnwritten, LacksRoom};
 
@@ -31,6 +32,7 @@ use crate::queue_files::QueueFiles;
 use crate::read_back::batches_are_read_back;
 use crate::reading::{Reading, read_found};
 use crate::recovered::Recovered;
+use crate::recovery_mode::RecoveryMode;
 use crate::stored::{asks_are_stored, what_is_done_lasts};
 use crate::stored_found::found_files_are_stored;
 use crate::unopened::{Opened, Unopened};
@@ -128,8 +130,10 @@ impl<F: EngineFiles> Engine<F> {
 
     /// Opens the files that a stop of the machine left, whoever wrote them: those of each queue, oldest first. The tables are
     /// those that `recover_both` gives of the files, with so many workers. Once all is read, what is missing of the files is
-    /// asked: a first file of a queue without one, and the cut of a torn tail of a queue's last file. Then the rewrite queue is
-    /// told at once what the append files take away, and, as a compaction, what lies in front of the entries that were found.
+    /// asked: a first file of a queue without one, and the cut of a torn tail of a queue's last file. What the append files take
+    /// away of the rewritten tables stays untold, and the rewrite queue is told it as what a write takes away. It is told at once
+    /// of a region whose rewritten entries, those that stay, lie in front of the appended ones and don't join them: in files that
+    /// engines wrote there is none.
     ///
     /// # Errors
     ///
@@ -141,7 +145,7 @@ impl<F: EngineFiles> Engine<F> {
     /// `Corruption` with the file and the offset in front of its text, `Codec` or `Io`. `InvalidArgument` where a batch of the
     /// rewrite files goes on with an atomic group, or ends it, and doesn't stand right behind one that begins the group or goes
     /// on with it, in the same file; and for another number of workers than 1 to 256. `Full` where the files of a queue have
-    /// 2^63 bytes or more, or what is told has 2^56 bytes or more. `Memory`.
+    /// 2^63 bytes or more, or what is told at once has 2^56 bytes or more. `Memory`.
     ///
     /// Those of `EngineFiles`: some of it was asked then, and whatever is left of the files has the records that were found. They
     /// may be found again, and opened.
@@ -159,26 +163,37 @@ impl<F: EngineFiles> Engine<F> {
             ≡ found_asks (map file_shown append.items) (map file_shown rewrite.items) }
         ensures ok { IfOk result (IsOpened version (map file_shown append.items)
             (map file_shown rewrite.items)) }
-        ensures accepted { OnOk result (AreBothAccepted version (map file_shown append.items)
+        ensures accepted { OnOk result (AreBothAccepted TolerateTornTail version (map file_shown append.items)
             (map file_shown rewrite.items)) }
-        ensures err { IfErr result (λ unopened. IsUnopened (AreUnrecoveredAs version workers) F.may_fail version
+        ensures err { IfErr result (λ unopened. IsUnopened (AreUnrecoveredAs version workers) F.may_fail TolerateTornTail version
             (map file_shown append.items) (map file_shown rewrite.items) (F.asked unopened.files) unopened.error) }
     {
-        match Engine::open_telling(rt, alloc, version, files, append, rewrite, workers) {
+        match Engine::open_telling(
+            rt,
+            alloc,
+            RecoveryMode::TolerateTornTail,
+            version,
+            files,
+            append,
+            rewrite,
+            workers,
+        ) {
             Ok(opened) => Ok(opened.engine),
             Err(unopened) => Err(unopened),
         }
     }
 
-    /// Opens the files that a stop of the machine left, as [`Engine::open`] does, and tells what was cut off from them: of each
-    /// queue's last file the torn tail, with the reason why no batch can be read there.
+    /// Opens the files that a stop of the machine left in a mode, and tells what was cut off from them: of each queue's last file
+    /// the tail, with the reason why no batch can be read there. In the mode `TolerateTornTail` it does what [`Engine::open`] does.
     ///
     /// # Errors
     ///
-    /// Those of [`Engine::open`].
+    /// Those of [`Engine::open`], but that a queue's last file which can't be read to its end is always refused in the mode
+    /// `AbsoluteConsistency`, and never for that in the mode `TolerateTailCorruption`.
     pub fn open_telling<R: Threads + Sync>(
         rt: &R,
         alloc: Global,
+        mode: RecoveryMode,
         version: Version,
         files: F,
         append: Vec<(FileSeq, Vec<u8>)>,
@@ -192,13 +207,13 @@ impl<F: EngineFiles> Engine<F> {
             (map file_shown rewrite.items) opened.engine) }
         ensures recovered { IfOk result (λ opened. IsRecoveredOf version (map file_shown append.items)
             (map file_shown rewrite.items) opened.recovered) }
-        ensures accepted { OnOk result (AreBothAccepted version (map file_shown append.items)
+        ensures accepted { OnOk result (AreBothAccepted mode version (map file_shown append.items)
             (map file_shown rewrite.items)) }
-        ensures err { IfErr result (λ unopened. IsUnopened (AreUnrecoveredAs version workers) F.may_fail version
+        ensures err { IfErr result (λ unopened. IsUnopened (AreUnrecoveredAs version workers) F.may_fail mode version
             (map file_shown append.items) (map file_shown rewrite.items) (F.asked unopened.files) unopened.error) }
     {
-        match read_found(rt, alloc, version, append, rewrite, workers) {
-            Ok(reading) => Engine::of_reading(alloc, version, files, reading),
+        match read_found(rt, alloc, mode, version, append, rewrite, workers) {
+            Ok(reading) => Engine::of_reading(version, files, reading),
             Err(error) => Err(Unopened { files, error }),
         }
     }
@@ -210,7 +225,6 @@ impl<F: EngineFiles> Engine<F> {
     /// The files are handed back. Those of `EngineFiles`: some of it was asked then, and whatever is left of the files has the
     /// records that were found.
     fn of_reading(
-        alloc: Global,
         version: Version,
         files: F,
         reading: Reading,
@@ -242,7 +256,7 @@ impl<F: EngineFiles> Engine<F> {
                     version,
                     append: reading.append,
                     rewrite: reading.rewrite,
-                    untold: LogBatch::default(alloc),
+                    untold: reading.untold,
                     accessor: reading.accessor,
                     intact: true,
                 };

@@ -7,13 +7,14 @@ ghost use Rattle.raft_engine_fronts.specs.Done.{AreConsecutive, numbers};
 ghost use Rattle.raft_files.specs.Disk.{cut_last};
 ghost use Rattle.raft_recover.specs.Files.{whole_file};
 ghost use Rattle.raft_engine.specs.CutTails.{IsTailTold, IsTornAs, tail_of};
-ghost use Rattle.raft_engine.specs.FoundFiles.{AreAccepted, AreApartAs, AreReadyBy, BeginsInOther, IsApartAs, IsDamageText, IsDamaged, IsDamagedAs, IsFoundFault, IsOfOther, IsOtherAs, elsewhere_text, followed_text, missing_text, other_version};
+ghost use Rattle.raft_engine.specs.FoundFiles.{AreAccepted, AreApartAs, AreReadyBy, BeginsInOther, IsApartAs, IsDamageText, IsFoundFault, IsOfOther, IsOtherAs, IsRefusalText, IsRefusedAt, IsTailRefused, IsTailRefusedAs, elsewhere_text, followed_text, missing_text, other_version, uncut_text};
 ghost use Rattle.raft_engine.specs.OpeningAsks.{missing_asks};
 ghost use Rattle.raft_engine_fronts.specs.TornTails.{IsDamagedAt};
 
 use crate::limits::FIRST_SEQ;
 use crate::missing::Missing;
 use crate::recovered::CutTail;
+use crate::recovery_mode::RecoveryMode;
 use raft_base::{Error, FileId, FileSeq, LogFileContext, LogQueue, Result, Version};
 use raft_records::{FilePart, next_in, readable_front};
 use raft_replay::segment::{corruption_at, queue_name};
@@ -23,18 +24,23 @@ use std::alloc::Global;
 /// Why files are refused whose numbers don't rise.
 const NOT_ABOVE: &str = "a file number isn't above the one before it";
 
+/// Why a file is refused of which nothing may be cut off.
+const UNCUT: &str = "no batch can be read there, and nothing may be cut off";
+
 /// Why a file is refused whose first batch can be read in the other version alone.
 const OF_OTHER_VERSION: &str = "a batch of the other version stands there";
 
 /// Returns what is missing of a queue's found files before anything can be put behind them, and makes the files those that
-/// are there once it was asked: a first one, if there is none; the last one without its torn tail, if it has one.
+/// are there once it was asked: a first one, if there is none; the last one without the tail that can't be read, if it has one.
 ///
 /// # Errors
 ///
-/// `Corruption` where the number of a file isn't one above that of the file before it; where the last file is damaged: where
-/// its reading stops, what is left isn't part of one batch, and a batch that can be read stands behind, or one that is signed
-/// for another file; and where the last file is of the other version: its first batch can be read in that one alone. `Memory`.
+/// `Corruption` where the number of a file isn't one above that of the file before it; where the mode refuses the tail of the
+/// last file: any; one in which damage begins, as what is left isn't part of one batch, and a batch that can be read stands
+/// behind, or one that is signed for another file; or none; and where the last file is of the other version: its first batch
+/// can be read in that one alone. `Memory`.
 pub fn made_ready(
+    mode: RecoveryMode,
     queue: LogQueue,
     version: Version,
     found: &mut Vec<(FileSeq, Vec<u8>)>,
@@ -43,15 +49,15 @@ pub fn made_ready(
         (map file_shown found.old.items) (map file_shown found.new.items)) }
     ensures told { IfOk result (λ missing. IsTailTold queue version (map file_shown found.old.items) (tail_of missing)) }
     ensures some { OnOk result (0 < length found.new.items) }
-    ensures accepted { OnOk result (AreAccepted queue version (map file_shown found.old.items)) }
+    ensures accepted { OnOk result (AreAccepted mode queue version (map file_shown found.old.items)) }
     ensures fault { IfErr result (λ e. e ≢ Error.Memory
-        → IsFoundFault queue version (map file_shown found.old.items) e) }
+        → IsFoundFault mode queue version (map file_shown found.old.items) e) }
 {
     check_numbers(queue, found)?;
     let Some(last) = found.last() else {
         return begin_first(found);
     };
-    match torn_tail(queue, version, last)? {
+    match torn_tail(mode, queue, version, last)? {
         None => Ok(Missing::Nothing),
         Some(tail) => {
             cut_last(found, tail.offset as usize);
@@ -142,55 +148,81 @@ fn cut_last(found: &mut Vec<(FileSeq, Vec<u8>)>, at: usize)
     }
 }
 
-/// Returns the torn tail of a file, if it has one.
+/// Returns the tail of a file that can't be read, if it has one.
 ///
 /// # Errors
 ///
-/// `Corruption` where the file is damaged or of the other version, `Memory`.
+/// `Corruption` where the mode refuses the tail, or the file is of the other version; `Memory`.
 fn torn_tail(
+    mode: RecoveryMode,
     queue: LogQueue,
     version: Version,
     file: &(FileSeq, Vec<u8>),
 ) -> Result<Option<CutTail>>
     ensures ok { IfOk result (IsTornAs (whole_file queue version (file_shown file.now))) }
-    ensures undamaged { OnOk result (¬ (IsDamaged (whole_file queue version (file_shown file.now)))) }
+    ensures tolerated { OnOk result (¬ (IsTailRefused mode (whole_file queue version (file_shown file.now)))) }
     ensures of_version { OnOk result (¬ (IsOfOther (whole_file queue version (file_shown file.now)))) }
     ensures refused { IfErr result (λ e. e ≢ Error.Memory
-        → IsDamagedAs (whole_file queue version (file_shown file.now)) e
+        → IsTailRefusedAs mode (whole_file queue version (file_shown file.now)) e
         ⊎ IsOtherAs (whole_file queue version (file_shown file.now)) e) }
 {
     let bytes = Vec::from_slice(*file.1.allocator(), &file.1)?;
     let part = FilePart::new(FileId::new(queue, file.0), version, 0, bytes)?;
-    torn_from(&part)
+    torn_from(mode, &part)
 }
 
 /// Returns what is to be cut off from a file, if it doesn't end with its batches.
 ///
 /// # Errors
 ///
-/// `Corruption` where it is damaged or of the other version, `Memory`.
-fn torn_from(file: &FilePart) -> Result<Option<CutTail>>
+/// `Corruption` where the mode refuses that tail, or the file is of the other version; `Memory`.
+fn torn_from(mode: RecoveryMode, file: &FilePart) -> Result<Option<CutTail>>
     ensures ok { IfOk result (IsTornAs file.now) }
-    ensures undamaged { OnOk result (¬ (IsDamaged file.now)) }
+    ensures tolerated { OnOk result (¬ (IsTailRefused mode file.now)) }
     ensures of_version { OnOk result (¬ (IsOfOther file.now)) }
     ensures refused { IfErr result (λ e. e ≢ Error.Memory
-        → IsDamagedAs file.now e ⊎ IsOtherAs file.now e) }
+        → IsTailRefusedAs mode file.now e ⊎ IsOtherAs file.now e) }
 {
     let (at, stopped) = readable_front(file);
     let Some(error) = stopped else {
         return Ok(None);
     };
     unless_memory(&error)?;
-    check_undamaged(file, at)?;
     if at == 0 && begins_in_other(file)? {
         return Err(corruption_at(file.allocator(), file.id(), 0, OF_OTHER_VERSION));
     }
+    check_tolerated(mode, file, at)?;
     Ok(Some(CutTail {
         file: file.id().seq,
         offset: at as u64,
         len: (file.bytes().len() - at) as u64,
         error,
     }))
+}
+
+/// Refuses the tail of a file where a mode does, from the byte on at which its reading stops.
+///
+/// # Errors
+///
+/// `Corruption`, which names the place; `Memory`.
+fn check_tolerated(mode: RecoveryMode, file: &FilePart, at: usize) -> Result<()>
+    requires { at < length file.now.bytes }
+    ensures ok { OnOk result (¬ (IsRefusedAt mode file.now at)) }
+    ensures refused { IfErr result (λ e. e ≢ Error.Memory
+        → IsRefusedAt mode file.now at × IsRefusalText mode file.now at e) }
+{
+    match mode {
+        RecoveryMode::AbsoluteConsistency => Err(uncut(file, at)),
+        RecoveryMode::TolerateTornTail => check_undamaged(file, at),
+        RecoveryMode::TolerateTailCorruption => Ok(()),
+    }
+}
+
+/// Returns the refusal of a file of which nothing may be cut off.
+fn uncut(file: &FilePart, at: usize) -> Error
+    ensures { IsCorruption (uncut_text file.now.id at) result }
+{
+    corruption_at(file.allocator(), file.id(), at as u64, UNCUT)
 }
 
 /// Refuses a file in which damage begins where its reading stops: what stands from there on isn't all that is left of one

@@ -24,7 +24,7 @@ mod queue_files;
 mod read_back;
 mod reading;
 mod recovered;
-mod removals;
+mod recovery_mode;
 pub mod restarts;
 #[doc(hidden)]
 pub mod rewriting;
@@ -36,4 +36,5 @@ mod untold;
 
 pub use engine::Engine;
 pub use recovered::{CutTail, Recovered};
+pub use recovery_mode::RecoveryMode;
 pub use unopened::{Opened, Unopened};

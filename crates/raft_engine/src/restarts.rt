@@ -2,13 +2,14 @@
 
 ghost use Rattle.std.specs.Prelude.{ℕ, List};
 ghost use Rattle.raft_base.specs.declared.entry_index.EntryIndex.{EntryIndex};
+ghost use Rattle.raft_base.specs.declared.pipe_log.LogQueue.{LogQueue};
 ghost use Rattle.raft_base.specs.declared.pipe_log.Version.{Version};
-ghost use Rattle.raft_files.specs.Asks.{Ask};
+ghost use Rattle.raft_files.specs.Asks.{Ask, NumberedBytes};
 ghost use Rattle.raft_engine_laws.specs.Records.{Records};
 ghost use Rattle.raft_engine_fronts.specs.Contents.{AreBothTold};
 ghost use Rattle.raft_engine.specs.KeptEngine.{KeptEngine};
 ghost use Rattle.raft_engine.specs.Lasting.{IsLasting, IsLastingAfter};
-ghost use Rattle.raft_engine.specs.Restarts.{AreFromBefore, FoundContentsStay, FoundEntriesStay, IsFoundByRestarts, IsKeptByRestarts, IsKeptUnordered, SyncedBatchesLast};
+ghost use Rattle.raft_engine.specs.Restarts.{AreFromBefore, FoundContentsStay, FoundEntriesStay, IsFoundByRestarts, IsKeptByRestarts, IsKeptUnordered, ModesAcceptMore, OpenedFoundUndamaged, SyncedBatchesLast};
 
 use crate::engine::Engine;
 use crate::stored_found::found_files_are_stored;
@@ -19,9 +20,9 @@ use raft_recover::files_hold_few_records;
 
 /// States that restarts find what lasts, whatever files the machine leaves if it stops: every engine that is opened over them
 /// and every recovery of both queues has the records of a front of the batches that were written, with the synced ones at
-/// least, and of what there was before them; the files are neither damaged nor unreadable, nor of the other version, and
-/// each group stands in a row; `recover_both` refuses them for want of memory alone; and where nothing is lost, what is found has
-/// the records of all batches.
+/// least, and of what there was before them; where the files that were found aren't damaged, these aren't either; they are
+/// neither unreadable nor of the other version, each group stands in a row, and a mode that refuses no tail of them opens them;
+/// `recover_both` refuses them for want of memory alone; and where nothing is lost, what is found has the records of all batches.
 pub fn restarts_find_what_lasts()
     ensures { (content : EntryIndex → List ℕ) (version : Version) (base : ℕ → Records) (asks : List Ask)
         (lasting : IsLastingAfter content version base asks)
@@ -30,6 +31,19 @@ pub fn restarts_find_what_lasts()
     torn_tails_are_found();
     files_hold_few_records();
 }
+
+/// States that each recovery mode accepts what the one before it does, from `AbsoluteConsistency` over `TolerateTornTail` to
+/// `TolerateTailCorruption`, which refuses no tail; and that none refuses the tail of files of which the last ends with its
+/// batches. This is a law: it computes nothing.
+pub fn modes_accept_more()
+    ensures { (queue : LogQueue) (version : Version) (files : List NumberedBytes) → ModesAcceptMore queue version files }
+{}
+
+/// States that the files which an engine found that was opened, and that can be made ready in the mode `TolerateTornTail`, as
+/// `open` makes sure, aren't damaged. This is a law: it computes nothing.
+pub fn accepted_files_are_undamaged()
+    ensures { OpenedFoundUndamaged }
+{}
 
 /// States which records there were before the batches that are known of an engine: none where it began its first files, and
 /// what was found where it was opened; one of both is so.
@@ -69,8 +83,10 @@ impl<F: EngineFiles> Engine<F> {
     /// States what is found again, whenever the machine stops or stopped, in the midst of a call too. An engine that is opened
     /// over the files that are left, and a recovery of both queues of them, has the records of all batches that were synced
     /// by then, and of a front of those since, and no others. It has those of an intact engine if all was synced, or if
-    /// nothing is lost. The files are neither damaged nor unreadable, where those of a queue have fewer than 2^63 bytes:
-    /// `recover_both` refuses them for want of memory alone, `open` and `open_over` for this, for want of room, or once the files fail. The
+    /// nothing is lost. The files can be read, where those of a queue have fewer than 2^63 bytes, and aren't damaged, where those
+    /// that the engine was opened over weren't, as `open` makes sure: `recover_both` refuses them for want of memory alone, `open`
+    /// and `open_over` for this, for want of room, or once the files fail. Where the engine was opened over damaged files, so it is of
+    /// openings in the mode `TolerateTailCorruption`, and of those in the default mode as soon as what is left isn't damaged. The
     /// contents of entries are any that are told by what was asked, and the files that are left have these. This is a law: it
     /// computes nothing.
     pub fn what_is_left_is_opened(&self)

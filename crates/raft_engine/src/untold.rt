@@ -3,15 +3,14 @@
 ghost use Rattle.std.specs.Prelude.{◌≡◌, [], ◌∷◌, ◌++◌, IfErr, IfOk, OnOk, map};
 ghost use Rattle.std.specs.FinMap as finite;
 ghost use Rattle.raft_base.specs.Runs.{end_of};
-ghost use Rattle.raft_records.specs.Item.{entries_item, item_of};
+ghost use Rattle.raft_records.specs.Item.{entries_item, item_of, pair, pair_of};
 ghost use Rattle.raft_records.specs.LogBatch.{empty_batch, is_open};
 ghost use Rattle.raft_table.specs.Steps.{table_of};
-ghost use Rattle.raft_engine_laws.specs.Telling.{taking_items, told_items};
+ghost use Rattle.raft_engine_laws.specs.Telling.{taking_items, told_items, told_of};
 
-use crate::removals::tell_pair;
 use raft_accessor::MemTableAccessor;
 use raft_base::{EntryIndex, Error, Result};
-use raft_records::{Command, LogBatch, LogItem, LogItemContent};
+use raft_records::{Command, KeyValue, LogBatch, LogItem, LogItemContent, OpType};
 use std::alloc::Global;
 
 /// Returns what items take away of the tables that they are written to, as a batch that tells it: each command, each
@@ -91,5 +90,24 @@ fn end_in(accessor: &MemTableAccessor, region: u64) -> u64
     match accessor.get(region) {
         Some(table) => table.end(),
         None => 0,
+    }
+}
+
+/// Adds the deletion of a key to a batch, if it is one.
+///
+/// # Errors
+///
+/// `Memory`.
+fn tell_pair(region: u64, change: &KeyValue, told: &mut LogBatch) -> Result<()>
+    requires { told.old.stage ≡ is_open }
+    ensures ok { OnOk result (told.new ≡ record told.old {
+      items = told.old.items
+          ++ told_of region (pair (pair_of change.now));
+    }) }
+    ensures memory { IfErr result (λ e. e ≡ Error.Memory) }
+{
+    match change.op_type {
+        OpType::Put => Ok(()),
+        OpType::Del => told.delete(region, change.key.clone()?),
     }
 }

@@ -21,6 +21,7 @@ use Rattle.raft_engine_fronts.specs.TornTails.{FilesHoldTorn, StopsAt}
 use Rattle.raft_engine_fronts.proofs.TornLemmas.{whole_torn}
 use Rattle.raft_engine_fronts.specs.Done.{numbers, AreRisingFrom, AreConsecutive, Follows, AreBelow, AreDone, AreDoneWhole, WrittenBatchIsDone, LastFileIsNext}
 use Rattle.raft_engine_fronts.proofs.StepLemmas as steps
+use Rattle.raft_engine_fronts.proofs.UndamagedLemmas.{begin_undamaged, cut_undamaged, delete_undamaged, found_undamaged, nothing_damaged, put_is_undamaged, read_undamaged, sync_undamaged}
 use Rattle.raft_engine_fronts.proofs.NumberLemmas.{numbers_on_last, numbers_more, rising_last, rising_more, consecutive_more, follows_next, below_more, below_none, below_oldest, below_next, below_last}
 use Rattle.raft_engine_fronts.proofs.EventLemmas.{all_synced, last_low, low_all, files_up_to}
 
@@ -46,6 +47,7 @@ module _ (queue : LogQueue) (version : Version) where
       stays = omega arith;
       gone = tt;
       synced_gone = tt;
+      undamaged = nothing_damaged queue version;
     };
     whole = from_none 0;
   }
@@ -68,6 +70,7 @@ module _ (queue : LogQueue) (version : Version) where
             stays = d.stays;
             gone = d.gone;
             synced_gone = d.gone;
+            undamaged = sync_undamaged queue version acts d.undamaged;
           };
           whole = w.whole;
         }
@@ -94,6 +97,7 @@ module _ (queue : LogQueue) (version : Version) where
             gone = subst (AreBelow (deleted deeds) (deletions acts)) same (below_more (deleted deeds) (deletions acts) seq (numbers (begun acts)) d.gone (omega (arith, stays, long)) up);
             synced_gone = subst (AreBelow (synced_deleted deeds) (synced_deletions acts)) same
                 (below_more (synced_deleted deeds) (synced_deletions acts) seq (numbers (begun acts)) d.synced_gone (omega (arith, stays, long, few)) (omega (arith, low, up)));
+            undamaged = begin_undamaged queue version acts d.undamaged seq;
           };
           whole = put.whole;
         }
@@ -121,6 +125,7 @@ module _ (queue : LogQueue) (version : Version) where
             gone = subst (λ (m : ℕ). AreBelow m (suc (deletions acts)) (numbers (begun acts))) most
                 (subst (λ (c : ℕ). AreBelow n (suc c) (numbers (begun acts))) (sym count) (subst (AreBelow n (suc (length (numbers gone)))) (sym split) more));
             synced_gone = d.synced_gone;
+            undamaged = delete_undamaged queue version acts d.undamaged;
           };
           whole = w.whole;
         }
@@ -136,6 +141,7 @@ module _ (queue : LogQueue) (version : Version) where
         stays = omega arith;
         gone = below_none n (numbers files) rising;
         synced_gone = below_none n (numbers files) rising;
+        undamaged = found_undamaged queue version acts files;
       }
 
       pub found_whole : FilesHold queue version files (in_files_from n standing) → AreRisingFrom n (numbers files) → AreConsecutive (numbers files) → AreDoneWhole queue version (Found files ∷ acts) (Stop standing n ∷ deeds)
@@ -144,7 +150,17 @@ module _ (queue : LogQueue) (version : Version) where
 
     module _ (place : FileBlockHandle) (bytes : List ℕ) where
       pub read_done : AreDone queue version acts deeds → AreDone queue version (Read place bytes ∷ acts) deeds
-      read_done d = record { first = d.first; begins = d.begins; put = d.put; rising = d.rising; consecutive = d.consecutive; stays = d.stays; gone = d.gone; synced_gone = d.synced_gone }
+      read_done d = record {
+        first = d.first;
+        begins = d.begins;
+        put = d.put;
+        rising = d.rising;
+        consecutive = d.consecutive;
+        stays = d.stays;
+        gone = d.gone;
+        synced_gone = d.synced_gone;
+        undamaged = read_undamaged queue version acts d.undamaged place bytes;
+      }
 
       pub read_whole : AreDoneWhole queue version acts deeds → AreDoneWhole queue version (Read place bytes ∷ acts) deeds
       unfolding read_done
@@ -167,6 +183,7 @@ module _ (queue : LogQueue) (version : Version) where
             stays = omega (arith, stays, long);
             gone = subst (AreBelow (deleted deeds) (deletions acts)) same d.gone;
             synced_gone = subst (AreBelow (synced_deleted deeds) (synced_deletions acts)) same d.synced_gone;
+            undamaged = cut_undamaged queue version acts d.undamaged at (in_files_from d.first (written deeds)) put.whole;
           };
           whole = put.whole;
         }
@@ -232,6 +249,7 @@ written_done queue version acts deeds closed last handle items entry_bytes batch
         stays = omega (arith, stays, long);
         gone = subst (AreBelow (deleted deeds) (deletions acts)) same d.gone;
         synced_gone = subst (AreBelow (synced_deleted deeds) (synced_deletions acts)) same d.synced_gone;
+        undamaged = put_is_undamaged queue version acts d.undamaged bytes _ _ put.put;
       };
       whole = subst (λ (h : List Event). FilesHold queue version (put_behind bytes (begun acts)) h) all put.whole;
     }

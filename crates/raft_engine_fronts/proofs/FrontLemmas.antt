@@ -20,7 +20,7 @@ use Rattle.raft_tail.specs.Tails.{IsBrokenOff}
 use Rattle.raft_engine_fronts.specs.TornTails.{FilesHoldTorn}
 use Rattle.raft_engine_fronts.specs.Fronts.{AreBatchesPut, ArePut, ArePutFrom, ArePutWhole, IsBrokenWhereItEnds, IsFrontWith, HoldFrontWith}
 use Rattle.raft_engine_fronts.proofs.BatchPartLemmas.{front_unreadable, shorter_unreadable}
-use Rattle.raft_engine_fronts.proofs.TornLemmas.{with_all, stands_as, held_inside, items_of, stand_up_to, one_file, whole_torn, torn_more}
+use Rattle.raft_engine_fronts.proofs.TornLemmas.{with_all, stands_as, held_inside, one_file, whole_torn, torn_more}
 
 -- a front of batches that something holds
 pub record FrontOf (Holds : List Event → Type 0) (h : List Event) : Type 0 where
@@ -130,7 +130,6 @@ put_up_to part n from h few broken t = record {
     inside = t.inside;
     held = t.held;
     torn = t.torn;
-    undamaged = λ d. d.whole (broken n t.at (items_of h) few (stand_up_to (bytes_before part n) t.at from h t.inside t.held) t.torn);
   };
   broken = λ m at batches less stand torn.
       let long = length-take-le n part.bytes few in
@@ -167,23 +166,23 @@ module _ (queue : LogQueue) (version : Version) where
       record { front = r.front; lost = r.lost; split = r.split; held = subst (λ (xs : List ℕ). ArePutFrom (with_all part xs) (length file.1) r.front) same (put_up_to part n (length file.1) r.front (omega (arith, long)) t.broken r.held) }
   put_front (file ∷ next ∷ files) bytes front rest more split t = put_front (next ∷ files) bytes front rest more split t
 
-  -- with the bytes that were put, files hold the batches besides
-  pub put_held : (files : List NumberedBytes) (bytes : List ℕ) (old more : List Event) → FilesHold queue version files old → AreBatchesPut queue version bytes files more
-      → FilesHoldTorn queue version (put_behind bytes files) (old ++ more)
-  put_held [] bytes old more none nothing = ap (λ (h : List Event). h ++ more) none ∙ nothing
-  put_held (file ∷ []) bytes old more a p =
+  -- with the bytes that were put, a file holds the batches besides, up to where no batch can be read
+  pub put_behind_one : (file : NumberedBytes) (bytes : List ℕ) (old more : List Event) → FilesHold queue version (file ∷ []) old
+      → (p : ArePutFrom (whole_file queue version (file.0, file.1 ++ bytes)) (length file.1) more)
+      → HoldsFrom (bytes_before (whole_file queue version (file.0, file.1 ++ bytes)) p.held.at) 0 (old ++ more)
+  put_behind_one file bytes old more a p =
       let t = p.held in
       let part = whole_file queue version (file.0, file.1 ++ bytes) in
       let begins = held_inside (bytes_before part t.at) (length file.1) more t.held in
       let long = length-take-le t.at (file.1 ++ bytes) t.inside in
       let same : take (length file.1) (take t.at (file.1 ++ bytes)) ≡ file.1 = take-take (length file.1) t.at (file.1 ++ bytes) (omega (arith, begins, long)) ∙ take_at file.1 bytes (length file.1) refl in
-      record {
-        at = t.at;
-        inside = t.inside;
-        held = joined (bytes_before part t.at) file.1 0 old more same (one_file queue version file old a) t.held;
-        torn = t.torn;
-        undamaged = t.undamaged;
-      }
+      joined (bytes_before part t.at) file.1 0 old more same (one_file queue version file old a) t.held
+
+  -- with the bytes that were put, files hold the batches besides
+  pub put_held : (files : List NumberedBytes) (bytes : List ℕ) (old more : List Event) → FilesHold queue version files old → AreBatchesPut queue version bytes files more
+      → FilesHoldTorn queue version (put_behind bytes files) (old ++ more)
+  put_held [] bytes old more none nothing = ap (λ (h : List Event). h ++ more) none ∙ nothing
+  put_held (file ∷ []) bytes old more a p = record { at = p.held.at; inside = p.held.inside; held = put_behind_one file bytes old more a p; torn = p.held.torn }
   put_held (file ∷ next ∷ files) bytes old more a t =
       let n = length_on_last (λ (b : List ℕ). b ++ bytes) (next ∷ files) in
       torn_more queue version file (put_behind bytes (next ∷ files)) (old ++ more) (omega (arith, n))

@@ -2,6 +2,7 @@ pub mod BatchPartLemmas
 pub mod DamageLemmas
 pub mod TornLemmas
 pub mod FrontLemmas
+pub mod UndamagedLemmas
 pub mod RestLemmas
 pub mod WrittenLemmas
 pub mod StepLemmas

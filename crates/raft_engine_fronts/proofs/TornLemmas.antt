@@ -15,9 +15,8 @@ use Rattle.raft_replay.specs.Stops.{IsUnreadableAt}
 use Rattle.raft_replay.proofs.MachineOrderLemmas.{each_single}
 use Rattle.raft_replay.proofs.SegmentLemmas.{batch_none, batch_unique, part_unique}
 use Rattle.raft_recover.specs.Files.{FilesHold, whole_file}
-use Rattle.raft_engine_fronts.specs.TornTails.{IsDamagedAt, HoldsTornFrom, FilesHoldTorn, ReadableFrontStops, StopsAt}
+use Rattle.raft_engine_fronts.specs.TornTails.{HoldsTornFrom, FilesHoldTorn, ReadableFrontStops, StopsAt}
 use Rattle.raft_engine_fronts.proofs.BatchPartLemmas.{end_unreadable}
-use Rattle.raft_engine_fronts.proofs.DamageLemmas.{end_undamaged}
 
 -- a part with these bytes
 abbrev pub with_all : Part → List ℕ → Part
@@ -80,7 +79,7 @@ one_stop part i at at' (b ∷ bs) (b' ∷ bs') p q stop stop' =
     let next : p.0 ≡ q.0 = (batch_unique part i b b' p.0 q.0 p.1 q.1).1 in
     one_stop part q.0 at at' bs bs' (subst (λ (n : ℕ). StandBetween part n at bs) next p.2) q.2 stop stop'
 
-stop_unreadable : (part : Part) (at : ℕ) → (at ≡ length part.bytes) ⊎ IsUnreadableAt part at → IsUnreadableAt part at
+pub stop_unreadable : (part : Part) (at : ℕ) → (at ≡ length part.bytes) ⊎ IsUnreadableAt part at → IsUnreadableAt part at
 stop_unreadable part at s = elim s [ inl e ↦ end_unreadable part at e | inr none ↦ none ]
 
 pub readable_front_stops : ReadableFrontStops
@@ -103,12 +102,6 @@ stand_inside : (part : Part) (i end : ℕ) (bs : List (List Item)) → i ≤ len
 stand_inside part i end [] le e = omega (arith, e, le)
 stand_inside part i end (b ∷ bs) le s = let n = batch_inside part i b s.0 s.1 in stand_inside part s.0 end bs n.1 s.2
 
--- where a reader stops no damage begins
-stop_undamaged : (part : Part) (at : ℕ) (h : List Event) → HoldsTornFrom part 0 h → StopsAt part at → ¬ (IsDamagedAt part at)
-stop_undamaged part at h t s =
-    let same = one_stop part 0 t.at at (items_of h) s.batches.0 (stand_up_to part t.at 0 h t.inside t.held) s.batches.1 t.torn (stop_unreadable part at s.stops) in
-    subst (λ (n : ℕ). ¬ (IsDamagedAt part n)) same t.undamaged
-
 -- a part that ends with its batches has no torn tail
 pub untorn : (part : Part) (h : List Event) → HoldsFrom part 0 h → HoldsTornFrom part 0 h
 untorn part h held = record {
@@ -116,7 +109,6 @@ untorn part h held = record {
   inside = omega arith;
   held = subst (λ (xs : List ℕ). HoldsFrom (with_all part xs) 0 h) (sym (take_all (length part.bytes) part.bytes (omega arith))) held;
   torn = end_unreadable part (length part.bytes) refl;
-  undamaged = end_undamaged part (length part.bytes) refl;
 }
 
 -- ---- files
@@ -174,32 +166,25 @@ module _ (queue : LogQueue) (version : Version) where
     split = t.split;
   }
 
-  pub undamaged : (closed : List NumberedBytes) (last : NumberedBytes) (h : List Event) (at : ℕ) → FilesHoldTorn queue version (closed ++ last ∷ []) h → StopsAt (whole_file queue version last) at
-      → ¬ (IsDamagedAt (whole_file queue version last) at)
-  undamaged [] last h at t s = stop_undamaged (whole_file queue version last) at h t s
-  undamaged (c ∷ []) last h at t s = undamaged [] last t.rest at t.rest_held s
-  undamaged (c ∷ d ∷ closed) last h at t s = undamaged (d ∷ closed) last t.rest at t.rest_held s
-
   pub uncut : (closed : List NumberedBytes) (last : NumberedBytes) (h : List Event) (at : ℕ) → FilesHold queue version (cut_last at (closed ++ last ∷ [])) h → StopsAt (whole_file queue version last) at
-      → ¬ (IsDamagedAt (whole_file queue version last) at) → FilesHoldTorn queue version (closed ++ last ∷ []) h
-  uncut [] last h at a s none = record {
+      → FilesHoldTorn queue version (closed ++ last ∷ []) h
+  uncut [] last h at a s = record {
     at = at;
     inside = stand_inside (whole_file queue version last) 0 at s.batches.0 (omega arith) s.batches.1;
     held = one_file (last.0, take at last.1) h a;
     torn = stop_unreadable (whole_file queue version last) at s.stops;
-    undamaged = none;
   }
-  uncut (c ∷ []) last h at a s none = record {
+  uncut (c ∷ []) last h at a s = record {
     first = a.first;
     rest = a.rest;
     first_held = a.first_held;
-    rest_held = uncut [] last a.rest at a.rest_held s none;
+    rest_held = uncut [] last a.rest at a.rest_held s;
     split = a.split;
   }
-  uncut (c ∷ d ∷ closed) last h at a s none = record {
+  uncut (c ∷ d ∷ closed) last h at a s = record {
     first = a.first;
     rest = a.rest;
     first_held = a.first_held;
-    rest_held = uncut (d ∷ closed) last a.rest at a.rest_held s none;
+    rest_held = uncut (d ∷ closed) last a.rest at a.rest_held s;
     split = a.split;
   }

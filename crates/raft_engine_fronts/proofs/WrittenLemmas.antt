@@ -27,7 +27,7 @@ use Rattle.raft_tail.specs.Tails.{IsBroken, IsBrokenOff}
 use Rattle.raft_tail.proofs.BrokenLemmas.{written_broken}
 use Rattle.raft_engine_fronts.specs.Fronts.{AreBatchesPut, ArePutFrom, IsBrokenWhereItEnds}
 use Rattle.raft_engine_fronts.proofs.BatchPartLemmas.{end_unreadable}
-use Rattle.raft_engine_fronts.proofs.DamageLemmas.{end_broken, end_undamaged}
+use Rattle.raft_engine_fronts.proofs.DamageLemmas.{end_broken}
 use Rattle.raft_engine_fronts.proofs.TornLemmas.{with_all, stands_as, one_file}
 
 -- bytes behind others, up to an end
@@ -135,7 +135,6 @@ module _ (queue : LogQueue) (version : Version) where
             inside = omega arith;
             held = subst (λ (xs : List ℕ). HoldsFrom (with_all part xs) (length last.1) (event ∷ [])) (sym (take_all n (last.1 ++ bytes) (omega arith))) stands;
             torn = end_unreadable (with_bytes part bytes) n refl;
-            undamaged = end_undamaged (with_bytes part bytes) n refl;
           };
           broken = written_where_it_ends;
         })

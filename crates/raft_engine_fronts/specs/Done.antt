@@ -19,7 +19,7 @@ use Rattle.raft_replay.specs.WrittenParts.{written_event}
 use Rattle.raft_recover.specs.Files.{FilesHold, whole_file}
 use Rattle.raft_engine_laws.specs.Records.{Records, live, HaveRecords}
 use Rattle.raft_engine_laws.specs.Stops.{Deed, Write, written, synced, deleted, synced_deleted, in_files_from, IsLeft, IsNextIn}
-use Rattle.raft_engine_fronts.specs.TornTails.{FilesHoldTorn}
+use Rattle.raft_engine_fronts.specs.TornTails.{FilesHoldTorn, NoneIsDamaged}
 use Rattle.raft_engine_fronts.specs.Fronts.{ArePut}
 
 -- the numbers of files
@@ -51,7 +51,7 @@ AreBelow n (suc count) (m ∷ ms) = (m < n) × AreBelow n count ms
 
 -- What was asked of the files of a queue does these deeds. It puts the batches that were written, without those of files
 -- below a number, which were gone when the machine started. The files' numbers are consecutive, and none is below that one; the last file is
--- never deleted, and the deleted files are those below the number that the deeds name.
+-- never deleted, and the deleted files are those below the number that the deeds name. Where the found files aren't damaged, no stop leaves damage.
 pub record AreDone (queue : LogQueue) (version : Version) (acts : List Act) (deeds : List Deed) : Type 0 where
   pub first : ℕ
   pub begins : first ≤ synced_deleted deeds
@@ -61,6 +61,7 @@ pub record AreDone (queue : LogQueue) (version : Version) (acts : List Act) (dee
   pub stays : deletions acts ≤ length (begun acts) - 1
   pub gone : AreBelow (deleted deeds) (deletions acts) (numbers (begun acts))
   pub synced_gone : AreBelow (synced_deleted deeds) (synced_deletions acts) (numbers (begun acts))
+  pub undamaged : NoneIsDamaged queue version acts
 
 -- the same, and the files end where these batches do
 pub record AreDoneWhole (queue : LogQueue) (version : Version) (acts : List Act) (deeds : List Deed) : Type 0 where

@@ -14,7 +14,7 @@ ghost use Rattle.raft_engine_laws.specs.Records.{Records};
 ghost use Rattle.raft_engine_laws.specs.Stops as queue_deeds;
 ghost use Rattle.raft_engine_laws.specs.Stops.{Deed, Stop, deleted, in_files_from, IsSafe, IsSynced, LoseNothing};
 ghost use Rattle.raft_recover.specs.Files.{FilesHold, whole_file};
-ghost use Rattle.raft_engine_fronts.specs.TornTails.{FilesHoldTorn, IsDamagedAt, StopsAt};
+ghost use Rattle.raft_engine_fronts.specs.TornTails.{FilesHoldTorn, FoundUndamaged, IsDamagedAt, StopsAt};
 ghost use Rattle.raft_engine_fronts.specs.Done.{AreDone, AreDoneWhole, AreConsecutive, AreRisingFrom, Follows, HoldLeft, HoldRecords, LastFileIsNext, WrittenBatchIsDone, numbers};
 
 /// States what each ask does to a queue: a written batch that is put is written; a sync is one; a new file does nothing,
@@ -63,13 +63,15 @@ pub fn files_that_are_left_hold_what_may_be_left()
         → HoldLeft queue version deeds files }
 {}
 
-/// States that no stop damages files: where a reader stops in the last file of those that are left, no damage begins. So
-/// who refuses files in which one does never refuses what a stop left.
+/// States that no stop damages files: where no damage was in the files that were found when the machine started, where a
+/// reader stops in the last file of those that are left none begins. So who refuses files in which one does never refuses what
+/// a stop left of files that were accepted so.
 pub fn no_stop_damages_files()
     ensures { (queue : LogQueue) (version : Version) (asked : List Ask) (deeds : List Deed)
         (closed : List NumberedBytes) (last : NumberedBytes) (at : ℕ)
-        → AreDone queue version (acts_on queue asked) deeds → IsLeftOf queue asked (closed ++ last ∷ [])
-        → StopsAt (whole_file queue version last) at → ¬ (IsDamagedAt (whole_file queue version last) at) }
+        → AreDone queue version (acts_on queue asked) deeds → FoundUndamaged queue version (acts_on queue asked)
+        → IsLeftOf queue asked (closed ++ last ∷ []) → StopsAt (whole_file queue version last) at
+        → ¬ (IsDamagedAt (whole_file queue version last) at) }
 {}
 
 /// States that no stop loses records: if what is done to both queues is safe, or merely loses nothing, whatever is left

@@ -4,7 +4,7 @@
 
 use crate::batches::{Part, batch_of};
 use raft_base::{FileSeq, LogQueue, Version};
-use raft_engine::{Engine, Recovered, Unopened};
+use raft_engine::{Engine, Recovered, RecoveryMode, Unopened};
 use raft_files::{EngineFiles, MemoryFiles};
 use raft_memtable::MemTableAccessor;
 use raft_records::{Error, LogBatch, Result};
@@ -47,26 +47,44 @@ pub fn open_as<R: Threads + Sync>(
     Ok(Engine::open(rt, alloc, way.version, files, append, rewrite, way.workers))
 }
 
-/// Opens an engine over files, with two workers, and returns what was cut off from them.
+/// Opens an engine over files in a mode, with two workers, and returns what was cut off from them.
 pub fn cut_of<R: Threads + Sync>(
     rt: &R,
     alloc: Global,
+    mode: RecoveryMode,
     append: LogFiles,
     rewrite: LogFiles,
 ) -> Result<Recovered> {
+    let opened = open_in_mode(rt, alloc, mode, append, rewrite)??;
+    Ok(opened.recovered)
+}
+
+pub type OpenedInMode = std::result::Result<
+    raft_engine::Opened<MemoryFiles>,
+    Unopened<MemoryFiles>,
+>;
+
+/// Opens an engine over files in a mode, with two workers.
+pub fn open_in_mode<R: Threads + Sync>(
+    rt: &R,
+    alloc: Global,
+    mode: RecoveryMode,
+    append: LogFiles,
+    rewrite: LogFiles,
+) -> Result<OpenedInMode> {
     let files = MemoryFiles::found(append, rewrite);
     let append = files.copies(LogQueue::Append)?;
     let rewrite = files.copies(LogQueue::Rewrite)?;
-    let opened = Engine::open_telling(
+    Ok(Engine::open_telling(
         rt,
         alloc,
+        mode,
         RIGHT.version,
         files,
         append,
         rewrite,
         RIGHT.workers,
-    )?;
-    Ok(opened.recovered)
+    ))
 }
 
 /// Opens an engine over files, with two workers.

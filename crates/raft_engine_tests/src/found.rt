@@ -2,10 +2,12 @@
 //! of which nothing says that they were there aren't missed.
 
 use crate::batches::Part::{Entries, Put};
-use crate::calls::{LogFiles, copies, holds, new_engine, open, rotate, with_flipped, write};
+use crate::calls::{
+    LogFiles, copies, holds, new_engine, open, open_in_mode, rotate, with_flipped, write,
+};
 use crate::reopened::holds;
 use raft_base::{FileSeq, LogQueue};
-use raft_engine::Engine;
+use raft_engine::{Engine, RecoveryMode};
 use raft_files::MemoryFiles;
 use raft_records::{Error, Result};
 use std::alloc::Global;
@@ -133,6 +135,67 @@ fn rows() -> &'static [(Change, Answer)] {
     &ROWS
 }
 
+static ROWS_OF_MODES: [(RecoveryMode, Change, Answer); 9] = [
+    // Nothing is cut off.
+    (
+        RecoveryMode::AbsoluteConsistency,
+        Change::Cut(102),
+        Answer::Holds("[1,9)k=v"),
+    ),
+    (
+        RecoveryMode::AbsoluteConsistency,
+        Change::Cut(101),
+        Answer::Says(
+            "append file 1, offset 61: no batch can be read there, and nothing may be cut off",
+        ),
+    ),
+    (
+        RecoveryMode::AbsoluteConsistency,
+        Change::Flipped(39),
+        Answer::Says(
+            "append file 1, offset 33: no batch can be read there, and nothing may be cut off",
+        ),
+    ),
+    (
+        RecoveryMode::AbsoluteConsistency,
+        Change::Without(&[2]),
+        Answer::Says("append file 2: it is missing, files 1 and 3 are there"),
+    ),
+    // Cut off is what a crash can leave.
+    (
+        RecoveryMode::TolerateTornTail,
+        Change::Flipped(39),
+        Answer::Says(
+            "append file 1, offset 33: no batch can be read there, but one stands behind it, at offset 61",
+        ),
+    ),
+    // All is cut off, whatever follows.
+    (
+        RecoveryMode::TolerateTailCorruption,
+        Change::Cut(101),
+        Answer::Holds("[1,3)k=v"),
+    ),
+    (
+        RecoveryMode::TolerateTailCorruption,
+        Change::Flipped(39),
+        Answer::Holds("[1,3)"),
+    ),
+    (
+        RecoveryMode::TolerateTailCorruption,
+        Change::Flipped(67),
+        Answer::Holds("[1,3)k=v"),
+    ),
+    (
+        RecoveryMode::TolerateTailCorruption,
+        Change::Without(&[2]),
+        Answer::Says("append file 2: it is missing, files 1 and 3 are there"),
+    ),
+];
+
+fn rows_of_modes() -> &'static [(RecoveryMode, Change, Answer)] {
+    &ROWS_OF_MODES
+}
+
 /// Tests whether an opening is refused as damage with this text. Another refusal is handed on.
 fn says(opened: Result<Engine<MemoryFiles>>, text: &str) -> Result<bool> {
     match opened {
@@ -159,5 +222,48 @@ fn is_answered<R: Threads + Sync>(rt: &R, alloc: Global, row: &(Change, Answer))
 fn found_files_are_opened_or_refused(rt: HostRuntime) {
     for (i, row) in rows().iter().enumerate() {
         assert!(rt; holds!(is_answered(&rt, rt.alloc(), row)), "row {i}");
+    }
+}
+
+fn engine_in_mode<R: Threads + Sync>(
+    rt: &R,
+    alloc: Global,
+    mode: RecoveryMode,
+    files: LogFiles,
+) -> Result<Engine<MemoryFiles>> {
+    let opened = open_in_mode(rt, alloc, mode, files, Vec::new(alloc))??;
+    Ok(opened.engine)
+}
+
+fn holds_in_mode<R: Threads + Sync>(
+    rt: &R,
+    alloc: Global,
+    mode: RecoveryMode,
+    files: LogFiles,
+    text: &str,
+) -> Result<bool> {
+    let engine = engine_in_mode(rt, alloc, mode, files)?;
+    holds(alloc, &engine, text)
+}
+
+fn is_answered_in_mode<R: Threads + Sync>(
+    rt: &R,
+    alloc: Global,
+    row: &(RecoveryMode, Change, Answer),
+) -> Result<bool> {
+    let files = changed(alloc, &row.1)?;
+    match &row.2 {
+        Answer::Holds(text) => holds_in_mode(rt, alloc, row.0, files, text),
+        Answer::Says(text) => says(engine_in_mode(rt, alloc, row.0, files), text),
+    }
+}
+
+#[test]
+fn found_files_are_opened_or_refused_as_the_mode_says(rt: HostRuntime) {
+    for (i, row) in rows_of_modes().iter().enumerate() {
+        assert!(rt;
+            holds!(is_answered_in_mode(&rt, rt.alloc(), row)),
+            "row {i}"
+        );
     }
 }

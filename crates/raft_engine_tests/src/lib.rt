@@ -36,3 +36,5 @@ mod round_trip;
 mod rules;
 #[cfg(test)]
 mod stored;
+#[cfg(test)]
+mod untold;

@@ -7,7 +7,7 @@ use crate::calls::{
 };
 use crate::engine::text_of;
 use raft_base::{LogQueue, Version};
-use raft_engine::{CutTail, Engine};
+use raft_engine::{CutTail, Engine, RecoveryMode};
 use raft_files::MemoryFiles;
 use raft_records::{Error, Result};
 use std::alloc::Global;
@@ -136,13 +136,28 @@ fn is_tail(tail: Option<&CutTail>, whole: u64, len: u64) -> bool {
 fn tail_is_told<R: Threads + Sync>(rt: &R, alloc: Global) -> Result<bool> {
     let append = torn(alloc)?;
     let len = file_len(&append);
-    let cut = cut_of(rt, alloc, append, Vec::new(alloc))?;
+    let mode = RecoveryMode::TolerateTornTail;
+    let cut = cut_of(rt, alloc, mode, append, Vec::new(alloc))?;
     Ok(is_tail(cut.append.as_ref(), whole_len(alloc)?, len) && cut.rewrite.is_none())
 }
 
 #[test]
 fn a_cut_is_told(rt: HostRuntime) {
     assert!(rt; holds!(tail_is_told(&rt, rt.alloc())));
+}
+
+/// Tests whether the mode that cuts off damage tells of a file whose first byte is changed that all of it goes.
+fn damage_is_cut_and_told<R: Threads + Sync>(rt: &R, alloc: Global) -> Result<bool> {
+    let append = with_flipped(torn(alloc)?, 0);
+    let len = file_len(&append);
+    let mode = RecoveryMode::TolerateTailCorruption;
+    let cut = cut_of(rt, alloc, mode, append, Vec::new(alloc))?;
+    Ok(is_tail(cut.append.as_ref(), 0, len) && cut.rewrite.is_none())
+}
+
+#[test]
+fn a_cut_of_damage_is_told(rt: HostRuntime) {
+    assert!(rt; holds!(damage_is_cut_and_told(&rt, rt.alloc())));
 }
 
 /// Makes the torn file with another number.

@@ -10,9 +10,10 @@ use Rattle.raft_records.specs.LogBatch.{Batch}
 use Rattle.raft_engine_fronts.specs.Contents.{AreBothTold}
 use Rattle.raft_engine.specs.KeptEngine.{KeptEngine}
 use Rattle.raft_engine.specs.Lasting.{IsLasting}
-use Rattle.raft_engine.specs.ReadContexts.{AreUnmergedAs, HaveReadFound}
-use Rattle.raft_engine.specs.Unopened.{IsUnopened}
+use Rattle.raft_engine.specs.ReadContexts.{HaveReadFound}
+use Rattle.raft_engine.specs.Unopened.{AreUngroupedAs, IsUnopened}
 use Rattle.raft_engine.specs.WrittenBatch.{IsOneMore, IsOnlySynced, IsUnwritten}
+use Rattle.raft_engine.specs.declared.recovery_mode.RecoveryMode.TheVariants.{TolerateTornTail}
 use Rattle.raft_orders.specs.Refusals.{IsUnordered}
 use Rattle.raft_ffi.specs.Calls.{BothHold, Holds, IsCodeOf, queue_of}
 use Rattle.raft_ffi.specs.FoundFiles.{FilesSeen}
@@ -30,7 +31,7 @@ act_of_kind (suc (suc (suc (suc kind)))) number bytes = Cut number
 abbrev pub ask_in : OrderHead → List ℕ → Ask
 ask_in order bytes = ask (queue_of order.is_rewrite) (act_of_kind order.kind order.number (take order.len bytes))
 
--- the contexts of both queues have read the found files, but for a torn tail of each
+-- the contexts of both queues have read the found files, up to where each can't be read on
 abbrev pub HaveReadBoth : Version → Option FilesSeen → Option RecoverContext → Option RecoverContext → Type 0
 HaveReadBoth version found appended rewritten = Holds (λ f. BothHold (HaveReadFound version f.append f.rewrite) appended rewritten) found
 
@@ -39,9 +40,9 @@ abbrev pub IsUnwrittenAs : Bool → ℕ → Option Batch → Option Batch → Ke
 IsUnwrittenAs sync code batch left old new = BothHold (λ b l. IsCodeOf (IsUnwritten sync b l old new) code) batch left
 
 -- why found files aren't opened, whatever was ordered by then; an order fails for want of memory or of numbers
-abbrev pub IsUnopenedAs : Version → FilesSeen → RecoverContext → RecoverContext → Error → Type 0
-IsUnopenedAs version found appended rewritten e =
-    (asks : List Ask) × IsUnopened (AreUnmergedAs version appended rewritten) (λ _ _. IsUnordered) version found.append found.rewrite asks e
+abbrev pub IsUnopenedAs : Version → FilesSeen → Error → Type 0
+IsUnopenedAs version found e =
+    (asks : List Ask) × IsUnopened (AreUngroupedAs version) (λ _ _. IsUnordered) TolerateTornTail version found.append found.rewrite asks e
 
 -- a sync of the append queue more is asked
 abbrev pub IsSynced : KeptEngine → KeptEngine → Type 0

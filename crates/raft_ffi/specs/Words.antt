@@ -38,11 +38,12 @@ pub use Rattle.raft_engine.specs.MovedAgain.{AreMovedAgain, AreUnmovedAgain}
 pub use Rattle.raft_engine.specs.Opened.{IsOpened}
 pub use Rattle.raft_engine.specs.Purged.{ArePurged, IsUnpurged}
 pub use Rattle.raft_engine.specs.PurgedRewrites.{AreRewritesPurged, AreRewritesUnpurged}
-pub use Rattle.raft_engine.specs.ReadContexts.{AreUnmergedAs, HaveReadFound}
+pub use Rattle.raft_engine.specs.ReadContexts.{HaveReadFound}
 pub use Rattle.raft_engine.specs.Rewriting.{moving_entries, moving_pairs}
 pub use Rattle.raft_engine.specs.StoredFound.{found_asks}
-pub use Rattle.raft_engine.specs.Unopened.{AreBothAccepted, IsUnopened}
+pub use Rattle.raft_engine.specs.Unopened.{AreBothAccepted, AreUngroupedAs, IsUnopened}
 pub use Rattle.raft_engine.specs.WrittenBatch.{IsRotated, IsUnrotated, IsUnwritten}
+pub use Rattle.raft_engine.specs.declared.recovery_mode.RecoveryMode.TheVariants.{TolerateTornTail}
 pub use Rattle.raft_files.specs.Asks.{Ask}
 pub use Rattle.raft_history.specs.Batches.{Event}
 pub use Rattle.raft_history.specs.Histories.{Sound}

@@ -1,8 +1,8 @@
 //! Calls of an engine whose files the caller keeps: what changes it leaves orders behind, which the caller carries out in turn.
 
 ghost use Rattle.std.specs.Prelude.{◌≡◌, ◌≢◌, true, false, Some, None, IsTrue, is_some, IfErr, OnErr, OnOk};
-ghost use Rattle.raft_ffi.specs.Words.{AllHold, AreAcceptedOncePlaced, AreBothAccepted, ArePurged, AreRewritesPurged, AreRewritesUnpurged, BothHold, HasText, HaveReadBoth, HaveReadFound, Holds, IsCodeForBoth, IsOpened, IsRead, IsRotated};
-ghost use Rattle.raft_ffi.specs.Words.{IsStopped, IsSynced, IsUnopenedAs, IsUnpurged, IsUnrotated, IsUnwrittenAs, IsWrittenOrNone, empty_batch, is_open, version_of};
+ghost use Rattle.raft_ffi.specs.Words.{AllHold, AreAcceptedOncePlaced, AreBothAccepted, ArePurged, AreRewritesPurged, AreRewritesUnpurged, BothHold, HasText, HaveReadBoth, HaveReadFound, Holds, IsCodeForBoth, IsCodeOf, IsOpened, IsRead, IsRotated};
+ghost use Rattle.raft_ffi.specs.Words.{IsStopped, IsSynced, IsUnopenedAs, IsUnpurged, IsUnrotated, IsUnwrittenAs, IsWrittenOrNone, TolerateTornTail, empty_batch, is_open, version_of};
 
 use crate::found_files::FoundFiles;
 use crate::handles::{Batch, Context, Engine, Found, Handle, told, with};
@@ -13,8 +13,8 @@ use raft_contexts::MemTableRecoverContext;
 use raft_orders::HandedFiles;
 use std::alloc::Global;
 
-/// Opens found files, with the context of each queue that read them: one that has read the batches of its files, in order, but for a
-/// torn tail of the last one. The files and the contexts are gone then.
+/// Opens found files, with the context of each queue that read them: one that has read the batches of its files, in order, up to
+/// where the last one can't be read. The files and the contexts are gone then.
 #[unsafe(no_mangle)]
 pub extern "C" fn raft_ffi_engine_open(
     alloc: Global,
@@ -29,10 +29,9 @@ pub extern "C" fn raft_ffi_engine_open(
     requires read { HaveReadBoth (version_of is_signed) found.value appended.value rewritten.value }
     ensures ok { result.code ≡ 0 → BothHold
         (λ f e. IsOpened (version_of is_signed) f.append f.rewrite e) found.value engine.new.value }
-    ensures accepted { result.code ≡ 0 → Holds (λ f. AreBothAccepted (version_of is_signed) f.append f.rewrite) found.value }
+    ensures accepted { result.code ≡ 0 → Holds (λ f. AreBothAccepted TolerateTornTail (version_of is_signed) f.append f.rewrite) found.value }
     ensures err { result.code ≢ 0 → engine.new.value ≡ None }
-    ensures fault { result.code ≢ 0 → Holds (λ f. IsCodeForBoth
-        (IsUnopenedAs (version_of is_signed) f) appended.value rewritten.value result.code) found.value }
+    ensures fault { result.code ≢ 0 → Holds (λ f. IsCodeOf (IsUnopenedAs (version_of is_signed) f) result.code) found.value }
     ensures text { HasText result text.old text.new }
 {
     let files = found.into_held();
@@ -53,9 +52,9 @@ fn open_into(
     requires empty { engine.old.value ≡ None }
     requires read { HaveReadFound version found.append found.rewrite appended rewritten }
     ensures ok { OnOk result (Holds (IsOpened version found.append found.rewrite) engine.new.value) }
-    ensures accepted { OnOk result (AreBothAccepted version found.append found.rewrite) }
+    ensures accepted { OnOk result (AreBothAccepted TolerateTornTail version found.append found.rewrite) }
     ensures err { OnErr result (engine.new.value ≡ None) }
-    ensures fault { IfErr result (IsUnopenedAs version found appended rewritten) }
+    ensures fault { IfErr result (IsUnopenedAs version found) }
 {
     let FoundFiles { append, rewrite } = found;
     let files = HandedFiles::found(alloc, &append, &rewrite);

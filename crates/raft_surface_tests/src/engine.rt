@@ -7,7 +7,7 @@ ghost use Rattle.raft_records.specs.LogBatch.{is_open};
 ghost use Rattle.raft_engine.specs.ReadContexts.{HaveReadFound};
 ghost use Rattle.raft_engine.specs.StoredFound.{found_asks};
 
-use raft_engine::{CutTail, Engine, Opened, Recovered, Unopened};
+use raft_engine::{CutTail, Engine, Opened, Recovered, RecoveryMode, Unopened};
 use raft_files::{EngineFiles, MemoryFiles};
 use raft_recover::{
     Error, FileSeq, LogBatch, LogQueue, MemTableAccessor, MemTableRecoverContext, Result, Segment,
@@ -111,10 +111,11 @@ where
     Engine::<F>::open::<R>(rt, alloc, version, files, append, rewrite, workers)
 }
 
-/// Opens an engine over files that were found, and tells what was cut off from them.
+/// Opens an engine over files that were found in a mode, and tells what was cut off from them.
 fn open_engine_telling<R: Threads + Sync, F: EngineFiles>(
     rt: &R,
     alloc: Global,
+    mode: RecoveryMode,
     version: Version,
     files: F,
     append: Vec<(FileSeq, Vec<u8>)>,
@@ -124,12 +125,13 @@ fn open_engine_telling<R: Threads + Sync, F: EngineFiles>(
 where
     requires { F.asked files ≡ found_asks (map file_shown append.items) (map file_shown rewrite.items) }
 {
-    Engine::<F>::open_telling::<R>(rt, alloc, version, files, append, rewrite, workers)
+    Engine::<F>::open_telling::<R>(rt, alloc, mode, version, files, append, rewrite, workers)
 }
 
-/// Opens an engine over files that contexts have read, and tells what was cut off from them.
+/// Opens an engine over files that contexts have read in a mode, and tells what was cut off from them.
 fn open_engine_over_telling<F: EngineFiles>(
     alloc: Global,
+    mode: RecoveryMode,
     version: Version,
     files: F,
     append: Vec<(FileSeq, Vec<u8>)>,
@@ -141,7 +143,19 @@ where
     requires asked { F.asked files ≡ found_asks (map file_shown append.items) (map file_shown rewrite.items) }
     requires read { HaveReadFound version (map file_shown append.items) (map file_shown rewrite.items) appended rewritten }
 {
-    Engine::<F>::open_over_telling(alloc, version, files, append, rewrite, appended, rewritten)
+    Engine::<F>::open_over_telling(
+        alloc, mode, version, files, append, rewrite, appended, rewritten,
+    )
+}
+
+/// Returns a recovery mode by its number.
+fn recovery_mode_of_number(number: u32) -> RecoveryMode {
+    match number {
+        0 => RecoveryMode::AbsoluteConsistency,
+        1 => RecoveryMode::TolerateTornTail,
+        2 => RecoveryMode::TolerateTailCorruption,
+        _ => RecoveryMode::default(),
+    }
 }
 
 /// Returns the tail that was cut off from the append queue.

@@ -7,6 +7,7 @@ ghost use Rattle.raft_files.specs.Disk.{files_of};
 ghost use Rattle.raft_files.specs.MemoryFaults.{IsMemoryFault};
 ghost use Rattle.raft_engine.specs.Opened.{IsOpened};
 ghost use Rattle.raft_engine.specs.Unopened.{AreBothAccepted, AreUnrecoveredAs, IsUnopened};
+ghost use Rattle.raft_engine.specs.declared.recovery_mode.RecoveryMode.TheVariants.{TolerateTornTail};
 
 use super::Engine;
 use raft_base::{LogQueue, Result, Version};
@@ -28,10 +29,10 @@ impl Engine<MemoryFiles> {
         workers: usize,
     ) -> Result<Engine<MemoryFiles>>
         ensures ok { IfOk result (IsOpened version (files_of Append files.now) (files_of Rewrite files.now)) }
-        ensures accepted { OnOk result (AreBothAccepted version (files_of Append files.now)
+        ensures accepted { OnOk result (AreBothAccepted TolerateTornTail version (files_of Append files.now)
             (files_of Rewrite files.now)) }
         ensures fault { IfErr result (λ e. (asks : List Ask) × IsUnopened (AreUnrecoveredAs version workers) IsMemoryFault
-            version (files_of Append files.now) (files_of Rewrite files.now) asks e) }
+            TolerateTornTail version (files_of Append files.now) (files_of Rewrite files.now) asks e) }
     {
         let append = files.copies(LogQueue::Append)?;
         let rewrite = files.copies(LogQueue::Rewrite)?;

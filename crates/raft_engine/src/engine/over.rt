@@ -4,12 +4,14 @@ ghost use Rattle.std.specs.Prelude.{◌≡◌, map, IfErr, IfOk, OnOk};
 ghost use Rattle.raft_files.specs.HeldFiles.{file_shown};
 ghost use Rattle.raft_engine.specs.CutTails.{IsRecoveredOf};
 ghost use Rattle.raft_engine.specs.Opened.{IsOpened};
-ghost use Rattle.raft_engine.specs.ReadContexts.{AreUnmergedAs, HaveReadFound};
+ghost use Rattle.raft_engine.specs.ReadContexts.{HaveReadFound};
 ghost use Rattle.raft_engine.specs.StoredFound.{found_asks};
-ghost use Rattle.raft_engine.specs.Unopened.{AreBothAccepted, IsUnopened};
+ghost use Rattle.raft_engine.specs.Unopened.{AreBothAccepted, AreUngroupedAs, IsUnopened};
+ghost use Rattle.raft_engine.specs.declared.recovery_mode.RecoveryMode.TheVariants.{TolerateTornTail};
 
 use super::Engine;
 use crate::reading::read_over;
+use crate::recovery_mode::RecoveryMode;
 use crate::unopened::{Opened, Unopened};
 use raft_base::{FileSeq, Version};
 use raft_contexts::MemTableRecoverContext;
@@ -22,9 +24,8 @@ impl<F: EngineFiles> Engine<F> {
     ///
     /// # Errors
     ///
-    /// The files are handed back. Nothing was asked of them where they are refused, as by `open`; where a file but the last
-    /// one of its queue can't be read; and where the contexts can't be put over each other: `Failed` where one of them doesn't read on,
-    /// `InvalidArgument` where one is of the other queue, `Full` where both hold more than 2^64 - 1 records. `Memory`.
+    /// The files are handed back. Nothing was asked of them where they are refused: for what they are, as by `open`, but for
+    /// batches that can't be read, which no context has read. `Memory`.
     ///
     /// Those of `EngineFiles`: some of it was asked then, and whatever is left of the files has the records that were found. They
     /// may be found again, and opened.
@@ -42,27 +43,36 @@ impl<F: EngineFiles> Engine<F> {
         requires read { HaveReadFound version (map file_shown append.items) (map file_shown rewrite.items) appended rewritten }
         ensures ok { IfOk result (IsOpened version (map file_shown append.items)
             (map file_shown rewrite.items)) }
-        ensures accepted { OnOk result (AreBothAccepted version (map file_shown append.items)
+        ensures accepted { OnOk result (AreBothAccepted TolerateTornTail version (map file_shown append.items)
             (map file_shown rewrite.items)) }
-        ensures err { IfErr result (λ unopened. IsUnopened (AreUnmergedAs version appended rewritten) F.may_fail version
+        ensures err { IfErr result (λ unopened. IsUnopened (AreUngroupedAs version) F.may_fail TolerateTornTail version
             (map file_shown append.items) (map file_shown rewrite.items) (F.asked unopened.files) unopened.error) }
     {
         match Engine::open_over_telling(
-            alloc, version, files, append, rewrite, appended, rewritten,
+            alloc,
+            RecoveryMode::TolerateTornTail,
+            version,
+            files,
+            append,
+            rewrite,
+            appended,
+            rewritten,
         ) {
             Ok(opened) => Ok(opened.engine),
             Err(unopened) => Err(unopened),
         }
     }
 
-    /// Opens the files that a stop of the machine left, as [`Engine::open_over`] does, and tells what was cut off from them, as
-    /// [`Engine::open_telling`] does.
+    /// Opens the files that a stop of the machine left, as [`Engine::open_over`] does, in a mode, and tells what was cut off from
+    /// them, as [`Engine::open_telling`] does. The contexts have read the batches up to where reading stops, in each mode.
     ///
     /// # Errors
     ///
-    /// Those of [`Engine::open_over`].
+    /// Those of [`Engine::open_over`], but for a queue's last file which can't be read to its end, as with
+    /// [`Engine::open_telling`].
     pub fn open_over_telling(
         alloc: Global,
+        mode: RecoveryMode,
         version: Version,
         files: F,
         append: Vec<(FileSeq, Vec<u8>)>,
@@ -77,13 +87,13 @@ impl<F: EngineFiles> Engine<F> {
             (map file_shown rewrite.items) opened.engine) }
         ensures recovered { IfOk result (λ opened. IsRecoveredOf version (map file_shown append.items)
             (map file_shown rewrite.items) opened.recovered) }
-        ensures accepted { OnOk result (AreBothAccepted version (map file_shown append.items)
+        ensures accepted { OnOk result (AreBothAccepted mode version (map file_shown append.items)
             (map file_shown rewrite.items)) }
-        ensures err { IfErr result (λ unopened. IsUnopened (AreUnmergedAs version appended rewritten) F.may_fail version
+        ensures err { IfErr result (λ unopened. IsUnopened (AreUngroupedAs version) F.may_fail mode version
             (map file_shown append.items) (map file_shown rewrite.items) (F.asked unopened.files) unopened.error) }
     {
-        match read_over(alloc, version, append, rewrite, appended, rewritten) {
-            Ok(reading) => Engine::of_reading(alloc, version, files, reading),
+        match read_over(alloc, mode, version, append, rewrite, appended, rewritten) {
+            Ok(reading) => Engine::of_reading(version, files, reading),
             Err(error) => Err(Unopened { files, error }),
         }
     }

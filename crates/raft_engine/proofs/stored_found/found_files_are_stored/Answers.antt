@@ -17,7 +17,7 @@ returns-clause-stored c =
     found_stored (ready_done done.found done.found_whole done.cut done.begun put.found put.cut put.begun)
     c.what_is_done_lasts.ensures c.files_that_are_left_hold_what_may_be_left.ensures c.nothing_is_lost.ensures c.told_contents_last.ensures.both
     (put_done done.written put.written) (sync_done done.synced put.synced) done.next
-    told.removals told.in_file told.status told.no_marker c.opening_is_safe.ensures.told c.opening_is_safe.ensures.nothing
+    told.in_file told.status told.no_marker c.opening_is_safe.ensures.mixed c.opening_is_safe.ensures.later
 
 pub returns-clause-records : goal.returns-clause-records
 returns-clause-records c =
@@ -27,4 +27,4 @@ returns-clause-records c =
     found_records (ready_done done.found done.found_whole done.cut done.begun put.found put.cut put.begun)
     c.what_is_done_lasts.ensures c.files_that_are_left_hold_what_may_be_left.ensures c.nothing_is_lost.ensures c.told_contents_last.ensures.both
     (put_done done.written put.written) (sync_done done.synced put.synced) done.next
-    told.removals told.in_file told.status told.no_marker c.opening_is_safe.ensures.told c.opening_is_safe.ensures.nothing
+    told.in_file told.status told.no_marker c.opening_is_safe.ensures.mixed c.opening_is_safe.ensures.later

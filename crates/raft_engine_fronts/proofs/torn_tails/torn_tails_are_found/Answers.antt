@@ -1,4 +1,5 @@
-use Rattle.raft_engine_fronts.proofs.TornLemmas.{whole_torn, one_reading, cut_found, undamaged, uncut, readable_front_stops}
+use Rattle.raft_engine_fronts.proofs.TornLemmas.{whole_torn, one_reading, cut_found, uncut, readable_front_stops}
+use Rattle.raft_engine_fronts.proofs.UndamagedLemmas.{whole_undamaged}
 use Rattle.raft_engine_fronts.proofs.torn_tails.torn_tails_are_found.Goals as goal
 
 pub returns-clause-whole : goal.returns-clause-whole
@@ -11,7 +12,7 @@ pub returns-clause-cut : goal.returns-clause-cut
 returns-clause-cut c = cut_found
 
 pub returns-clause-undamaged : goal.returns-clause-undamaged
-returns-clause-undamaged c = undamaged
+returns-clause-undamaged c = whole_undamaged
 
 pub returns-clause-uncut : goal.returns-clause-uncut
 returns-clause-uncut c = uncut

@@ -24,5 +24,5 @@ returns-clause-err c = λ some. failed c.open_into-answer.result c.answered.resu
 pub returns-clause-fault : goal.returns-clause-fault
 returns-clause-fault c = λ some.
     let fault = rw (c.version.ensures) at c.open_into-answer.ensures.fault in
-    rw (c.into_held-files.ensures, c.into_held-append.ensures, c.into_held-rewrite.ensures)
+    rw (c.into_held-files.ensures)
     (refusal c.open_into-answer.result c.answered.result.code _ c.answered.ensures.ok c.answered.ensures.err fault some)

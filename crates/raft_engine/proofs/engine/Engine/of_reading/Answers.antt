@@ -10,13 +10,12 @@ invariant_of-engine g c =
     let found = c.requires.found in
     kept_opened c.args.version found.0 found.1 _ _ _ _ _
     (opened_so c.found_files_are_stored.ensures.ready c.found_files_are_stored.ensures.stored c.found_files_are_stored.ensures.records c.args.version found.0 found.1 c.args.reading found.3
-    c.complete.new.reading _ _ found.2 c.in-Ok.ensures.ok c.complete.ensures.same) c.default.ensures
+    c.complete.new.reading _ _ found.2 c.in-Ok.ensures.ok c.complete.ensures.same)
 
 pub returns-in-Ok-clause-ok : goal.returns-in-Ok-clause-ok
 returns-in-Ok-clause-ok g c = λ append rewrite asked found. record {
   of_version = refl;
   intact = refl;
-  none_untold = c.default.ensures;
   read = (opened_so c.found_files_are_stored.ensures.ready c.found_files_are_stored.ensures.stored c.found_files_are_stored.ensures.records c.args.version append rewrite c.args.reading found
       c.complete.new.reading _ _ asked c.in-Ok.ensures.ok c.complete.ensures.same).read;
 }

@@ -1,0 +1,214 @@
+//! What an opening leaves untold: of files that engines wrote it asks nothing, and the rewrite queue is told before an append file
+//! is deleted. Where appended entries don't join rewritten ones, that is told at once.
+
+use crate::batches::Part;
+use crate::batches::Part::{Clean, Compact, Delete, Entries, Put, Truncate};
+use crate::calls::{LogFiles, copies, holds, new_engine, open, purge, reopened, rotate, write};
+use crate::reopened::{holds, moved, moved_parts};
+use raft_base::LogQueue;
+use raft_engine::Engine;
+use raft_files::MemoryFiles;
+use raft_records::Result;
+use std::alloc::Global;
+use std::thread::Threads;
+
+/// A batch that is written behind [1,10) and `k=v` in a rewrite file, and holds nothing that is left.
+struct Removal {
+    batch: &'static [Part],
+    left: &'static str,
+    /// Whether it takes something away of the rewrite file, so that this is told before the append file goes.
+    is_told: bool,
+}
+
+static REMOVALS: [Removal; 7] = [
+    Removal {
+        batch: &[Compact(3)],
+        left: "[3,10)k=v",
+        is_told: true,
+    },
+    Removal {
+        batch: &[Compact(1)],
+        left: "[1,10)k=v",
+        is_told: false,
+    },
+    Removal {
+        batch: &[Truncate(3)],
+        left: "[1,3)k=v",
+        is_told: true,
+    },
+    Removal {
+        batch: &[Truncate(10)],
+        left: "[1,10)k=v",
+        is_told: false,
+    },
+    Removal {
+        batch: &[Delete],
+        left: "[1,10)",
+        is_told: true,
+    },
+    Removal {
+        batch: &[Entries(10, 12), Truncate(10)],
+        left: "[1,10)k=v",
+        is_told: false,
+    },
+    Removal {
+        batch: &[Clean],
+        left: "",
+        is_told: true,
+    },
+];
+
+fn have_same_bytes(some: &LogFiles, others: &LogFiles) -> bool {
+    if some.len() != others.len() {
+        return false;
+    }
+    for (one, other) in some.iter().zip(others.iter()) {
+        if one.0 != other.0 || one.1.as_slice() != other.1.as_slice() {
+            return false;
+        }
+    }
+    true
+}
+
+fn has_files_of(
+    engine: &Engine<MemoryFiles>,
+    other: &Engine<MemoryFiles>,
+    queue: LogQueue,
+) -> Result<bool> {
+    Ok(have_same_bytes(&copies(engine, queue)?, &copies(other, queue)?))
+}
+
+/// Tests whether two engines have the same files in both queues.
+fn have_same_files(engine: &Engine<MemoryFiles>, other: &Engine<MemoryFiles>) -> Result<bool> {
+    Ok(
+        has_files_of(engine, other, LogQueue::Append)?
+            && has_files_of(engine, other, LogQueue::Rewrite)?,
+    )
+}
+
+/// Tests whether an engine that is opened over copies of the files of another one has this, and leaves these files as they were.
+fn is_opened_as_it_was<R: Threads + Sync>(
+    rt: &R,
+    alloc: Global,
+    engine: &Engine<MemoryFiles>,
+    left: &str,
+) -> Result<bool> {
+    let opened = reopened(rt, alloc, engine)?;
+    Ok(have_same_files(&opened, engine)? && holds(alloc, &opened, left)?)
+}
+
+/// Tests whether a purge of an engine that was opened over the files of another one tells what it has to, and only once.
+fn is_told_by_a_purge<R: Threads + Sync>(
+    rt: &R,
+    alloc: Global,
+    engine: &Engine<MemoryFiles>,
+    removal: &Removal,
+) -> Result<bool> {
+    let mut opened = reopened(rt, alloc, engine)?;
+    is_told_in(rt, alloc, &mut opened, engine, removal)
+}
+
+fn is_told_in<R: Threads + Sync>(
+    rt: &R,
+    alloc: Global,
+    opened: &mut Engine<MemoryFiles>,
+    engine: &Engine<MemoryFiles>,
+    removal: &Removal,
+) -> Result<bool> {
+    rotate(opened)?;
+    let deleted = purge(opened)?;
+    let is_told = !has_files_of(opened, engine, LogQueue::Rewrite)?;
+    Ok(
+        deleted == 1
+            && is_told == removal.is_told
+            && is_opened_as_it_was(rt, alloc, opened, removal.left)?,
+    )
+}
+
+fn is_told_later<R: Threads + Sync>(rt: &R, alloc: Global, removal: &Removal) -> Result<bool> {
+    let mut engine = moved(alloc)?;
+    is_told_later_in(rt, alloc, &mut engine, removal)
+}
+
+fn is_told_later_in<R: Threads + Sync>(
+    rt: &R,
+    alloc: Global,
+    engine: &mut Engine<MemoryFiles>,
+    removal: &Removal,
+) -> Result<bool> {
+    write(alloc, engine, removal.batch, true)?;
+    Ok(
+        is_opened_as_it_was(rt, alloc, engine, removal.left)?
+            && is_told_by_a_purge(rt, alloc, engine, removal)?,
+    )
+}
+
+#[test]
+fn an_opening_leaves_files_as_they_were(rt: HostRuntime) {
+    for (row, removal) in REMOVALS.iter().enumerate() {
+        assert!(rt;
+            holds!(is_told_later(&rt, rt.alloc(), removal)),
+            "row {row}"
+        );
+    }
+}
+
+/// Tests whether a rewrite queue that holds nothing is told nothing of what the append queue takes away.
+fn none_is_told<R: Threads + Sync>(rt: &R, alloc: Global) -> Result<bool> {
+    let mut engine = new_engine(alloc)?;
+    none_is_told_in(rt, alloc, &mut engine)
+}
+
+fn none_is_told_in<R: Threads + Sync>(
+    rt: &R,
+    alloc: Global,
+    engine: &mut Engine<MemoryFiles>,
+) -> Result<bool> {
+    write(alloc, engine, &[Entries(1, 10), Put("v")], true)?;
+    write(alloc, engine, &[Clean], true)?;
+    let mut opened = reopened(rt, alloc, engine)?;
+    is_told_none(&mut opened, engine)
+}
+
+fn is_told_none(opened: &mut Engine<MemoryFiles>, engine: &Engine<MemoryFiles>) -> Result<bool> {
+    rotate(opened)?;
+    Ok(purge(opened)? == 1 && has_files_of(opened, engine, LogQueue::Rewrite)?)
+}
+
+#[test]
+fn an_empty_rewrite_queue_is_told_nothing(rt: HostRuntime) {
+    assert!(rt; holds!(none_is_told(&rt, rt.alloc())));
+}
+
+/// Tests whether it is told at once, and only once, that appended entries leave rewritten ones behind a hole in front of them.
+fn front_is_told<R: Threads + Sync>(rt: &R, alloc: Global) -> Result<bool> {
+    let rewritten = moved_parts(alloc, &[Entries(1, 5)])?;
+    let rewrite = copies(&rewritten, LogQueue::Rewrite)?;
+    let mut appended = new_engine(alloc)?;
+    let append = appended_behind_a_hole(alloc, &mut appended)?;
+    let opened = open(rt, alloc, append, rewrite)?;
+    is_told_of_a_hole(rt, alloc, &opened, &rewritten)
+}
+
+fn appended_behind_a_hole(alloc: Global, engine: &mut Engine<MemoryFiles>) -> Result<LogFiles> {
+    write(alloc, engine, &[Entries(10, 12)], true)?;
+    copies(engine, LogQueue::Append)
+}
+
+fn is_told_of_a_hole<R: Threads + Sync>(
+    rt: &R,
+    alloc: Global,
+    opened: &Engine<MemoryFiles>,
+    rewritten: &Engine<MemoryFiles>,
+) -> Result<bool> {
+    Ok(
+        !has_files_of(opened, rewritten, LogQueue::Rewrite)?
+            && holds(alloc, opened, "[10,12)")?
+            && is_opened_as_it_was(rt, alloc, opened, "[10,12)")?,
+    )
+}
+
+#[test]
+fn a_dropped_front_is_told_at_once(rt: HostRuntime) {
+    assert!(rt; holds!(front_is_told(&rt, rt.alloc())));
+}

@@ -205,3 +205,65 @@ fn what_was_found_moves_again_where_half_of_it_isnt_needed() {
         }
     }
 }
+
+/// Files whose append queue takes away rewritten records of four regions, of which the rewrite queue wasn't told.
+fn untold_files() -> MemoryFiles {
+    let files = MemoryFiles::new();
+    let engine = Engine::with_files(files.clone(), Options::new()).unwrap();
+    for region in 1..=5 {
+        write(&engine, |batch| {
+            batch.add_entries(region, 1, &[[7; 100]; 9])?;
+            batch.put(region, b"key", b"value")
+        });
+    }
+    engine.rotate().unwrap();
+    engine.rewrite(1).unwrap();
+    write(&engine, |batch| batch.clean(1));
+    write(&engine, |batch| batch.compact(2, 5));
+    write(&engine, |batch| batch.add_entries(3, 4, &[[8; 100]]));
+    write(&engine, |batch| batch.delete(4, b"key"));
+    files
+}
+
+/// Tests that of these files an engine finds what is left of the five regions.
+fn assert_taken_away(files: &MemoryFiles) -> Engine<MemoryFiles> {
+    let engine = Engine::with_files(files.clone(), Options::new()).unwrap();
+    let bounds = |region| {
+        let first = engine.first_index(region).unwrap();
+        (first, engine.last_index(region).unwrap())
+    };
+    let left = [1, 2, 3, 4, 5].map(bounds);
+    let whole = (Some(1), Some(9));
+    let expected = [
+        (None, None),
+        (Some(5), Some(9)),
+        (Some(1), Some(4)),
+        whole,
+        whole,
+    ];
+    assert_eq!(left, expected);
+    let has_key = [1, 2, 3, 4, 5].map(|region| engine.get(region, b"key").unwrap().is_some());
+    assert_eq!(has_key, [false, true, true, false, true]);
+    engine
+}
+
+#[test]
+fn files_stay_as_they_are_however_often_they_are_opened() {
+    let files = untold_files();
+    let asked = files.asked();
+    let bytes = [Queue::Append, Queue::Rewrite].map(|queue| files.files(queue));
+    for _ in 0..1000 {
+        assert_taken_away(&files);
+    }
+    assert_eq!(files.asked(), asked);
+    assert_eq!(
+        [Queue::Append, Queue::Rewrite].map(|queue| files.files(queue)),
+        bytes
+    );
+    let engine = assert_taken_away(&files);
+    engine.rotate().unwrap();
+    engine.rewrite(2).unwrap();
+    assert_eq!(engine.purge().unwrap().append_files, 2); // so the rewrite queue was told
+    drop(engine);
+    assert_taken_away(&files);
+}

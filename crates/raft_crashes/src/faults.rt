@@ -1,4 +1,4 @@
-//! Histories in which an engine loses records, or brings some back, that breaks one of the rules of docs/ENGINE.md: the same
+//! Histories in which an engine loses records, or brings some back, that breaks one of the rules of docs/OWN_ENGINE.md: the same
 //! records, by the calls of an engine that can't break it. With one worker each byte of each batch is the last one that is left.
 
 use crate::choice::Choice;

@@ -1,5 +1,5 @@
 -- Entries that are read by their blocks, one after another.
-use Rattle.std.proofs.Common.{◌≡◌, ◌≢◌, ◌⊎◌, ℕ, suc, ◌+◌, ◌<◌, ◌≤◌, List, [], ◌∷◌, ◌++◌, get_or, length, map, take, drop, Option, Some, None, Vec, Contains, inl, inr, refl, sym, ap, subst, ◌∙◌, append_assoc, arith}
+use Rattle.std.proofs.Common.{◌≡◌, ◌≢◌, ◌⊎◌, ℕ, suc, ◌+◌, ◌<◌, ◌≤◌, List, [], ◌∷◌, ◌++◌, get_or, length, map, take, drop, Option, Some, None, Vec, Contains, string_bytes, inl, inr, refl, sym, ap, subst, ◌∙◌, append_assoc, arith}
 use Rattle.std.specs.Global.{Global}
 use Rattle.std.specs.List.{AllZip}
 use Rattle.std.proofs.lemmas.List.{take-append-drop, take_more}
@@ -8,16 +8,19 @@ use Rattle.raft_base.specs.declared.entry_index.EntryIndex.{EntryIndex}
 use Rattle.raft_base.specs.declared.errors.Error.{Error}
 use Rattle.raft_base.specs.declared.errors.Error.TheVariants as errors
 use Rattle.raft_base.specs.declared.pipe_log.FileBlockHandle.{FileBlockHandle}
+use Rattle.raft_base.specs.Corruption.{IsCorruption}
 use Rattle.raft_base.specs.Errors.{IsCorruptionError}
-use Rattle.raft_records.specs.Header.{IsEntryBlockOf}
+use Rattle.raft_records.specs.Faults.{IsAnyCorruption, IsMemory}
+use Rattle.raft_records.specs.Header.{IsEntryBlockFault, IsEntryBlockOf}
 use Rattle.raft_records.specs.ItemBatch.{HasSeal, checksum_bytes}
 use Rattle.raft_records.proofs.BufferLemmas.{checksum_len}
 use Rattle.raft_records.proofs.SealLemmas.{content_is}
 use Rattle.raft_table.specs.Fetches.{block_count}
 use Rattle.raft_files.specs.Asks.{Ask, Read, ask}
-use Rattle.raft_engine.specs.BlockReads.{AreBytesIn, AreNoBytesIn, IsBlockOf, IsKeptOf, IsNoBlockOf, IsSoundRead, IsUnsoundRead}
-use Rattle.raft_engine.specs.Reads.{AreReadByBlocks, AreReads, AreUnread, IsDamaged, IsReadAmong}
+use Rattle.raft_engine.specs.BlockReads.{AreBytesIn, AreNoBytesIn, IsBlockOf, IsKeptOf, IsNoBlockOf, IsOfEntry, IsSoundRead, IsUnsoundRead}
+use Rattle.raft_engine.specs.Reads.{AreReadByBlocks, AreReads, AreUnread, IsDamaged, IsReadAmong, NamesEntry, entry_text}
 use Rattle.raft_engine.specs.declared.block_reads.EntryBlock.{EntryBlock}
+use Rattle.raft_engine.proofs.OpensLemmas.{memory_or}
 use Rattle.raft_engine.proofs.BlockCounts.{EndsAt, ends_more, front_count, other_count, same_count}
 
 -- ---- blocks
@@ -157,6 +160,107 @@ next_bytes es strings e bytes block old new n b =
 
 -- ---- refusals
 
+-- a refusal as corruption or for want of memory is so with the entry that it is about, which it names
+with_entry : (region index : ℕ) (place : FileBlockHandle) (fault error : Error) → IsOfEntry region index place fault error → IsAnyCorruption fault
+    → (error ≡ errors.Memory) ⊎ (IsCorruptionError error × NamesEntry region index place error)
+with_entry region index place (errors.Corruption reason) (errors.Corruption text) of any = inr (tt, (string_bytes reason, of))
+with_entry region index place (errors.Corruption reason) errors.Memory of any = inl refl
+with_entry region index place (errors.Corruption reason) (errors.InvalidArgument text) of any = absurd of
+with_entry region index place (errors.Corruption reason) (errors.Io fault) of any = absurd of
+with_entry region index place (errors.Corruption reason) (errors.Codec fault) of any = absurd of
+with_entry region index place (errors.Corruption reason) (errors.Message fault) of any = absurd of
+with_entry region index place (errors.Corruption reason) (errors.TryAgain text) of any = absurd of
+with_entry region index place (errors.Corruption reason) errors.EntryCompacted of any = absurd of
+with_entry region index place (errors.Corruption reason) errors.EntryNotFound of any = absurd of
+with_entry region index place (errors.Corruption reason) errors.Full of any = absurd of
+with_entry region index place (errors.Corruption reason) (errors.Other text) of any = absurd of
+with_entry region index place (errors.Corruption reason) errors.Failed of any = absurd of
+with_entry region index place errors.Memory error of any = inl of
+with_entry region index place (errors.InvalidArgument text) error of any = absurd any
+with_entry region index place (errors.Io fault) error of any = absurd any
+with_entry region index place (errors.Codec fault) error of any = absurd any
+with_entry region index place (errors.Message fault) error of any = absurd any
+with_entry region index place (errors.TryAgain text) error of any = absurd any
+with_entry region index place errors.EntryCompacted error of any = absurd any
+with_entry region index place errors.EntryNotFound error of any = absurd any
+with_entry region index place errors.Full error of any = absurd any
+with_entry region index place (errors.Other text) error of any = absurd any
+with_entry region index place errors.Failed error of any = absurd any
+
+-- a refusal by a text is one as corruption, or for want of memory
+by_text : (text : List ℕ) (e : Error) → IsCorruption text e → IsAnyCorruption e
+by_text text (errors.Corruption reason) is = tt
+by_text text errors.Memory is = tt
+by_text text (errors.InvalidArgument reason) is = is
+by_text text (errors.Io fault) is = is
+by_text text (errors.Codec fault) is = is
+by_text text (errors.Message fault) is = is
+by_text text (errors.TryAgain reason) is = is
+by_text text errors.EntryCompacted is = is
+by_text text errors.EntryNotFound is = is
+by_text text errors.Full is = is
+by_text text (errors.Other reason) is = is
+by_text text errors.Failed is = is
+
+-- so is want of memory
+for_memory : (e : Error) → IsMemory e → IsAnyCorruption e
+for_memory errors.Memory is = tt
+for_memory (errors.Corruption reason) is = absurd is
+for_memory (errors.InvalidArgument reason) is = absurd is
+for_memory (errors.Io fault) is = absurd is
+for_memory (errors.Codec fault) is = absurd is
+for_memory (errors.Message fault) is = absurd is
+for_memory (errors.TryAgain reason) is = absurd is
+for_memory errors.EntryCompacted is = absurd is
+for_memory errors.EntryNotFound is = absurd is
+for_memory errors.Full is = absurd is
+for_memory (errors.Other reason) is = absurd is
+for_memory errors.Failed is = absurd is
+
+-- so is every refusal of a block
+block_fault : (len : ℕ) (block : List ℕ) (e : Error) → IsEntryBlockFault len block e → IsAnyCorruption e
+block_fault len block e (inl memory) = for_memory e memory
+block_fault len block e (inr (inl short)) = short.1
+block_fault len block e (inr (inr (some, long, inl short))) = by_text _ e short.1
+block_fault len block e (inr (inr (some, long, inr sum))) = by_text _ e sum.error
+
+-- no sound block was read for an entry, and the refusal names it; or there is no memory
+pub unsound_read : (region index : ℕ) (place : FileBlockHandle) (block : List ℕ) (old new : List Ask) (fault error : Error) → new ≡ ask place.id.queue (Read place block) ∷ old
+    → (fault ≢ errors.Memory → (entries : List ℕ) → IsEntryBlockOf place.len block entries → ⊥) → IsEntryBlockFault place.len block fault → IsOfEntry region index place fault error
+    → IsUnsoundRead region index place old new error
+unsound_read region index place block old new fault error asked none why of = record { block = block; asked = asked; why = go (with_entry region index place fault error of (block_fault place.len block fault why)) }
+  where
+    of_memory : (f : Error) → f ≡ errors.Memory → IsOfEntry region index place f error → error ≡ errors.Memory
+    of_memory errors.Memory is named = named
+    of_memory (errors.Corruption reason) is named = absurd cc
+    of_memory (errors.InvalidArgument reason) is named = named ∙ is
+    of_memory (errors.Io f) is named = named ∙ is
+    of_memory (errors.Codec f) is named = named ∙ is
+    of_memory (errors.Message f) is named = named ∙ is
+    of_memory (errors.TryAgain reason) is named = named ∙ is
+    of_memory errors.EntryCompacted is named = named ∙ is
+    of_memory errors.EntryNotFound is named = named ∙ is
+    of_memory errors.Full is named = named ∙ is
+    of_memory (errors.Other reason) is named = named ∙ is
+    of_memory errors.Failed is named = named ∙ is
+
+    go : (error ≡ errors.Memory) ⊎ (IsCorruptionError error × NamesEntry region index place error)
+        → (error ≡ errors.Memory) ⊎ (IsCorruptionError error × NamesEntry region index place error × ((entries : List ℕ) → IsEntryBlockOf place.len block entries → ⊥))
+    go (inl memory) = inl memory
+    go (inr named) = elim (memory_or fault) [
+      | inl memory ↦ inl (of_memory fault memory of)
+      | inr other ↦ inr (named.0, named.1, none other)
+    ]
+
+-- the bytes of an entry aren't in its block, and the refusal names it; or there is no memory
+pub no_bytes : (region : ℕ) (place : FileBlockHandle) (entries : List ℕ) (e : EntryIndex) (fault error : Error) → length entries < e.entry_offset + e.entry_len → IsAnyCorruption fault
+    → IsOfEntry region e.index place fault error → AreNoBytesIn region place entries e error
+no_bytes region place entries e fault error lacks any of = go (with_entry region e.index place fault error of any)
+  where
+    go : (error ≡ errors.Memory) ⊎ (IsCorruptionError error × NamesEntry region e.index place error) → AreNoBytesIn region place entries e error
+    go (inl memory) = inl memory
+    go (inr named) = inr (named.0, named.1, lacks)
+
 -- of entries that were read, the next one isn't
 at_next : (es rest : List EntryIndex) (e : EntryIndex) → Contains (es ++ e ∷ rest) e
 at_next es rest e = Contains-append_right es (e ∷ rest) e (0, omega arith, refl)
@@ -175,11 +279,11 @@ more_blocks es rest e n count is =
     joined [] = refl
     joined (x ∷ l) = ap (λ t. x ∷ t) (joined l)
 
-pub no_next_block : (es rest : List EntryIndex) (strings : List (List ℕ)) (e : EntryIndex) (kept : Option EntryBlock) (old now new : List Ask) (error : Error)
-    → AreReadSoFar es strings kept old now → IsNoBlockOf e kept now new error → AreUnread (es ++ e ∷ rest) old new error
-no_next_block es rest strings e kept old now new error r b = at b.unread
+pub no_next_block : (region : ℕ) (es rest : List EntryIndex) (strings : List (List ℕ)) (e : EntryIndex) (kept : Option EntryBlock) (old now new : List Ask) (error : Error)
+    → AreReadSoFar es strings kept old now → IsNoBlockOf region e kept now new error → AreUnread region (es ++ e ∷ rest) old new error
+no_next_block region es rest strings e kept old now new error r b = at b.unread
   where
-    at : (new ≡ now) ⊎ ((place : FileBlockHandle) × (e.entries ≡ Some place) × IsUnsoundRead place now new error) → AreUnread (es ++ e ∷ rest) old new error
+    at : (new ≡ now) ⊎ ((place : FileBlockHandle) × (e.entries ≡ Some place) × IsUnsoundRead region e.index place now new error) → AreUnread region (es ++ e ∷ rest) old new error
     at (inl h) = record {
       some = some_entries es rest e;
       reads = r.read.reads;
@@ -189,7 +293,7 @@ no_next_block es rest strings e kept old now new error r b = at b.unread
     }
     at (inr h) =
         let place : FileBlockHandle = h.0 in
-        let s : IsUnsoundRead place now new error = h.2 in
+        let s : IsUnsoundRead region e.index place now new error = h.2 in
         let a : Ask = ask place.id.queue (Read place s.block) in record {
           some = some_entries es rest e;
           reads = a ∷ r.read.reads;
@@ -198,8 +302,9 @@ no_next_block es rest strings e kept old now new error r b = at b.unread
           why = inr (because s.why);
         }
       where
-        because : (error ≡ errors.Memory) ⊎ (IsCorruptionError error × ((entries : List ℕ) → IsEntryBlockOf h.0.len h.2.block entries → ⊥))
-            → (error ≡ errors.Memory) ⊎ (IsCorruptionError error × ((x : EntryIndex) × Contains (es ++ e ∷ rest) x × IsDamaged (ask h.0.id.queue (Read h.0 h.2.block) ∷ r.read.reads) x))
+        because : (error ≡ errors.Memory) ⊎ (IsCorruptionError error × NamesEntry region e.index h.0 error × ((entries : List ℕ) → IsEntryBlockOf h.0.len h.2.block entries → ⊥))
+            → (error ≡ errors.Memory) ⊎ (IsCorruptionError error
+            × ((x : EntryIndex) × Contains (es ++ e ∷ rest) x × (d : IsDamaged (ask h.0.id.queue (Read h.0 h.2.block) ∷ r.read.reads) x) × NamesEntry region x.index d.place error))
         because (inl m) = inl m
         because (inr c) = inr (
           c.0,
@@ -210,15 +315,16 @@ no_next_block es rest strings e kept old now new error r b = at b.unread
               place = h.0;
               block = h.2.block;
               read = record { placed = h.1; read = here _ r.read.reads };
-              lacks = λ entries sound. absurd (c.1 entries sound);
+              lacks = λ entries sound. absurd (c.2 entries sound);
             },
+            c.1,
           ),
         )
 
-pub no_next_bytes : (es rest : List EntryIndex) (strings : List (List ℕ)) (e : EntryIndex) (block : EntryBlock) (old new : List Ask) (error : Error)
-    → IsNextBlock es strings e block old new → AreNoBytesIn block.entries.items e error → AreUnread (es ++ e ∷ rest) old new error
-no_next_bytes es rest strings e block old new error n (inl m) = record { some = some_entries es rest e; reads = n.reads; only = n.only; asked = n.asked; why = inr (inl m) }
-no_next_bytes es rest strings e block old new error n (inr c) = record {
+pub no_next_bytes : (region : ℕ) (es rest : List EntryIndex) (strings : List (List ℕ)) (e : EntryIndex) (block : EntryBlock) (old new : List Ask) (error : Error)
+    → IsNextBlock es strings e block old new → AreNoBytesIn region block.place block.entries.items e error → AreUnread region (es ++ e ∷ rest) old new error
+no_next_bytes region es rest strings e block old new error n (inl m) = record { some = some_entries es rest e; reads = n.reads; only = n.only; asked = n.asked; why = inr (inl m) }
+no_next_bytes region es rest strings e block old new error n (inr c) = record {
   some = some_entries es rest e;
   reads = n.reads;
   only = n.only;
@@ -232,8 +338,9 @@ no_next_bytes es rest strings e block old new error n (inr c) = record {
         place = block.place;
         block = n.kept.block;
         read = record { placed = n.placed; read = n.kept.read };
-        lacks = λ entries sound. subst (λ (l : List ℕ). length l < e.entry_offset + e.entry_len) (one_block block.place.len n.kept.block block.entries.items entries n.kept.sound sound) c.1;
+        lacks = λ entries sound. subst (λ (l : List ℕ). length l < e.entry_offset + e.entry_len) (one_block block.place.len n.kept.block block.entries.items entries n.kept.sound sound) c.2;
       },
+      c.1,
     ),
   ));
 }
@@ -246,22 +353,22 @@ split_at i es d l = sym (ap (λ (front : List EntryIndex). front ++ drop (i + 1)
 abbrev bytes_in_all : List (Vec ℕ Global) → List (List ℕ)
 bytes_in_all seen = map (λ (s : Vec ℕ Global). s.items) seen
 
-pub no_block_at : (i : ℕ) (es : List EntryIndex) (d : EntryIndex) (seen : List (Vec ℕ Global)) (kept : Option EntryBlock) (old now new : List Ask) (error : Error) → i < length es
-    → AreReadSoFar (take i es) (map (λ s. s.items) seen) kept old now → IsNoBlockOf (get_or es i d) kept now new error → AreUnread es old new error
-no_block_at i es d seen kept old now new error l r b =
-    subst (λ (es : List EntryIndex). AreUnread es old new error) (split_at i es d l)
-    (no_next_block (take i es) (drop (i + 1) es) (bytes_in_all seen) (get_or es i d) kept old now new error r b)
+pub no_block_at : (region i : ℕ) (es : List EntryIndex) (d : EntryIndex) (seen : List (Vec ℕ Global)) (kept : Option EntryBlock) (old now new : List Ask) (error : Error) → i < length es
+    → AreReadSoFar (take i es) (map (λ s. s.items) seen) kept old now → IsNoBlockOf region (get_or es i d) kept now new error → AreUnread region es old new error
+no_block_at region i es d seen kept old now new error l r b =
+    subst (λ (es : List EntryIndex). AreUnread region es old new error) (split_at i es d l)
+    (no_next_block region (take i es) (drop (i + 1) es) (bytes_in_all seen) (get_or es i d) kept old now new error r b)
 
 pub block_at : (i : ℕ) (es : List EntryIndex) (d : EntryIndex) (seen : List (Vec ℕ Global)) (kept : Option EntryBlock) (block : EntryBlock) (old now new : List Ask)
     → AreReadSoFar (take i es) (map (λ s. s.items) seen) kept old now → IsBlockOf (get_or es i d) kept block now new → IsNextBlock (take i es) (map (λ s. s.items) seen) (get_or es i d) block old new
 block_at i es d seen kept block old now new r b = next_block (take i es) (bytes_in_all seen) (get_or es i d) kept block old now new r b
 
-pub no_bytes_at : (i : ℕ) (es : List EntryIndex) (d : EntryIndex) (seen : List (Vec ℕ Global)) (block : EntryBlock) (old new : List Ask) (entries : List ℕ) (error : Error) → i < length es
-    → IsNextBlock (take i es) (map (λ s. s.items) seen) (get_or es i d) block old new → entries ≡ block.entries.items → AreNoBytesIn entries (get_or es i d) error → AreUnread es old new error
-no_bytes_at i es d seen block old new entries error l n is b =
-    subst (λ (es : List EntryIndex). AreUnread es old new error) (split_at i es d l)
-    (no_next_bytes (take i es) (drop (i + 1) es) (bytes_in_all seen) (get_or es i d) block old new error n
-    (subst (λ (bytes : List ℕ). AreNoBytesIn bytes (get_or es i d) error) is b))
+pub no_bytes_at : (region i : ℕ) (es : List EntryIndex) (d : EntryIndex) (seen : List (Vec ℕ Global)) (block : EntryBlock) (old new : List Ask) (entries : List ℕ) (error : Error) → i < length es
+    → IsNextBlock (take i es) (map (λ s. s.items) seen) (get_or es i d) block old new → entries ≡ block.entries.items → AreNoBytesIn region block.place entries (get_or es i d) error → AreUnread region es old new error
+no_bytes_at region i es d seen block old new entries error l n is b =
+    subst (λ (es : List EntryIndex). AreUnread region es old new error) (split_at i es d l)
+    (no_next_bytes region (take i es) (drop (i + 1) es) (bytes_in_all seen) (get_or es i d) block old new error n
+    (subst (λ (bytes : List ℕ). AreNoBytesIn region block.place bytes (get_or es i d) error) is b))
 
 pub bytes_at : (i : ℕ) (es : List EntryIndex) (d : EntryIndex) (seen new_seen : List (Vec ℕ Global)) (bytes : Vec ℕ Global) (block : EntryBlock) (old new : List Ask) (entries : List ℕ) → i < length es
     → IsNextBlock (take i es) (map (λ s. s.items) seen) (get_or es i d) block old new → entries ≡ block.entries.items → AreBytesIn entries (get_or es i d) bytes.items → new_seen ≡ seen ++ bytes ∷ []

@@ -23,6 +23,7 @@ use Rattle.raft_engine.specs.Lasting.{AreSynced}
 use Rattle.raft_engine.specs.Stored.{AreAllDone}
 use Rattle.raft_engine.specs.StoredAsks.{IsWritableBatch}
 use Rattle.raft_engine.proofs.LastingLemmas.{all_synced, synced_front}
+use Rattle.raft_engine.proofs.SealedLemmas.{put_is_sound}
 use Rattle.raft_engine.proofs.WellPutLemmas.{begin_well, delete_well, none_well, put_well, sync_well}
 
 -- ---- what is synced
@@ -124,7 +125,7 @@ put_done done put queue version acts deeds closed last handle batch w file place
       done = done queue version acts deeds closed last handle batch.items batch.entry_bytes w.tiled w.in_range w.in_bytes w.some w.short file place is a.done;
       put = p;
       well = put_well queue version acts (log_batch_bytes (signature_in version last.0) batch.items batch.entry_bytes) (written deeds) (written_event part handle batch.items batch.entry_bytes) a.put.whole p.whole
-          (written_within part handle batch.items batch.entry_bytes w.tiled) a.well;
+          (written_within part handle batch.items batch.entry_bytes w.tiled) (λ none. put_is_sound queue version acts none closed last handle batch (written deeds) w file place is a.put.whole) a.well;
     }
 
 -- ---- a deletion

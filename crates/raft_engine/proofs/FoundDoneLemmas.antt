@@ -18,6 +18,7 @@ use Rattle.raft_engine_fronts.proofs.EventLemmas.{files_high}
 use Rattle.raft_engine_fronts.proofs.NumberLemmas.{consecutive_rise}
 use Rattle.raft_engine_fronts.proofs.TornLemmas.{one_file, whole_torn}
 use Rattle.raft_engine.specs.FoundFiles.{IsCut, IsFirstBegun, IsLastOfOther, IsReady, IsTornFrom, IsUntorn}
+use Rattle.raft_engine.specs.SoundBlocks.{IsLastSound}
 use Rattle.raft_engine.specs.Stored.{AreAllDone}
 use Rattle.raft_engine.specs.WellPut.{AreWellPut}
 use Rattle.raft_engine.proofs.FoundLemmas.{stands_inside}
@@ -110,21 +111,21 @@ module _
     → ArePut queue version acts synced h → begun acts ≡ closed ++ last ∷ [] → StopsAt (whole_file queue version last) at → ArePutWhole queue version (Cut at ∷ acts) synced h)
     (put_begin : (queue : LogQueue) (version : Version) (acts : List Act) (synced h : List Event) (seq : ℕ)
     → ArePutWhole queue version acts synced h → ArePutWhole queue version (Begin seq ∷ acts) h h) where
-  torn_done : (queue : LogQueue) (version : Version) (files : List NumberedBytes) (h : List Event) → AreConsecutive (numbers files) → ¬ (IsLastOfOther queue version files) → FilesHoldTorn queue version files h
+  torn_done : (queue : LogQueue) (version : Version) (files : List NumberedBytes) (h : List Event) → AreConsecutive (numbers files) → ¬ (IsLastOfOther queue version files) → IsLastSound queue version files → FilesHoldTorn queue version files h
       → IsFoundDone queue version (Found files ∷ []) h
-  torn_done queue version files h consecutive none held = record {
+  torn_done queue version files h consecutive none sound held = record {
     done = found queue version [] [] files h 0 (subst (FilesHoldTorn queue version files) (sym (files_high queue version 0 files h (consecutive_rise (numbers files) consecutive) held)) held) (consecutive_rise (numbers files) consecutive) consecutive;
     put = put_found queue version [] files h held;
-    well = found_well queue version [] files none;
+    well = found_well queue version [] files none sound;
   }
 
-  whole_done : (queue : LogQueue) (version : Version) (files : List NumberedBytes) (h : List Event) → AreConsecutive (numbers files) → ¬ (IsLastOfOther queue version files) → FilesHold queue version files h
+  whole_done : (queue : LogQueue) (version : Version) (files : List NumberedBytes) (h : List Event) → AreConsecutive (numbers files) → ¬ (IsLastOfOther queue version files) → IsLastSound queue version files → FilesHold queue version files h
       → AreAllDone queue version (Found files ∷ []) (Stop h 0 ∷ [])
-  whole_done queue version files h consecutive none held =
+  whole_done queue version files h consecutive none sound held =
       let torn = whole_torn queue version files h held in record {
         done = found_whole queue version [] [] files h 0 (subst (FilesHold queue version files) (sym (files_high queue version 0 files h (consecutive_rise (numbers files) consecutive) torn)) held) (consecutive_rise (numbers files) consecutive) consecutive;
         put = record { put = put_found queue version [] files h torn; whole = held };
-        well = found_well queue version [] files none;
+        well = found_well queue version [] files none sound;
       }
 
   -- a first file is begun
@@ -132,9 +133,10 @@ module _
   first_ready queue version h held =
       let none : h ≡ [] = none_held queue version h held in
       let no_other : ¬ (IsLastOfOther queue version []) = λ o. no_last o.closed o.last o.split in
-      let all = whole_done queue version [] h tt no_other none in record {
+      let sound : IsLastSound queue version [] = λ closed last e. absurd (no_last closed last e) in
+      let all = whole_done queue version [] h tt no_other sound none in record {
         torn = none;
-        before = torn_done queue version [] h tt no_other none;
+        before = torn_done queue version [] h tt no_other sound none;
         after = record {
           done = begin queue version (Found [] ∷ []) (Stop h 0 ∷ []) 1 all.done tt tt (omega arith);
           put = put_begin queue version (Found [] ∷ []) h h 1 all.put;
@@ -145,26 +147,26 @@ module _
       }
 
   -- there is no torn tail
-  whole_ready : (queue : LogQueue) (version : Version) (files : List NumberedBytes) (h : List Event) → AreConsecutive (numbers files) → ¬ (IsLastOfOther queue version files) → FilesHold queue version files h
+  whole_ready : (queue : LogQueue) (version : Version) (files : List NumberedBytes) (h : List Event) → AreConsecutive (numbers files) → ¬ (IsLastOfOther queue version files) → IsLastSound queue version files → FilesHold queue version files h
       → AreReadyDone queue version files files (Found files ∷ []) h
-  whole_ready queue version files h consecutive no_other held =
+  whole_ready queue version files h consecutive no_other sound held =
       let torn = whole_torn queue version files h held in record {
         torn = torn;
-        before = torn_done queue version files h consecutive no_other torn;
-        after = whole_done queue version files h consecutive no_other held;
+        before = torn_done queue version files h consecutive no_other sound torn;
+        after = whole_done queue version files h consecutive no_other sound held;
         are = refl;
         none = refl;
       }
 
   -- a torn tail is cut off
   cut_ready : (queue : LogQueue) (version : Version) (closed : List NumberedBytes) (last : NumberedBytes) (at : ℕ) (h : List Event) → AreConsecutive (numbers (closed ++ last ∷ []))
-      → ¬ (IsLastOfOther queue version (closed ++ last ∷ [])) → IsTornFrom (whole_file queue version last) (Some at)
+      → ¬ (IsLastOfOther queue version (closed ++ last ∷ [])) → IsLastSound queue version (closed ++ last ∷ []) → IsTornFrom (whole_file queue version last) (Some at)
       → FilesHold queue version (cut_last at (closed ++ last ∷ [])) h → AreReadyDone queue version (closed ++ last ∷ []) (cut_last at (closed ++ last ∷ [])) (Cut at ∷ Found (closed ++ last ∷ []) ∷ []) h
-  cut_ready queue version closed last at h consecutive no_other t held =
+  cut_ready queue version closed last at h consecutive no_other sound t held =
       let files = closed ++ last ∷ [] in
       let torn : FilesHoldTorn queue version files h = cut_torn queue version closed last at h t.1 (unreadable queue version last at t)
       (subst (λ (l : List NumberedBytes). FilesHold queue version l h) (last_of (λ old. take at old) closed last) held) in
-      let before = torn_done queue version files h consecutive no_other torn in record {
+      let before = torn_done queue version files h consecutive no_other sound torn in record {
         torn = torn;
         before = before;
         after = record {
@@ -192,11 +194,11 @@ module _
       go (inr (inl u)) =
           subst (λ (l : List Act). AreReadyDone queue version files left l h) (sym (ap (acts_on queue) u.asked ∙ acts))
           (subst (λ (f : List NumberedBytes). AreReadyDone queue version files f (Found files ∷ []) h) (sym u.same)
-          (whole_ready queue version files h r.consecutive r.of_version (subst (λ (f : List NumberedBytes). FilesHold queue version f h) u.same held)))
+          (whole_ready queue version files h r.consecutive r.of_version r.sound (subst (λ (f : List NumberedBytes). FilesHold queue version f h) u.same held)))
       go (inr (inr c)) =
           subst (λ (l : List Act). AreReadyDone queue version files left l h) (more (Cut c.at) c.asked)
           (subst (λ (f : List NumberedBytes). AreReadyDone queue version files f (Cut c.at ∷ Found files ∷ []) h) (sym c.cut)
           (subst (λ (f : List NumberedBytes). AreReadyDone queue version f (cut_last c.at f) (Cut c.at ∷ Found f ∷ []) h) (sym c.split)
           (cut_ready queue version c.closed c.last c.at h (subst (λ (f : List NumberedBytes). AreConsecutive (numbers f)) c.split r.consecutive)
-          (subst (λ (f : List NumberedBytes). ¬ (IsLastOfOther queue version f)) c.split r.of_version) c.torn
+          (subst (λ (f : List NumberedBytes). ¬ (IsLastOfOther queue version f)) c.split r.of_version) (subst (IsLastSound queue version) c.split r.sound) c.torn
           (subst (λ (f : List NumberedBytes). FilesHold queue version (cut_last c.at f) h) c.split (subst (λ (f : List NumberedBytes). FilesHold queue version f h) c.cut held)))))

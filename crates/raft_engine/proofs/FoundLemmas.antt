@@ -1,9 +1,10 @@
 -- Files that are found: where a reader stops, and what stands behind.
-use Rattle.std.proofs.Common.{◌≡◌, ◌≢◌, ◌⊎◌, Vec, map, take, ℕ, ◌-◌, ◌<◌, Some, None, List, [], ◌∷◌, ◌++◌, length, drop, inl, inr, sym, ap, ◌∙◌, subst, arith}
+use Rattle.std.proofs.Common.{◌≡◌, ◌≢◌, ◌⊎◌, Vec, map, take, ℕ, zero, suc, ◌-◌, ◌<◌, Some, None, List, [], ◌∷◌, ◌++◌, length, drop, inl, inr, refl, sym, ap, ◌∙◌, subst, arith}
 use Rattle.std.proofs.lemmas.List.{length-append, length-drop, map-append}
 use Rattle.std.proofs.lemmas.Option.{slice_get_within, get_or_from_slice_get}
 use Rattle.std.specs.List.{slice_get}
 use Rattle.std.specs.Global.{Global}
+use Rattle.raft_base.specs.declared.errors.Error.{Error}
 use Rattle.raft_files.specs.HeldFiles.{file_shown}
 use Rattle.raft_files.proofs.LastLemmas.{at_last}
 use Rattle.raft_codec.specs.Reading.{HasNoFront}
@@ -19,7 +20,7 @@ use Rattle.raft_engine_fronts.specs.TornTails.{IsDamagedAt, StopsAt}
 use Rattle.raft_tail.specs.Tails.{IsBrokenOff, IsNextElsewhere, IsNextSound}
 use Rattle.raft_engine_fronts.proofs.BatchPartLemmas.{batch_long, end_unreadable}
 use Rattle.raft_engine_fronts.proofs.TornLemmas.{one_stop}
-use Rattle.raft_engine.specs.FoundFiles.{BeginsInOther, IsOfOther, IsRefusedAt, IsTailRefused, in_other, other_version}
+use Rattle.raft_engine.specs.FoundFiles.{BeginsInOther, IsOfEngine, IsOfOther, IsOtherText, IsRefusedAt, IsTailRefused, engine_header, in_other, other_version}
 use Rattle.raft_engine.specs.declared.recovery_mode.RecoveryMode.{RecoveryMode}
 
 -- what stands somewhere stands before the end
@@ -83,9 +84,6 @@ last_shown items xs last same e =
 
 -- ---- files that begin in the other version
 
-pub not_other : (part : Part) → ¬ (BeginsInOther part) → ¬ (IsOfOther part)
-not_other part none o = none o.begins
-
 -- where a reader stops behind the first byte, a batch can be read at that one
 pub not_at_first : (part : Part) (at : ℕ) → AreBatchesUpTo part at → at ≢ 0 → ¬ (IsOfOther part)
 not_at_first part at batches far o = go batches.0 batches.1
@@ -94,12 +92,27 @@ not_at_first part at batches far o = go batches.0 batches.1
     go [] e = far (sym e)
     go (b ∷ bs) s = batch_none part 0 b s.0 o.unreadable s.1
 
+-- where a reader stops, at the first byte of no other beginning
+pub not_other : (part : Part) (at : ℕ) → AreBatchesUpTo part at → (at ≡ 0 → ¬ (BeginsInOther part ⊎ IsOfEngine part)) → ¬ (IsOfOther part)
+not_other part zero batches none o = none refl o.begins
+not_other part (suc at) batches none o = not_at_first part (suc at) batches (λ e. absurd (omega (arith, e))) o
+
+-- what a refusal says stands there
+pub begins_as : (part : Part) (e : Error) → IsOtherText part e → BeginsInOther part ⊎ IsOfEngine part
+begins_as part e (inl other) = inl other.0
+begins_as part e (inr engine) = inr engine.0
+
+-- a part that begins otherwise has bytes
+pub begins_some : (part : Part) → BeginsInOther part ⊎ IsOfEngine part → 0 < length part.bytes
+begins_some part (inl b) = stands_inside (in_other part) 0 b.1 b.0 b.2
+begins_some part (inr e) = let n = ap length e.1 ∙ length-append engine_header e.0 in omega (arith, n)
+
 -- a file that ends with its batches is not of the other version: it is empty, or begins with a batch
 pub whole_not_other : (part : Part) (at : ℕ) → AreBatchesUpTo part at → at ≡ length part.bytes → ¬ (IsOfOther part)
 whole_not_other part at batches ends o = go batches.0 batches.1
   where
     go : (bs : List (List Item)) → StandBetween part 0 at bs → ⊥
-    go [] e = let inside = stands_inside (in_other part) 0 o.begins.1 o.begins.0 o.begins.2 in absurd (omega (arith, e, ends, inside))
+    go [] e = let inside = begins_some part o.begins in absurd (omega (arith, e, ends, inside))
     go (b ∷ bs) s = batch_none part 0 b s.0 o.unreadable s.1
 
 -- where no batch of the other version can be read, the part doesn't begin with one

@@ -24,6 +24,7 @@ use Rattle.raft_engine.specs.StoredAsks.{WhatIsDoneLasts}
 use Rattle.raft_engine.proofs.LeftBytes.{left_tells}
 use Rattle.raft_engine_laws.proofs.InRows.{rows_left}
 use Rattle.raft_engine.proofs.OfVersionLemmas.{left_not_other}
+use Rattle.raft_engine.proofs.SealedLemmas.{left_sound}
 use Rattle.raft_engine.proofs.WholeLemmas.{whole_of}
 
 -- the synced batches come first
@@ -136,6 +137,7 @@ done_lasts left all any content version base asked appended rewritten append_don
         );
     told = told_of;
     of_version = λ queue files l. left_not_other queue version asked files (well queue).of_version l;
+    sealed = λ queue files l. left_sound queue version asked files (well queue).sealed l;
     undamaged = undamaged_of;
     ends = ends_of;
     whole =

@@ -4,6 +4,8 @@ mod FileNumbers
 mod ReadyLemmas
 mod AskedLemmas
 mod OfVersionLemmas
+mod BlockLemmas
+mod SealedLemmas
 mod MarkerLemmas
 mod RowLemmas
 mod RecoveredLemmas

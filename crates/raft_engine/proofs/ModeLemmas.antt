@@ -46,8 +46,8 @@ module _ (queue : LogQueue) (version : Version) (files : List NumberedBytes) whe
 
   pub accept_more : ModesAcceptMore queue version files
   accept_more = record {
-    torn = λ a. record { consecutive = a.consecutive; tolerated = λ d. a.tolerated (each_refused d); of_version = a.of_version };
-    corrupted = λ a. record { consecutive = a.consecutive; tolerated = none_refused; of_version = a.of_version };
+    torn = λ a. record { consecutive = a.consecutive; tolerated = λ d. a.tolerated (each_refused d); of_version = a.of_version; sound = a.sound };
+    corrupted = λ a. record { consecutive = a.consecutive; tolerated = none_refused; of_version = a.of_version; sound = a.sound };
     none = none_refused;
     whole = whole_tolerated;
   }

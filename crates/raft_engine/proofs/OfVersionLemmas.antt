@@ -1,29 +1,35 @@
 -- Files that aren't of the other version.
-use Rattle.std.proofs.Common.{◌≡◌, ◌⊎◌, inl, inr, ℕ, zero, suc, ◌<◌, ◌≤◌, List, [], ◌∷◌, ◌++◌, length, take, drop, refl, sym, ap, ◌∙◌, subst, arith, append_assoc, append-nil}
+use Rattle.std.proofs.Common.{◌≡◌, ◌⊎◌, inl, inr, ℕ, zero, suc, ◌<◌, ◌≤◌, List, [], ◌∷◌, ◌++◌, codes, length, take, drop, refl, sym, ap, ◌∙◌, subst, arith, append_assoc, append-nil}
 use Rattle.std.proofs.lemmas.Bool.{cases_lt}
 use Rattle.std.proofs.lemmas.List.{length-append, take-append-drop, take-append-le, take_at}
 use Rattle.raft_base.specs.declared.pipe_log.LogQueue.{LogQueue}
 use Rattle.raft_base.specs.declared.pipe_log.Version.{Version}
+use Rattle.raft_codec.specs.Reading.{HasNoFront}
 use Rattle.raft_records.specs.FilePart.{IsBatchAt, Part}
+use Rattle.raft_records.specs.Header.{IsHeader}
+use Rattle.raft_records.specs.Item.{Item}
 use Rattle.raft_records.proofs.Names.{part_signature}
-use Rattle.raft_records.proofs.PartLemmas.{batch_inside}
+use Rattle.raft_records.proofs.FrameLemmas.{readable}
+use Rattle.raft_records.proofs.HeaderLemmas.{unknown_type}
 use Rattle.raft_history.specs.Batches.{Event}
 use Rattle.raft_files.specs.Asks.{Act, Begin, Cut, Delete, Found, NumberedBytes, Put, Read, Sync}
 use Rattle.raft_files.specs.Disk.{IsFrontPut, MayStand, begun, put_behind}
 use Rattle.raft_files.proofs.LastLemmas.{last_of}
 use Rattle.raft_replay.specs.Segments.{HoldsFrom}
+use Rattle.raft_replay.specs.Stops.{IsUnreadableAt}
 use Rattle.raft_replay.proofs.SegmentLemmas.{batch_none}
 use Rattle.raft_recover.specs.Files.{FilesHold, whole_file}
 use Rattle.raft_engine_fronts.proofs.BatchPartLemmas.{shorter_unreadable}
 use Rattle.raft_engine_fronts.proofs.TornLemmas.{one_file, stands_as}
-use Rattle.raft_engine.specs.FoundFiles.{IsLastOfOther, IsOfOther, in_other}
+use Rattle.raft_engine.specs.FoundFiles.{BeginsInOther, IsLastOfOther, IsOfEngine, IsOfOther, engine_header, in_other}
 use Rattle.raft_engine.specs.OfVersion.{FrontsAreNotOther, NoneIsOther, StaysOfVersion, WhatIsLeftIsNotOther}
-use Rattle.raft_engine.proofs.FoundLemmas.{one_last}
+use Rattle.raft_engine.proofs.FoundLemmas.{begins_some, one_last}
 
 -- ---- bytes
 
-pub front_not_other : FrontsAreNotOther
-front_not_other part more items next b o = elim (cases_lt (length part.bytes) (length b.bytes)) [ inl shorter ↦ short shorter | inr within ↦ long within ]
+-- a front of bytes that begin with a batch doesn't begin with one of the other version, where none of its own can be read
+not_in_other : (part : Part) (more : List ℕ) (items : List Item) (next : ℕ) → IsBatchAt (record part { bytes = part.bytes ++ more }) 0 items next → IsUnreadableAt part 0 → ¬ (BeginsInOther part)
+not_in_other part more items next b none o = elim (cases_lt (length part.bytes) (length b.bytes)) [ inl shorter ↦ short shorter | inr within ↦ long within ]
   where
     whole : Part
     whole = record part { bytes = part.bytes ++ more }
@@ -34,19 +40,41 @@ front_not_other part more items next b o = elim (cases_lt (length part.bytes) (l
         let n = length part.bytes in
         let front : part.bytes ≡ take n b.bytes = sym (take_at part.bytes more n refl) ∙ ap (take n) b.stands ∙ take-append-le n b.bytes (drop next whole.bytes) (omega (arith, shorter)) in
         let split : b.bytes ≡ part.bytes ++ drop n b.bytes = sym (take-append-drop n b.bytes) ∙ ap (λ (l : List ℕ). l ++ drop n b.bytes) (sym front) in
-        batch_none (in_other part) 0 o.begins.0 o.begins.1
-        (shorter_unreadable b.bytes part.bytes (drop n b.bytes) (part_signature part) (part_signature (in_other part)) b.read (b.between, b.laid_out) split shorter) o.begins.2
+        batch_none (in_other part) 0 o.0 o.1
+        (shorter_unreadable b.bytes part.bytes (drop n b.bytes) (part_signature part) (part_signature (in_other part)) b.read (b.between, b.laid_out) split shorter) o.2
 
     -- it stands in the part
     long : length b.bytes ≤ length part.bytes → ⊥
     long within =
         let ends = b.ends in
         let same : take next part.bytes ≡ take next (part.bytes ++ more) = sym (take-append-le next part.bytes more (omega (arith, ends, within))) in
-        batch_none part 0 items next o.unreadable (stands_as whole part.bytes 0 next items b same)
+        batch_none part 0 items next none (stands_as whole part.bytes 0 next items b same)
+
+-- raft-engine's header is that of no batch: its eighth byte would name the compression
+no_header : (rest : List ℕ) → HasNoFront IsHeader (engine_header ++ rest)
+no_header rest =
+    unknown_type (engine_header ++ rest) (codes "-FILE-HEADER" ++ rest) (codes "ADER" ++ rest) 5927095911947456327 3262375572003440709
+    (record { front = codes "RAFT-LOG"; spells = record { in_range = omega arith; written = refl }; split = refl })
+    (record { front = codes "-FILE-HE"; spells = record { in_range = omega arith; written = refl }; split = refl })
+    (λ e. absurd (omega (arith, e)))
+
+-- so no batch stands where it does
+not_of_engine : (part : Part) (more : List ℕ) (items : List Item) (next : ℕ) → IsBatchAt (record part { bytes = part.bytes ++ more }) 0 items next → ¬ (IsOfEngine part)
+not_of_engine part more items next b e =
+    let f = (readable b.bytes (part_signature part) b.read).0 (b.between, b.laid_out) in
+    no_header (e.0 ++ more) f.1.header.front (drop 16 b.bytes ++ drop next (part.bytes ++ more)) (f.0, f.1.compression, length b.bytes) f.1.header.spells
+    (sym (append_assoc engine_header e.0 more) ∙ ap (λ (l : List ℕ). l ++ more) (sym e.1) ∙ b.stands ∙ ap (λ (l : List ℕ). l ++ drop next (part.bytes ++ more)) f.1.header.split
+    ∙ append_assoc f.1.header.front (drop 16 b.bytes) (drop next (part.bytes ++ more)))
+
+pub front_not_other : FrontsAreNotOther
+front_not_other part more items next b o = elim o.begins [
+  | inl other ↦ not_in_other part more items next b o.unreadable other
+  | inr engine ↦ not_of_engine part more items next b engine
+]
 
 -- a part without bytes
 empty_not_other : (part : Part) → length part.bytes ≡ 0 → ¬ (IsOfOther part)
-empty_not_other part none o = let inside = batch_inside (in_other part) 0 o.begins.0 o.begins.1 o.begins.2 in absurd (omega (arith, none, inside.0, inside.1))
+empty_not_other part none o = let some = begins_some part o.begins in omega (arith, none, some)
 
 -- a part that holds batches
 held_not_other : (part : Part) (h : List Event) → HoldsFrom part 0 h → ¬ (IsOfOther part)
@@ -59,7 +87,7 @@ module _ (queue : LogQueue) (version : Version) where
   abbrev Holds : NumberedBytes → List Event → Type 0
   Holds file h = HoldsFrom (whole_file queue version file) 0 h
 
-  last_held : (closed : List NumberedBytes) (last : NumberedBytes) (h : List Event) → FilesHold queue version (closed ++ last ∷ []) h → (g : List Event) × Holds last g
+  pub last_held : (closed : List NumberedBytes) (last : NumberedBytes) (h : List Event) → FilesHold queue version (closed ++ last ∷ []) h → (g : List Event) × Holds last g
   last_held [] last h held = (h, one_file queue version last h held)
   last_held (c ∷ closed) last h held = last_held closed last held.rest held.rest_held
 
@@ -69,7 +97,7 @@ module _ (queue : LogQueue) (version : Version) where
       held_not_other (whole_file queue version o.last) l.0 l.1 o.other
 
   -- none, or a last one
-  last_or_none : (files : List NumberedBytes) → (files ≡ []) ⊎ ((closed : List NumberedBytes) × (last : NumberedBytes) × (files ≡ closed ++ last ∷ []))
+  pub last_or_none : (files : List NumberedBytes) → (files ≡ []) ⊎ ((closed : List NumberedBytes) × (last : NumberedBytes) × (files ≡ closed ++ last ∷ []))
   last_or_none [] = inl refl
   last_or_none (f ∷ files) = elim (last_or_none files) [
     | inl none ↦ inr ([], f, ap (λ (l : List NumberedBytes). f ∷ l) none)
@@ -105,7 +133,7 @@ module _ (queue : LogQueue) (version : Version) where
           front_put l.1 f.front f.rest g.0 g.1 (subst (λ (file : NumberedBytes). IsOfOther (whole_file queue version file)) (sym same) o.other)
 
 -- all that was asked may stand
-whole_stands : (acts : List Act) → MayStand acts (begun acts)
+pub whole_stands : (acts : List Act) → MayStand acts (begun acts)
 whole_stands [] = refl
 whole_stands (Put bytes ∷ acts) = inr record { front = bytes; rest = []; split = sym (append-nil bytes); put = refl }
 whole_stands (Begin seq ∷ acts) = inr refl

@@ -16,6 +16,7 @@ use Rattle.raft_engine_fronts.specs.TornTails.{FilesHoldTorn}
 use Rattle.raft_engine_laws.specs.GroupsInRows.{AreGroupsInRows}
 use Rattle.raft_engine.specs.FoundFiles.{AreAccepted, IsCut, IsFirstBegun, IsFoundFault, IsReady, IsUntorn}
 use Rattle.raft_engine.specs.Restarts.{OpeningsOverSucceed, OpeningsSucceed}
+use Rattle.raft_engine.specs.SoundBlocks.{IsLastSound, IsLastUnsoundAs}
 use Rattle.raft_engine.proofs.FileNumbers.{not_together}
 use Rattle.raft_engine.proofs.UnreadLemmas.{stops_unread}
 use Rattle.raft_engine.specs.declared.recovery_mode.RecoveryMode.{RecoveryMode}
@@ -23,7 +24,7 @@ use Rattle.raft_engine.specs.Unopened.{AreUngroupedAs, AreUnrecoveredAs, IsOpeni
 
 -- ---- refusals
 
-memory_or : (e : Error) → (e ≡ errors.Memory) ⊎ (e ≢ errors.Memory)
+pub memory_or : (e : Error) → (e ≡ errors.Memory) ⊎ (e ≢ errors.Memory)
 memory_or (errors.InvalidArgument text) = inr (λ h. absurd cc)
 memory_or (errors.Corruption text) = inr (λ h. absurd cc)
 memory_or (errors.Io fault) = inr (λ h. absurd cc)
@@ -37,11 +38,22 @@ memory_or (errors.Other text) = inr (λ h. absurd cc)
 memory_or errors.Failed = inr (λ h. absurd cc)
 memory_or errors.Memory = inl refl
 
+append_differs : Append ≡ Rewrite → ⊥
+append_differs e = absurd cc
+
+-- where the blocks of the last rewrite file are sound none is unsound
+not_unsound : (queue : LogQueue) (version : Version) (files : List NumberedBytes) (e : Error) → IsLastSound queue version files → ¬ (IsLastUnsoundAs queue version files e)
+not_unsound Append version files e sound u = append_differs u.of_rewrite
+not_unsound Rewrite version files e sound u =
+    let b = u.unsound.block in
+    b.unsound (sound u.closed u.last u.split b.at b.next b.items b.batches b.batch)
+
 -- files that can be made ready aren't refused
 no_fault : (mode : RecoveryMode) (queue : LogQueue) (version : Version) (files : List NumberedBytes) (e : Error) → AreAccepted mode queue version files → ¬ (IsFoundFault mode queue version files e)
 no_fault mode queue version files e a (inl n) = not_together (numbers files) n.last n.next n.together a.consecutive (elim n.why [ inl back ↦ inl back.0 | inr gap ↦ inr gap.0 ])
 no_fault mode queue version files e a (inr (inl d)) = a.tolerated (record { closed = d.closed; last = d.last; split = d.split; tail = d.tail.tail })
-no_fault mode queue version files e a (inr (inr o)) = a.of_version (record { closed = o.closed; last = o.last; split = o.split; other = o.other.other })
+no_fault mode queue version files e a (inr (inr (inl o))) = a.of_version (record { closed = o.closed; last = o.last; split = o.split; other = o.other.other })
+no_fault mode queue version files e a (inr (inr (inr u))) = not_unsound queue version files e a.sound u
 
 -- they are one at least, or as many, once they are ready
 ready_count : (queue : LogQueue) (version : Version) (asks later : List Ask) (files left : List NumberedBytes) → IsReady queue version asks later files left → length files < 2 ^ 62 → length left < 2 ^ 62

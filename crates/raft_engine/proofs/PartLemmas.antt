@@ -177,10 +177,10 @@ parts_one_more : (parts : List EntriesPart) (part : EntriesPart) (old now new : 
 parts_one_more [] part old now new r k = (new, subst (λ (l : List Ask). AreReadByBlocks part.0 part.1 l new) r k, refl)
 parts_one_more (p ∷ parts) part old now new r k = (r.0, r.1, parts_one_more parts part r.0 now new r.2 k)
 
-pub part_only : (es : List EntryIndex) (old new : List Ask) (e : Error) → IsPartRefused es old new e
+pub part_only : (region : ℕ) (es : List EntryIndex) (old new : List Ask) (e : Error) → IsPartRefused region es old new e
     → AreOnlyRead old new
-part_only es old new e (inl u) = unread_only es old new e u
-part_only es old new e (inr r) = read_only es r.0 old new r.1
+part_only region es old new e (inl u) = unread_only region es old new e u
+part_only region es old new e (inr r) = read_only es r.0 old new r.1
 
 cut_more : (es : List EntryIndex) (parts : List EntriesPart) (rest : List EntryIndex) (n : ℕ) (strings : List (List ℕ))
     → AreCutInto es parts rest → rest ≢ [] → IsFirstPart rest n
@@ -245,7 +245,7 @@ so_far_only es group id old now before after rest h = parts_only h.parts old now
 
 pub parts_refused : (es : List EntryIndex) (group id : ℕ) (old now new : List Ask) (before after : List Batch) (rest : List EntryIndex) (n : ℕ) (e : Error)
     → ArePartsSoFar es group id old now before after rest → IsFirstPart rest n
-    → IsPartRefused (take n rest) now new e → ArePartsRefused es old new e
+    → IsPartRefused id (take n rest) now new e → ArePartsRefused id es old new e
 parts_refused es group id old now new before after rest n e h first refused = record {
   parts = h.parts;
   rest = rest;
@@ -294,6 +294,7 @@ module _ (t : Table) (group : ℕ) (es : List EntryIndex) (are : es ≡ moving_e
   pub added_only : AreOnlyRead old new
   added_only = parts_only a.parts old new a.read
 
-pub group_refused : (t : Table) (es : List EntryIndex) (old new : List Ask) (e : Error)
-    → es ≡ moving_entries None t.entries → ArePartsRefused es old new e → IsGroupRefused t old new e
-group_refused t es old new e are refused = inl (subst (λ (l : List EntryIndex). ArePartsRefused l old new e) are refused)
+pub group_refused : (t : Table) (region : ℕ) (es : List EntryIndex) (old new : List Ask) (e : Error)
+    → region ≡ t.region_id → es ≡ moving_entries None t.entries → ArePartsRefused region es old new e → IsGroupRefused t old new e
+group_refused t region es old new e of are refused =
+    inl (subst (λ (l : List EntryIndex). ArePartsRefused t.region_id l old new e) are (subst (λ (r : ℕ). ArePartsRefused r es old new e) of refused))

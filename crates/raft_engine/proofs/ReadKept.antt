@@ -25,8 +25,8 @@ none_read old new e = record { reads = []; only = tt; asked = e }
 pub read_only : (es : List EntryIndex) (strings : List (List ℕ)) (old new : List Ask) → AreReadByBlocks es strings old new → AreOnlyRead old new
 read_only es strings old new r = record { reads = r.reads; only = r.only; asked = r.asked }
 
-pub unread_only : (es : List EntryIndex) (old new : List Ask) (error : Error) → AreUnread es old new error → AreOnlyRead old new
-unread_only es old new error r = record { reads = r.reads; only = r.only; asked = r.asked }
+pub unread_only : (region : ℕ) (es : List EntryIndex) (old new : List Ask) (error : Error) → AreUnread region es old new error → AreOnlyRead old new
+unread_only region es old new error r = record { reads = r.reads; only = r.only; asked = r.asked }
 
 -- each entry has its bytes
 as_many : (es : List EntryIndex) (strings : List (List ℕ)) (reads : List Ask) → AllZip (IsReadAmong reads) es strings → length es ≡ length strings

@@ -13,6 +13,7 @@ use Rattle.raft_engine_fronts.specs.TornTails.{StopsAt}
 use Rattle.raft_engine.specs.CutTails.{IsTailOf, IsTailTold, tail_of}
 use Rattle.raft_engine.specs.FoundFiles.{AreAccepted, AreReadyBy, IsFoundFault, IsOfOther, IsOtherAs, IsTailRefused, IsTailRefusedAs}
 use Rattle.raft_engine.specs.OpeningAsks.{asks_that_tell, missing_asks, opening_asks}
+use Rattle.raft_engine.specs.SoundBlocks.{IsFileSound, IsUnsoundAs}
 use Rattle.raft_engine.specs.StoredFound.{AreReady, found_asks}
 use Rattle.raft_engine.specs.declared.missing.Missing.{Missing}
 use Rattle.raft_engine.specs.declared.missing.Missing.TheVariants.{Nothing, FirstFile, Cut}
@@ -33,12 +34,14 @@ module _ (mode : RecoveryMode) (queue : LogQueue) (version : Version) (files : L
       consecutive = consecutive;
       tolerated = λ d. no_last d.closed d.last (sym none ∙ d.split);
       of_version = λ o. no_last o.closed o.last (sym none ∙ o.split);
+      sound = λ closed last e. absurd (no_last closed last (sym none ∙ e));
     }
 
     pub first_ready : (missing : Missing) (left : List NumberedBytes) → missing ≡ FirstFile → left ≡ (1, []) ∷ [] → AreReadyBy queue version (missing_asks queue missing) files left
     first_ready missing left is first asks = record {
       consecutive = first_accepted.consecutive;
       of_version = first_accepted.of_version;
+      sound = first_accepted.sound;
       ready = inl (record { none = none; asked = ap (λ (m : Missing). missing_asks queue m ++ asks) is; first = first });
     }
 
@@ -58,21 +61,26 @@ module _ (mode : RecoveryMode) (queue : LogQueue) (version : Version) (files : L
     is_last : (closed' : List NumberedBytes) (last' : NumberedBytes) → files ≡ closed' ++ last' ∷ [] → last' ≡ last
     is_last closed' last' e = one_last closed' closed last' last (sym e ∙ split)
 
-    pub last_accepted : ¬ (IsTailRefused mode (whole_file queue version last)) → ¬ (IsOfOther (whole_file queue version last)) → AreAccepted mode queue version files
-    last_accepted tolerated of_version = record {
+    pub last_accepted : ¬ (IsTailRefused mode (whole_file queue version last)) → ¬ (IsOfOther (whole_file queue version last)) → IsFileSound queue version last → AreAccepted mode queue version files
+    last_accepted tolerated of_version sound = record {
       consecutive = consecutive;
       tolerated = λ d. tolerated (subst (λ (f : NumberedBytes). IsTailRefused mode (whole_file queue version f)) (is_last d.closed d.last d.split) d.tail);
       of_version = λ o. of_version (subst (λ (f : NumberedBytes). IsOfOther (whole_file queue version f)) (is_last o.closed o.last o.split) o.other);
+      sound = λ closed' last' e. subst (IsFileSound queue version) (sym (is_last closed' last' e)) sound;
     }
 
     pub last_fault : (e : Error) → IsTailRefusedAs mode (whole_file queue version last) e ⊎ IsOtherAs (whole_file queue version last) e → IsFoundFault mode queue version files e
     last_fault e (inl d) = inr (inl (record { closed = closed; last = last; split = split; tail = d }))
-    last_fault e (inr o) = inr (inr (record { closed = closed; last = last; split = split; other = o }))
+    last_fault e (inr o) = inr (inr (inl (record { closed = closed; last = last; split = split; other = o })))
+
+    pub block_fault : (e : Error) → (queue ≡ Rewrite) × IsUnsoundAs (whole_file queue version last) e → IsFoundFault mode queue version files e
+    block_fault e u = inr (inr (inr (record { of_rewrite = u.0; closed = closed; last = last; split = split; unsound = u.1 })))
 
     pub untorn_ready : AreAccepted mode queue version files → StopsAt (whole_file queue version last) (length last.1) → AreReadyBy queue version (missing_asks queue Nothing) files files
     untorn_ready accepted stops asks = record {
       consecutive = accepted.consecutive;
       of_version = accepted.of_version;
+      sound = accepted.sound;
       ready = inr (inl (record {
         asked = refl;
         same = refl;
@@ -85,6 +93,7 @@ module _ (mode : RecoveryMode) (queue : LogQueue) (version : Version) (files : L
     cut_ready accepted tail missing left told is cut asks = record {
       consecutive = accepted.consecutive;
       of_version = accepted.of_version;
+      sound = accepted.sound;
       ready = inr (inr (record {
         at = tail.offset;
         closed = closed;

@@ -26,6 +26,7 @@ use Rattle.raft_engine.specs.FoundFiles.{IsCut, IsFirstBegun, IsLastOfOther, IsL
 use Rattle.raft_engine.specs.KeptEngine.{KeptEngine}
 use Rattle.raft_engine.specs.Lasting.{AreFoundIn, IsLasting, IsLastingAfter}
 use Rattle.raft_engine.specs.Opened.{IsOpened}
+use Rattle.raft_engine.specs.SoundBlocks.{IsLastSound}
 use Rattle.raft_engine.specs.Restarts.{AreFromBefore, AreOpenable, AreSegmentsOf, AreTailsTolerated, HaveSame, IsFoundByRestarts, IsKeptByRestarts, IsKeptUnordered, RestartsFind}
 use Rattle.raft_engine.specs.declared.recovery_mode.RecoveryMode.{RecoveryMode}
 use Rattle.raft_engine.specs.declared.recovery_mode.RecoveryMode.TheVariants.{TolerateTornTail}
@@ -138,9 +139,9 @@ module _
           (cut queue version c.closed c.last h c.at (subst (λ (fs : List NumberedBytes). FilesHoldTorn queue version fs h) c.split held) c.torn.0)
 
   one_openable : (mode : RecoveryMode) (queue : LogQueue) (version : Version) (files : List NumberedBytes) (h : List Event) → AreConsecutive (numbers files) → ¬ (IsLastRefused mode queue version files)
-      → ¬ (IsLastOfOther queue version files) → FilesHoldTorn queue version files h → IsSoundIn queue h → AreOpenable mode queue version files
-  one_openable mode queue version files h consecutive tolerated of_version held sound = record {
-    accepted = record { consecutive = consecutive; tolerated = tolerated; of_version = of_version };
+      → ¬ (IsLastOfOther queue version files) → IsLastSound queue version files → FilesHoldTorn queue version files h → IsSoundIn queue h → AreOpenable mode queue version files
+  one_openable mode queue version files h consecutive tolerated of_version sealed held sound = record {
+    accepted = record { consecutive = consecutive; tolerated = tolerated; of_version = of_version; sound = sealed };
     readable = λ asks later ready is few bad.
         let there = ready_held queue version asks later files ready h is held in
         bad.unsound h there (few_records queue version ready h there few) (record { queue = queue; sound = sound });
@@ -158,8 +159,8 @@ module _
       → IsLeftOf Append asks append → IsLeftOf Rewrite asks rewrite → AreTailsTolerated mode version append rewrite → AreSoundFiles mode version append rewrite
   sound_files content version base asks l mode append rewrite a r t =
       let f = (l.left append rewrite a r).2 in record {
-        append_accepted = (one_openable mode Append version append f.appended f.append_consecutive t.0 (l.of_version Append append a) f.append_held f.append_sound).accepted;
-        rewrite_accepted = (one_openable mode Rewrite version rewrite f.rewritten f.rewrite_consecutive t.1 (l.of_version Rewrite rewrite r) f.rewrite_held f.rewrite_sound).accepted;
+        append_accepted = (one_openable mode Append version append f.appended f.append_consecutive t.0 (l.of_version Append append a) (l.sealed Append append a) f.append_held f.append_sound).accepted;
+        rewrite_accepted = (one_openable mode Rewrite version rewrite f.rewritten f.rewrite_consecutive t.1 (l.of_version Rewrite rewrite r) (l.sealed Rewrite rewrite r) f.rewrite_held f.rewrite_sound).accepted;
         appended = f.appended;
         rewritten = f.rewritten;
         append_sound = f.append_sound;
@@ -186,8 +187,8 @@ module _
     tolerated = λ found append rewrite a r. (not_refused Append version append (l.undamaged Append found.0 append a), not_refused Rewrite version rewrite (l.undamaged Rewrite found.1 rewrite r));
     accepted = λ mode append rewrite a r t.
         let f = (l.left append rewrite a r).2 in (
-          one_openable mode Append version append f.appended f.append_consecutive t.0 (l.of_version Append append a) f.append_held f.append_sound,
-          one_openable mode Rewrite version rewrite f.rewritten f.rewrite_consecutive t.1 (l.of_version Rewrite rewrite r) f.rewrite_held f.rewrite_sound,
+          one_openable mode Append version append f.appended f.append_consecutive t.0 (l.of_version Append append a) (l.sealed Append append a) f.append_held f.append_sound,
+          one_openable mode Rewrite version rewrite f.rewritten f.rewrite_consecutive t.1 (l.of_version Rewrite rewrite r) (l.sealed Rewrite rewrite r) f.rewrite_held f.rewrite_sound,
           λ asked later ready is. record { batches = f.rewritten; held = ready_held Rewrite version asked later rewrite ready f.rewritten is f.rewrite_held; rows = f.rows },
         );
     opens = λ mode append rewrite a r t. openings_succeed held_once few_records mode version append rewrite (sound_files content version base asks l mode append rewrite a r t);

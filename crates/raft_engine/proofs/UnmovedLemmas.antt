@@ -18,8 +18,9 @@ bytes_refused batch bytes e empty h =
     (h.0, omega (arith, none, many))
 
 -- the entries aren't all read
-pub entries_refused : (gate : Option ℕ) (t : Table) (es seen : List EntryIndex) (old new : List Ask) (e : Error) → seen ≡ es → es ≡ moving_entries gate t.entries → AreUnread seen old new e → IsBatchRefused gate t old new e
-entries_refused gate t es seen old new e same are h = inl (subst (λ (l : List EntryIndex). AreUnread l old new e) (same ∙ are) h)
+pub entries_refused : (gate : Option ℕ) (t : Table) (region : ℕ) → region ≡ t.region_id → (es seen : List EntryIndex) (old new : List Ask) (e : Error) → seen ≡ es → es ≡ moving_entries gate t.entries → AreUnread region seen old new e → IsBatchRefused gate t old new e
+entries_refused gate t region of es seen old new e same are h =
+    inl (subst (λ (l : List EntryIndex). AreUnread t.region_id l old new e) (same ∙ are) (subst (λ (r : ℕ). AreUnread r seen old new e) of h))
 
 -- they or the keys are refused
 pub records_refused : (gate : Option ℕ) (t : Table) (es seen : List EntryIndex) (strings : List (List ℕ)) (pairs : List (List ℕ × List ℕ)) (old new : List Ask) (e : Error) → seen ≡ es → es ≡ moving_entries gate t.entries

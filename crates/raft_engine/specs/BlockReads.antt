@@ -1,13 +1,15 @@
 -- Blocks that are read for entries, one after another.
-use Rattle.std.specs.Prelude.{◌≡◌, ◌⊎◌, ℕ, ◌+◌, ◌<◌, ◌≤◌, List, ◌∷◌, length, Option, Some, None}
+use Rattle.std.specs.Prelude.{◌≡◌, ◌⊎◌, ℕ, ◌+◌, ◌<◌, ◌≤◌, List, ◌∷◌, ◌++◌, length, Option, Some, None, string_bytes}
 use Rattle.raft_base.specs.declared.entry_index.EntryIndex.{EntryIndex}
 use Rattle.raft_base.specs.declared.errors.Error.{Error}
 use Rattle.raft_base.specs.declared.errors.Error.TheVariants as errors
 use Rattle.raft_base.specs.declared.pipe_log.FileBlockHandle.{FileBlockHandle}
+use Rattle.raft_base.specs.Corruption.{IsCorruption}
 use Rattle.raft_base.specs.Errors.{IsCorruptionError}
 use Rattle.raft_records.specs.Header.{IsEntryBlockOf}
 use Rattle.raft_files.specs.Asks.{Ask, Read, ask}
 use Rattle.raft_engine_laws.specs.Contents.{bytes_of}
+use Rattle.raft_engine.specs.Reads.{NamesEntry, entry_text}
 use Rattle.raft_engine.specs.declared.block_reads.EntryBlock.{EntryBlock}
 
 -- the bytes at a place were read, and are a sound block with these entry bytes
@@ -16,11 +18,16 @@ pub record IsSoundRead (place : FileBlockHandle) (entries : List ℕ) (old new :
   pub asked : new ≡ ask place.id.queue (Read place block) ∷ old
   pub sound : IsEntryBlockOf place.len block entries
 
--- the bytes at a place were read; they are no sound block, or there is no memory for its entry bytes
-pub record IsUnsoundRead (place : FileBlockHandle) (old new : List Ask) (error : Error) : Type 0 where
+-- what a refusal becomes with the entry that it is about: a corruption has the region, the index and the place in front of its reason, and any other stays as it is; or there is no memory for the text
+abbrev pub IsOfEntry : ℕ → ℕ → FileBlockHandle → Error → Error → Type 0
+IsOfEntry region index place (errors.Corruption reason) e = IsCorruption (entry_text region index place ++ string_bytes reason) e
+IsOfEntry region index place fault e = e ≡ fault
+
+-- the bytes at a place were read for an entry; they are no sound block, or there is no memory for its entry bytes
+pub record IsUnsoundRead (region index : ℕ) (place : FileBlockHandle) (old new : List Ask) (error : Error) : Type 0 where
   pub block : List ℕ
   pub asked : new ≡ ask place.id.queue (Read place block) ∷ old
-  pub why : (error ≡ errors.Memory) ⊎ (IsCorruptionError error × ((entries : List ℕ) → IsEntryBlockOf place.len block entries → ⊥))
+  pub why : (error ≡ errors.Memory) ⊎ (IsCorruptionError error × NamesEntry region index place error × ((entries : List ℕ) → IsEntryBlockOf place.len block entries → ⊥))
 
 -- a block that is kept is the one at the place of an entry
 abbrev pub IsKeptOf : EntryIndex → Option EntryBlock → Type 0
@@ -33,9 +40,9 @@ pub record IsBlockOf (e : EntryIndex) (kept : Option EntryBlock) (block : EntryB
   pub got : ((kept ≡ Some block) × (new ≡ old)) ⊎ ((IsKeptOf e kept → ⊥) × IsSoundRead block.place block.entries.items old new)
 
 -- the block that is kept is another one; nothing was read, or no sound block at the place of the entry
-pub record IsNoBlockOf (e : EntryIndex) (kept : Option EntryBlock) (old new : List Ask) (error : Error) : Type 0 where
+pub record IsNoBlockOf (region : ℕ) (e : EntryIndex) (kept : Option EntryBlock) (old new : List Ask) (error : Error) : Type 0 where
   pub other : IsKeptOf e kept → ⊥
-  pub unread : (new ≡ old) ⊎ ((place : FileBlockHandle) × (e.entries ≡ Some place) × IsUnsoundRead place old new error)
+  pub unread : (new ≡ old) ⊎ ((place : FileBlockHandle) × (e.entries ≡ Some place) × IsUnsoundRead region e.index place old new error)
 
 -- the bytes of an entry in the entry bytes of a block
 pub record AreBytesIn (entries : List ℕ) (e : EntryIndex) (bytes : List ℕ) : Type 0 where
@@ -43,5 +50,6 @@ pub record AreBytesIn (entries : List ℕ) (e : EntryIndex) (bytes : List ℕ) :
   pub are : bytes ≡ bytes_of entries e
 
 -- there is no memory for them, or they aren't there
-abbrev pub AreNoBytesIn : List ℕ → EntryIndex → Error → Type 0
-AreNoBytesIn entries e error = (error ≡ errors.Memory) ⊎ (IsCorruptionError error × (length entries < e.entry_offset + e.entry_len))
+abbrev pub AreNoBytesIn : ℕ → FileBlockHandle → List ℕ → EntryIndex → Error → Type 0
+AreNoBytesIn region place entries e error =
+    (error ≡ errors.Memory) ⊎ (IsCorruptionError error × NamesEntry region e.index place error × (length entries < e.entry_offset + e.entry_len))

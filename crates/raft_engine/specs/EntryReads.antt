@@ -19,10 +19,10 @@ IsEntryGot None (Some bytes) old new = ⊥
 IsEntryGot (Some e) None old new = ⊥
 IsEntryGot (Some e) (Some bytes) old new = AreReadByBlocks (e ∷ []) (bytes ∷ []) old new
 
--- why an entry isn't read
-abbrev pub IsEntryUnread : Option EntryIndex → List Ask → List Ask → Error → Type 0
-IsEntryUnread None old new error = ⊥
-IsEntryUnread (Some e) old new error = AreUnread (e ∷ []) old new error
+-- why an entry of a region isn't read
+abbrev pub IsEntryUnread : ℕ → Option EntryIndex → List Ask → List Ask → Error → Type 0
+IsEntryUnread region None old new error = ⊥
+IsEntryUnread region (Some e) old new error = AreUnread region (e ∷ []) old new error
 
 -- ---- many entries
 
@@ -50,4 +50,4 @@ pub record AreFetched (region begin end : ℕ) (limit : Option ℕ) (count : ℕ
 abbrev pub AreUnfetched : ℕ → ℕ → ℕ → Option ℕ → KeptEngine → KeptEngine → Error → Type 0
 AreUnfetched region begin end limit old new error =
     (IsFetchFault (answer_of begin end (finite.get old.accessor.tables region)) error × (new.asks ≡ old.asks))
-    ⊎ ((es : List EntryIndex) × AreOfRange region begin end limit old es × AreUnread es old.asks new.asks error)
+    ⊎ ((es : List EntryIndex) × AreOfRange region begin end limit old es × AreUnread region es old.asks new.asks error)

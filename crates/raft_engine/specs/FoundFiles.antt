@@ -1,7 +1,7 @@
 -- Files that are found when an engine is opened: where their tails begin that can't be read, which of them a mode refuses, and when files are of the other version.
 use Rattle.std.specs.Prelude.{◌≡◌, ◌⊎◌, ℕ, suc, ◌<◌, ◌≤◌, List, [], ◌∷◌, ◌++◌, length, codes, Option, Some, None}
 use Rattle.std.specs.Fmt.{decimal}
-use Rattle.raft_base.specs.Corruption.{IsCorruption}
+use Rattle.raft_base.specs.Corruption.{IsArgumentRefusal, IsCorruption}
 use Rattle.raft_base.specs.declared.errors.Error.{Error}
 use Rattle.raft_base.specs.declared.pipe_log.FileId.{FileId}
 use Rattle.raft_base.specs.declared.pipe_log.LogQueue.{LogQueue}
@@ -16,6 +16,7 @@ use Rattle.raft_recover.specs.Files.{whole_file}
 use Rattle.raft_engine_fronts.specs.Done.{AreConsecutive, numbers}
 use Rattle.raft_engine_fronts.specs.TornTails.{IsDamagedAt, StopsAt}
 use Rattle.raft_tail.specs.Tails.{IsNextElsewhere, IsNextSound}
+use Rattle.raft_engine.specs.SoundBlocks.{IsLastSound, IsLastUnsoundAs}
 use Rattle.raft_engine.specs.declared.recovery_mode.RecoveryMode.{RecoveryMode}
 use Rattle.raft_engine.specs.declared.recovery_mode.RecoveryMode.TheVariants.{AbsoluteConsistency, TolerateTailCorruption, TolerateTornTail}
 
@@ -75,19 +76,29 @@ in_other part = record part { version = other_version part.version }
 abbrev pub BeginsInOther : Part → Type 0
 BeginsInOther part = (items : List Item) × (next : ℕ) × IsBatchAt (in_other part) 0 items next
 
--- a part is of the other version: at its first byte no batch can be read, but in the other version one can
+-- how the files of raft-engine begin
+abbrev pub engine_header : List ℕ
+engine_header = codes "RAFT-LOG-FILE-HEADER"
+
+-- a part begins so
+abbrev pub IsOfEngine : Part → Type 0
+IsOfEngine part = (rest : List ℕ) × (part.bytes ≡ engine_header ++ rest)
+
+-- a part is of the other version, or of raft-engine: at its first byte no batch can be read, but in the other version one can, or raft-engine's header stands there
 pub record IsOfOther (part : Part) : Type 0 where
   pub unreadable : IsUnreadableAt part 0
-  pub begins : BeginsInOther part
+  pub begins : BeginsInOther part ⊎ IsOfEngine part
 
--- the refusal of a file that is of the other version: its text begins with the file and the offset
-abbrev pub IsOtherText : FileId → ℕ → Error → Type 0
-IsOtherText id at e = IsCorruption (place_text id at ++ codes "a batch of the other version stands there") e
+-- the refusal of a file that is of the other version, or of raft-engine: its text begins with the file and the offset
+abbrev pub IsOtherText : Part → Error → Type 0
+IsOtherText part e =
+    (BeginsInOther part × IsCorruption (place_text part.id 0 ++ codes "a batch of the other version stands there") e)
+    ⊎ (IsOfEngine part × IsArgumentRefusal (place_text part.id 0 ++ codes "the file is one of raft-engine, which begins with a header") e)
 
--- a part that begins its file is of the other version, and the refusal says so
+-- a part that begins its file is of the other version, or of raft-engine, and the refusal says so
 pub record IsOtherAs (part : Part) (e : Error) : Type 0 where
   pub other : IsOfOther part
-  pub text : IsOtherText part.id 0 e
+  pub text : IsOtherText part e
 
 -- a part ends with its batches; or a reader stops before its end, from where on it is to be cut
 abbrev pub IsTornFrom : Part → Option ℕ → Type 0
@@ -128,14 +139,14 @@ pub record IsLastRefusedAs (mode : RecoveryMode) (queue : LogQueue) (version : V
   pub split : files ≡ closed ++ last ∷ []
   pub tail : IsTailRefusedAs mode (whole_file queue version last) e
 
--- the last file of a queue is of the other version
+-- the last file of a queue is of the other version, or of raft-engine
 pub record IsLastOfOther (queue : LogQueue) (version : Version) (files : List NumberedBytes) : Type 0 where
   pub closed : List NumberedBytes
   pub last : NumberedBytes
   pub split : files ≡ closed ++ last ∷ []
   pub other : IsOfOther (whole_file queue version last)
 
--- the last file of a queue is of the other version, and the refusal says so
+-- the last file of a queue is of the other version, or of raft-engine, and the refusal says so
 pub record IsLastOtherAs (queue : LogQueue) (version : Version) (files : List NumberedBytes) (e : Error) : Type 0 where
   pub closed : List NumberedBytes
   pub last : NumberedBytes
@@ -166,15 +177,17 @@ pub record AreApartAs (queue : LogQueue) (files : List NumberedBytes) (e : Error
   pub together : StandTogether (numbers files) last next
   pub why : IsApartAs queue last next e
 
--- the found files of a queue can be made ready in a mode: their numbers are consecutive, and the last one neither has a tail that the mode refuses nor is of the other version
+-- the found files of a queue can be made ready in a mode: their numbers are consecutive, and the last one neither has a tail that the mode refuses nor is of the other version or of raft-engine; if it is a rewrite file, its entry blocks are sound
 pub record AreAccepted (mode : RecoveryMode) (queue : LogQueue) (version : Version) (files : List NumberedBytes) : Type 0 where
   pub consecutive : AreConsecutive (numbers files)
   pub tolerated : ¬ (IsLastRefused mode queue version files)
   pub of_version : ¬ (IsLastOfOther queue version files)
+  pub sound : IsLastSound queue version files
 
 -- why they can't be
 abbrev pub IsFoundFault : RecoveryMode → LogQueue → Version → List NumberedBytes → Error → Type 0
-IsFoundFault mode queue version files e = AreApartAs queue files e ⊎ IsLastRefusedAs mode queue version files e ⊎ IsLastOtherAs queue version files e
+IsFoundFault mode queue version files e =
+    AreApartAs queue files e ⊎ IsLastRefusedAs mode queue version files e ⊎ IsLastOtherAs queue version files e ⊎ IsLastUnsoundAs queue version files e
 
 -- a queue has no file, and its first one is begun
 pub record IsFirstBegun (queue : LogQueue) (asks later : List Ask) (files left : List NumberedBytes) : Type 0 where
@@ -182,11 +195,12 @@ pub record IsFirstBegun (queue : LogQueue) (asks later : List Ask) (files left :
   pub asked : later ≡ ask queue (Begin 1) ∷ asks
   pub first : left ≡ (1, []) ∷ []
 
--- The found files of a queue, whose numbers are consecutive, and of which the last isn't of the other version, are ready for what is put
--- next: its first file is begun, if there is none, and what can't be read of its last file is cut off.
+-- The found files of a queue, whose numbers are consecutive, and of which the last isn't of the other version or of raft-engine, and has sound entry blocks if it
+-- is a rewrite file, are ready for what is put next: its first file is begun, if there is none, and what can't be read of its last file is cut off.
 pub record IsReady (queue : LogQueue) (version : Version) (asks later : List Ask) (files left : List NumberedBytes) : Type 0 where
   pub consecutive : AreConsecutive (numbers files)
   pub of_version : ¬ (IsLastOfOther queue version files)
+  pub sound : IsLastSound queue version files
   pub ready : IsFirstBegun queue asks later files left ⊎ IsTailCut queue version asks later files left
 
 -- the found files of a queue are ready, and are these then, once this is asked, which is missing

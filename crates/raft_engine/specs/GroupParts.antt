@@ -59,13 +59,13 @@ pub record IsGroupInParts (t : Table) (old new : List Ask) (group : ℕ) (batche
 
 -- ---- why there is none
 
--- the entries of a part aren't all read; or they are, and have 2^31 bytes or more
-abbrev pub IsPartRefused : List EntryIndex → List Ask → List Ask → Error → Type 0
-IsPartRefused part old new e =
-    AreUnread part old new e ⊎ ((strings : List (List ℕ)) × AreReadByBlocks part strings old new × (e ≡ errors.Full) × (2 ^ 31 ≤ length (concat strings)))
+-- the entries of a part, of a region, aren't all read; or they are, and have 2^31 bytes or more
+abbrev pub IsPartRefused : ℕ → List EntryIndex → List Ask → List Ask → Error → Type 0
+IsPartRefused region part old new e =
+    AreUnread region part old new e ⊎ ((strings : List (List ℕ)) × AreReadByBlocks part strings old new × (e ≡ errors.Full) × (2 ^ 31 ≤ length (concat strings)))
 
--- the first parts of entries were read, and the next one is refused
-pub record ArePartsRefused (es : List EntryIndex) (old new : List Ask) (e : Error) : Type 0 where
+-- the first parts of entries of a region were read, and the next one is refused
+pub record ArePartsRefused (region : ℕ) (es : List EntryIndex) (old new : List Ask) (e : Error) : Type 0 where
   pub parts : List EntriesPart
   pub rest : List EntryIndex
   pub cut : AreCutInto es parts rest
@@ -73,7 +73,7 @@ pub record ArePartsRefused (es : List EntryIndex) (old new : List Ask) (e : Erro
   pub next : IsFirstPart rest count
   pub between : List Ask
   pub read : ArePartsRead parts old between
-  pub refused : IsPartRefused (take count rest) between new e
+  pub refused : IsPartRefused region (take count rest) between new e
 
 -- all parts of entries were read, and one of these keys is that of the group markers
 pub record AreGroupKeysRefused (es : List EntryIndex) (pairs : List (List ℕ × List ℕ)) (old new : List Ask) (e : Error) : Type 0 where
@@ -85,4 +85,4 @@ pub record AreGroupKeysRefused (es : List EntryIndex) (pairs : List (List ℕ ×
 -- why there are no batches of what of a table is in rewrite files, if there is memory
 abbrev pub IsGroupRefused : Table → List Ask → List Ask → Error → Type 0
 IsGroupRefused t old new e =
-    ArePartsRefused (moving_entries None t.entries) old new e ⊎ AreGroupKeysRefused (moving_entries None t.entries) (moving_pairs None t.keys) old new e
+    ArePartsRefused t.region_id (moving_entries None t.entries) old new e ⊎ AreGroupKeysRefused (moving_entries None t.entries) (moving_pairs None t.keys) old new e

@@ -21,6 +21,7 @@ use Rattle.raft_engine_fronts.specs.TornTails.{AreUndamaged, FilesHoldTorn, Foun
 use Rattle.raft_engine.specs.CutFiles.{AreCut}
 use Rattle.raft_engine.specs.FoundFiles.{IsLastOfOther}
 use Rattle.raft_engine.specs.KeptEngine.{KeptEngine}
+use Rattle.raft_engine.specs.SoundBlocks.{IsLastSound}
 
 -- in these files of both queues, whose numbers are consecutive, stand batches that can be read, but for a torn tail of each queue, in the rewrite queue each group in a row, and every reading of both queues gives tables with these records
 pub record AreFoundIn (content : EntryIndex → List ℕ) (version : Version) (append rewrite : List NumberedBytes) (records : ℕ → Records) : Type 0 where
@@ -76,8 +77,8 @@ AreSynced (Read place bytes ∷ earlier) = AreSynced earlier
 -- append file is never deleted. If the machine stops now, the files that are left
 -- hold the records of a front of the batches, with the synced ones at least; and if nothing is lost, those of all batches.
 -- Contents that were told by what was asked of a queue are those that its files have, once they are cut where reading stops.
--- The last file of those that are left isn't of the other version; it isn't damaged, where the found files aren't; and the entries of
--- their batches end within their blocks, where those of the found files do.
+-- The last file of those that are left isn't of the other version, and has sound entry blocks if it is a rewrite file; it isn't damaged,
+-- where the found files aren't; and the entries of their batches end within their blocks, where those of the found files do.
 pub record IsLastingAfter (content : EntryIndex → List ℕ) (version : Version) (base : ℕ → Records) (asks : List Ask) : Type 0 where
   pub batches : List Event
   pub synced : List Event
@@ -90,6 +91,7 @@ pub record IsLastingAfter (content : EntryIndex → List ℕ) (version : Version
   pub told : (queue : LogQueue) → AreTold queue (acts_on queue asks) content → (files cut : List NumberedBytes) → IsLeftOf queue asks files → AreCut queue version files cut
       → AreToldByFiles queue cut content
   pub of_version : (queue : LogQueue) (files : List NumberedBytes) → IsLeftOf queue asks files → ¬ (IsLastOfOther queue version files)
+  pub sealed : (queue : LogQueue) (files : List NumberedBytes) → IsLeftOf queue asks files → IsLastSound queue version files
   pub undamaged : (queue : LogQueue) → FoundUndamaged queue version (acts_on queue asks) → (files : List NumberedBytes) → IsLeftOf queue asks files → AreUndamaged queue version files
   pub ends : (queue : LogQueue) → FoundEndWithin queue version (acts_on queue asks) → (files : List NumberedBytes) → IsLeftOf queue asks files → FilesEndWithin queue version files
   pub whole : AreFoundIn content version (files_of Append asks) (files_of Rewrite asks) (live content base batches)

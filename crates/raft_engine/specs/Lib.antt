@@ -31,6 +31,7 @@ pub mod PurgedRewrites
 pub mod Faults
 pub mod MovingFaults
 -- opening
+pub mod SoundBlocks
 pub mod FoundFiles
 pub mod QueueFilesOf
 pub mod FileSegments

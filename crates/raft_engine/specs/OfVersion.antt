@@ -1,4 +1,4 @@
--- What a stop leaves is of the version in which it was written.
+-- What a stop leaves is of the version in which it was written, and isn't of raft-engine.
 use Rattle.std.specs.Prelude.{ℕ, List, ◌∷◌, ◌++◌}
 use Rattle.raft_base.specs.declared.pipe_log.FileBlockHandle.{FileBlockHandle}
 use Rattle.raft_base.specs.declared.pipe_log.LogQueue.{LogQueue}
@@ -11,7 +11,7 @@ use Rattle.raft_files.specs.Disk.{IsLeftOf, MayStand, begun}
 use Rattle.raft_recover.specs.Files.{FilesHold}
 use Rattle.raft_engine.specs.FoundFiles.{IsLastOfOther, IsOfOther}
 
--- whatever may stand of the files of a queue, the last one isn't of the other version
+-- whatever may stand of the files of a queue, the last one isn't of the other version or of raft-engine
 abbrev pub NoneIsOther : LogQueue → Version → List Act → Type 0
 NoneIsOther queue version acts = (files : List NumberedBytes) → MayStand acts files → ¬ (IsLastOfOther queue version files)
 

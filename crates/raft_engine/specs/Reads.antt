@@ -1,15 +1,18 @@
 -- Reads of blocks, for the entries that are in them.
-use Rattle.std.specs.Prelude.{◌≡◌, ◌≢◌, ◌⊎◌, ℕ, ◌+◌, ◌<◌, ◌≤◌, List, [], ◌∷◌, ◌++◌, Contains, length, Some}
+use Rattle.std.specs.Prelude.{◌≡◌, ◌≢◌, ◌⊎◌, ℕ, ◌+◌, ◌<◌, ◌≤◌, List, [], ◌∷◌, ◌++◌, Contains, codes, length, Some}
+use Rattle.std.specs.Fmt.{decimal}
 use Rattle.std.specs.List.{AllZip}
 use Rattle.raft_base.specs.declared.entry_index.EntryIndex.{EntryIndex}
 use Rattle.raft_base.specs.declared.errors.Error.{Error}
 use Rattle.raft_base.specs.declared.errors.Error.TheVariants as errors
 use Rattle.raft_base.specs.declared.pipe_log.FileBlockHandle.{FileBlockHandle}
+use Rattle.raft_base.specs.Corruption.{IsCorruption}
 use Rattle.raft_base.specs.Errors.{IsCorruptionError}
 use Rattle.raft_records.specs.Header.{IsEntryBlockOf}
 use Rattle.raft_table.specs.Fetches.{block_count}
 use Rattle.raft_files.specs.Asks.{Ask, Read, ask}
 use Rattle.raft_engine_laws.specs.Contents.{bytes_of}
+use Rattle.raft_replay.specs.Stops.{place_text}
 
 -- ---- what is asked
 
@@ -60,10 +63,20 @@ pub record AreReadByBlocks (es : List EntryIndex) (strings : List (List ℕ)) (o
   pub once : length reads ≡ block_count es
   pub have : AllZip (IsReadAmong reads) es strings
 
--- why these entries, one at least, aren't read, after reads alone: not all of their blocks were read; or there is no memory; or one of them is damaged
-pub record AreUnread (es : List EntryIndex) (old new : List Ask) (error : Error) : Type 0 where
+-- the text about an entry of a region, and the place of its block, in front of a reason
+abbrev pub entry_text : ℕ → ℕ → FileBlockHandle → List ℕ
+entry_text region index place =
+    codes "region " ++ (decimal region ++ (codes ", index " ++ (decimal index ++ (codes ", " ++ place_text place.id place.offset))))
+
+-- a refusal by a text that begins so, or for want of memory for it
+abbrev pub NamesEntry : ℕ → ℕ → FileBlockHandle → Error → Type 0
+NamesEntry region index place error = (reason : List ℕ) × IsCorruption (entry_text region index place ++ reason) error
+
+-- why these entries of a region, one at least, aren't read, after reads alone: not all of their blocks were read; or there is no memory; or one of them is damaged, and the refusal names it
+pub record AreUnread (region : ℕ) (es : List EntryIndex) (old new : List Ask) (error : Error) : Type 0 where
   pub some : es ≢ []
   pub reads : List Ask
   pub only : AreReads reads
   pub asked : new ≡ reads ++ old
-  pub why : (length reads < block_count es) ⊎ (error ≡ errors.Memory) ⊎ (IsCorruptionError error × ((e : EntryIndex) × Contains es e × IsDamaged reads e))
+  pub why : (length reads < block_count es) ⊎ (error ≡ errors.Memory)
+      ⊎ (IsCorruptionError error × ((e : EntryIndex) × Contains es e × (damaged : IsDamaged reads e) × NamesEntry region e.index damaged.place error))

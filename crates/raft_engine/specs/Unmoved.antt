@@ -22,6 +22,6 @@ AreRecordsRefused strings pairs e = ((e ≡ errors.Full) × (2 ^ 31 ≤ length (
 -- read; or they are, and they or the keys are refused
 abbrev pub IsBatchRefused : Option ℕ → Table → List Ask → List Ask → Error → Type 0
 IsBatchRefused gate t old new e =
-    AreUnread (moving_entries gate t.entries) old new e
+    AreUnread t.region_id (moving_entries gate t.entries) old new e
     ⊎ ((strings : List (List ℕ)) × AreReadByBlocks (moving_entries gate t.entries) strings old new
     × AreRecordsRefused strings (moving_pairs gate t.keys) e)

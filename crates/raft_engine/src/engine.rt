@@ -141,11 +141,12 @@ impl<F: EngineFiles> Engine<F> {
     /// isn't one above that of the file before it, with the name of the first file that is missing; where a queue's last file
     /// is damaged (where its reading stops, what is left isn't part of one batch, and a batch that can be read stands behind,
     /// or one that is signed for another file: both places are named) or of the other version (its first batch can be read in
-    /// that one alone). Where a batch can't be read, or can't follow those before it, the refusal is that of `recover_both`: a
-    /// `Corruption` with the file and the offset in front of its text, `Codec` or `Io`. `InvalidArgument` where a batch of the
-    /// rewrite files goes on with an atomic group, or ends it, and doesn't stand right behind one that begins the group or goes
-    /// on with it, in the same file; and for another number of workers than 1 to 256. `Full` where the files of a queue have
-    /// 2^63 bytes or more, or what is told at once has 2^56 bytes or more. `Memory`.
+    /// that one alone); and where the entries of a batch of the last rewrite file are damaged. Where a batch can't be read, or
+    /// can't follow those before it, the refusal is that of `recover_both`: a `Corruption` with the file and the offset in front
+    /// of its text, `Codec` or `Io`. `InvalidArgument` where a batch of the rewrite files goes on with an atomic group, or ends
+    /// it, and doesn't stand right behind one that begins the group or goes on with it, in the same file; and for another number
+    /// of workers than 1 to 256. `Full` where the files of a queue have 2^63 bytes or more, or what is told at once has 2^56
+    /// bytes or more. `Memory`.
     ///
     /// Those of `EngineFiles`: some of it was asked then, and whatever is left of the files has the records that were found. They
     /// may be found again, and opened.
@@ -189,7 +190,7 @@ impl<F: EngineFiles> Engine<F> {
     /// # Errors
     ///
     /// Those of [`Engine::open`], but that a queue's last file which can't be read to its end is always refused in the mode
-    /// `AbsoluteConsistency`, and never for that in the mode `TolerateTailCorruption`.
+    /// `AbsoluteConsistency`, and never for that in the mode `TolerateTailCorruption`. Damaged entries are refused in each mode.
     pub fn open_telling<R: Threads + Sync>(
         rt: &R,
         alloc: Global,

@@ -1,16 +1,18 @@
 //! The files that are found when an engine is opened.
 
-ghost use Rattle.std.specs.Prelude.{◌≡◌, ◌≢◌, suc, ◌∷◌, ◌⊎◌, ◌↔◌, ◌≤◌, ◌<◌, [], length, map, IfOk, IfErr, IsTrue, OnOk};
+ghost use Rattle.std.specs.Prelude.{◌≡◌, ◌≢◌, suc, ◌∷◌, ◌++◌, ◌⊎◌, ◌↔◌, ◌≤◌, ◌<◌, [], codes, length, map, IfOk, IfErr, IsTrue, OnOk};
 ghost use Rattle.raft_files.specs.HeldFiles.{file_shown};
-ghost use Rattle.raft_base.specs.Corruption.{IsCorruption};
+ghost use Rattle.raft_base.specs.Corruption.{IsArgumentRefusal, IsCorruption};
 ghost use Rattle.raft_engine_fronts.specs.Done.{AreConsecutive, numbers};
 ghost use Rattle.raft_files.specs.Disk.{cut_last};
 ghost use Rattle.raft_recover.specs.Files.{whole_file};
+ghost use Rattle.raft_replay.specs.Stops.{place_text};
 ghost use Rattle.raft_engine.specs.CutTails.{IsTailTold, IsTornAs, tail_of};
-ghost use Rattle.raft_engine.specs.FoundFiles.{AreAccepted, AreApartAs, AreReadyBy, BeginsInOther, IsApartAs, IsDamageText, IsFoundFault, IsOfOther, IsOtherAs, IsRefusalText, IsRefusedAt, IsTailRefused, IsTailRefusedAs, elsewhere_text, followed_text, missing_text, other_version, uncut_text};
+ghost use Rattle.raft_engine.specs.FoundFiles.{AreAccepted, AreApartAs, AreReadyBy, BeginsInOther, IsApartAs, IsDamageText, IsFoundFault, IsOfEngine, IsOfOther, IsOtherAs, IsOtherText, IsRefusalText, IsRefusedAt, IsTailRefused, IsTailRefusedAs, elsewhere_text, followed_text, missing_text, other_version, uncut_text};
 ghost use Rattle.raft_engine.specs.OpeningAsks.{missing_asks};
 ghost use Rattle.raft_engine_fronts.specs.TornTails.{IsDamagedAt};
 
+use crate::blocks::check_blocks;
 use crate::limits::FIRST_SEQ;
 use crate::missing::Missing;
 use crate::recovered::CutTail;
@@ -27,6 +29,12 @@ const NOT_ABOVE: &str = "a file number isn't above the one before it";
 /// Why a file is refused of which nothing may be cut off.
 const UNCUT: &str = "no batch can be read there, and nothing may be cut off";
 
+/// How the files of raft-engine begin.
+const ENGINE_HEADER: &[u8] = b"RAFT-LOG-FILE-HEADER";
+
+/// Why a file of raft-engine is refused.
+const OF_ENGINE: &str = "the file is one of raft-engine, which begins with a header";
+
 /// Why a file is refused whose first batch can be read in the other version alone.
 const OF_OTHER_VERSION: &str = "a batch of the other version stands there";
 
@@ -38,7 +46,8 @@ const OF_OTHER_VERSION: &str = "a batch of the other version stands there";
 /// `Corruption` where the number of a file isn't one above that of the file before it; where the mode refuses the tail of the
 /// last file: any; one in which damage begins, as what is left isn't part of one batch, and a batch that can be read stands
 /// behind, or one that is signed for another file; or none; and where the last file is of the other version: its first batch
-/// can be read in that one alone. `Memory`.
+/// can be read in that one alone; and where the entries of a batch of the last rewrite file are damaged. `InvalidArgument` where
+/// the last file begins as those of raft-engine do. `Memory`.
 pub fn made_ready(
     mode: RecoveryMode,
     queue: LogQueue,
@@ -57,7 +66,9 @@ pub fn made_ready(
     let Some(last) = found.last() else {
         return begin_first(found);
     };
-    match torn_tail(mode, queue, version, last)? {
+    let torn = torn_tail(mode, queue, version, last)?;
+    check_blocks(queue, version, last)?;
+    match torn {
         None => Ok(Missing::Nothing),
         Some(tail) => {
             cut_last(found, tail.offset as usize);
@@ -152,7 +163,8 @@ fn cut_last(found: &mut Vec<(FileSeq, Vec<u8>)>, at: usize)
 ///
 /// # Errors
 ///
-/// `Corruption` where the mode refuses the tail, or the file is of the other version; `Memory`.
+/// `Corruption` where the mode refuses the tail, or the file is of the other version; `InvalidArgument` where it is of
+/// raft-engine; `Memory`.
 fn torn_tail(
     mode: RecoveryMode,
     queue: LogQueue,
@@ -175,7 +187,8 @@ fn torn_tail(
 ///
 /// # Errors
 ///
-/// `Corruption` where the mode refuses that tail, or the file is of the other version; `Memory`.
+/// `Corruption` where the mode refuses that tail, or the file is of the other version; `InvalidArgument` where it is of
+/// raft-engine; `Memory`.
 fn torn_from(mode: RecoveryMode, file: &FilePart) -> Result<Option<CutTail>>
     ensures ok { IfOk result (IsTornAs file.now) }
     ensures tolerated { OnOk result (¬ (IsTailRefused mode file.now)) }
@@ -188,9 +201,7 @@ fn torn_from(mode: RecoveryMode, file: &FilePart) -> Result<Option<CutTail>>
         return Ok(None);
     };
     unless_memory(&error)?;
-    if at == 0 && begins_in_other(file)? {
-        return Err(corruption_at(file.allocator(), file.id(), 0, OF_OTHER_VERSION));
-    }
+    check_beginning(file, at)?;
     check_tolerated(mode, file, at)?;
     Ok(Some(CutTail {
         file: file.id().seq,
@@ -277,6 +288,45 @@ fn of_elsewhere(file: &FilePart, at: usize, offset: usize, seq: FileSeq) -> Erro
     }
 }
 
+/// Refuses a file whose reading stops at its first byte, and that is of the other version or of raft-engine.
+///
+/// # Errors
+///
+/// `Corruption` for the other version, `InvalidArgument` for raft-engine, both with the place; `Memory`.
+fn check_beginning(file: &FilePart, at: usize) -> Result<()>
+    ensures ok { OnOk result (at ≡ 0 → ¬ (BeginsInOther file.now ⊎ IsOfEngine file.now)) }
+    ensures refused { IfErr result (λ e. e ≢ Error.Memory
+        → (at ≡ 0) × IsOtherText file.now e) }
+{
+    if at != 0 {
+        return Ok(());
+    }
+    if is_of_engine(file) {
+        return Err(of_engine(file));
+    }
+    if begins_in_other(file)? {
+        return Err(corruption_at(file.allocator(), file.id(), 0, OF_OTHER_VERSION));
+    }
+    Ok(())
+}
+
+/// Tests whether a file begins as those of raft-engine do.
+fn is_of_engine(file: &FilePart) -> bool
+    ensures { IsTrue result ↔ IsOfEngine file.now }
+{
+    file.bytes().starts_with(ENGINE_HEADER)
+}
+
+/// Returns the refusal of a file of raft-engine.
+fn of_engine(file: &FilePart) -> Error
+    ensures { IsArgumentRefusal (place_text file.now.id 0 ++ codes "the file is one of raft-engine, which begins with a header") result }
+{
+    match corruption_at(file.allocator(), file.id(), 0, OF_ENGINE) {
+        Error::Corruption(text) => Error::InvalidArgument(text),
+        _ => Error::Memory,
+    }
+}
+
 /// Tests whether a batch that can be read in the other version stands at the first byte of a file.
 ///
 /// # Errors
@@ -311,7 +361,7 @@ fn other(version: Version) -> Version
 /// # Errors
 ///
 /// `Memory`.
-fn unless_memory(error: &Error) -> Result<()>
+pub fn unless_memory(error: &Error) -> Result<()>
     ensures ok { OnOk result (error.now ≢ Error.Memory) }
     ensures memory { IfErr result (λ e. e ≡ Error.Memory) }
 {

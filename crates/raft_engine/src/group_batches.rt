@@ -93,7 +93,7 @@ fn push_parts<F: EngineFiles>(
     ensures state { OnOk result (IsRunning builder.new.state) }
     ensures id { OnOk result (builder.new.id ≡ builder.old.id) }
     ensures err { OnErr result (AreOnlyRead (F.asked files.old) (F.asked files.new)) }
-    ensures refused { IfErr result (λ e. e ≢ Error.Memory → ArePartsRefused entries.now
+    ensures refused { IfErr result (λ e. e ≢ Error.Memory → ArePartsRefused region entries.now
         (F.asked files.old) (F.asked files.new) e) }
 {
     let mut rest = entries;
@@ -124,10 +124,10 @@ fn part_batch<F: EngineFiles>(
     ensures state { OnOk result (IsRunning builder.new.state) }
     ensures id { OnOk result (builder.new.id ≡ builder.old.id) }
     ensures err { OnErr result (AreOnlyRead (F.asked files.old) (F.asked files.new)) }
-    ensures refused { IfErr result (λ e. e ≢ Error.Memory → IsPartRefused entries.now
+    ensures refused { IfErr result (λ e. e ≢ Error.Memory → IsPartRefused region entries.now
         (F.asked files.old) (F.asked files.new) e) }
 {
-    let strings = read_by_blocks(alloc, files, entries)?;
+    let strings = read_by_blocks(alloc, files, region, entries)?;
     let mut batch = LogBatch::default(alloc);
     builder.add(&mut batch)?;
     batch.add_raw_entries(region, Vec::from_slice(alloc, entries)?, strings)?;

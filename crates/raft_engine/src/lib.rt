@@ -2,6 +2,7 @@
 #![tactic(auto)]
 
 mod block_reads;
+mod blocks;
 pub mod engine;
 mod found;
 mod group_batches;

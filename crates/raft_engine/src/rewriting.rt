@@ -112,8 +112,8 @@ pub fn moving_batch<F: EngineFiles>(
 {
     let entries = entries_to_move(alloc, table, gate)?;
     let pairs = pairs_to_move(alloc, table, gate)?;
-    let strings = read_by_blocks(alloc, files, entries.as_slice())?;
     let region = table.region_id();
+    let strings = read_by_blocks(alloc, files, region, entries.as_slice())?;
     let mut batch = LogBatch::default(alloc);
     batch.add_raw_entries(region, entries, strings)?;
     put_pairs(&mut batch, region, pairs)?;

@@ -14,7 +14,7 @@ use std::alloc::Global;
 use std::thread::Threads;
 
 /// Makes the append file of an engine that wrote [1,3), `k=v` and [3,9): batches of 33, 28 and 41 bytes.
-fn one_file(alloc: Global) -> Result<LogFiles> {
+pub fn one_file(alloc: Global) -> Result<LogFiles> {
     let mut engine = new_engine(alloc)?;
     write_one(alloc, &mut engine)
 }
@@ -27,7 +27,7 @@ fn write_one(alloc: Global, engine: &mut Engine<MemoryFiles>) -> Result<LogFiles
 }
 
 /// Makes the append files of an engine that wrote these in a file each, and [9,12) in a fourth one.
-fn four_files(alloc: Global) -> Result<LogFiles> {
+pub fn four_files(alloc: Global) -> Result<LogFiles> {
     let mut engine = new_engine(alloc)?;
     write_four(alloc, &mut engine)
 }
@@ -53,6 +53,8 @@ enum Change {
     Cut(usize),
     /// Of the four files those with these numbers are taken away.
     Without(&'static [FileSeq]),
+    /// The one file is one of raft-engine: its header, with the version behind it.
+    OfEngine,
 }
 
 fn changed(alloc: Global, change: &Change) -> Result<LogFiles> {
@@ -61,6 +63,7 @@ fn changed(alloc: Global, change: &Change) -> Result<LogFiles> {
         Change::Renumbered(seq) => Ok(renumbered(one_file(alloc)?, *seq)),
         Change::Cut(len) => Ok(cut(one_file(alloc)?, *len)),
         Change::Without(numbers) => without(alloc, four_files(alloc)?, numbers),
+        Change::OfEngine => of_engine(alloc),
     }
 }
 
@@ -69,6 +72,17 @@ fn renumbered(mut files: LogFiles, seq: FileSeq) -> LogFiles {
         first.0 = seq;
     }
     files
+}
+
+fn of_engine(alloc: Global) -> Result<LogFiles> {
+    let mut bytes = Vec::from_slice(
+        alloc,
+        b"RAFT-LOG-FILE-HEADER-9986AB3E47F320B394C8E84916EB0ED5",
+    )?;
+    bytes.extend_from_slice(&[0, 0, 0, 0, 0, 0, 0, 2])?;
+    let mut files = Vec::new(alloc);
+    files.push((1, bytes))?;
+    Ok(files)
 }
 
 fn cut(mut files: LogFiles, len: usize) -> LogFiles {
@@ -89,11 +103,13 @@ fn without(alloc: Global, files: LogFiles, numbers: &[FileSeq]) -> Result<LogFil
 }
 
 /// What an opening makes of append files.
-enum Answer {
+pub enum Answer {
     /// An engine that holds this.
     Holds(&'static str),
     /// A refusal as damage with this text.
     Says(&'static str),
+    /// A refusal as an invalid argument with this text.
+    Names(&'static str),
 }
 
 static ROWS: [(Change, Answer); 8] = [
@@ -135,7 +151,29 @@ fn rows() -> &'static [(Change, Answer)] {
     &ROWS
 }
 
-static ROWS_OF_MODES: [(RecoveryMode, Change, Answer); 9] = [
+static ROWS_OF_MODES: [(RecoveryMode, Change, Answer); 12] = [
+    // In no mode a file of raft-engine is cut.
+    (
+        RecoveryMode::AbsoluteConsistency,
+        Change::OfEngine,
+        Answer::Names(
+            "append file 1, offset 0: the file is one of raft-engine, which begins with a header",
+        ),
+    ),
+    (
+        RecoveryMode::TolerateTornTail,
+        Change::OfEngine,
+        Answer::Names(
+            "append file 1, offset 0: the file is one of raft-engine, which begins with a header",
+        ),
+    ),
+    (
+        RecoveryMode::TolerateTailCorruption,
+        Change::OfEngine,
+        Answer::Names(
+            "append file 1, offset 0: the file is one of raft-engine, which begins with a header",
+        ),
+    ),
     // Nothing is cut off.
     (
         RecoveryMode::AbsoluteConsistency,
@@ -197,10 +235,19 @@ fn rows_of_modes() -> &'static [(RecoveryMode, Change, Answer)] {
 }
 
 /// Tests whether an opening is refused as damage with this text. Another refusal is handed on.
-fn says(opened: Result<Engine<MemoryFiles>>, text: &str) -> Result<bool> {
+pub fn says(opened: Result<Engine<MemoryFiles>>, text: &str) -> Result<bool> {
     match opened {
         Ok(_) => Ok(false),
         Err(Error::Corruption(found)) => Ok(found.as_str() == text),
+        Err(e) => Err(e),
+    }
+}
+
+/// Tests whether an opening is refused as an invalid argument with this text. Another refusal is handed on.
+pub fn names(opened: Result<Engine<MemoryFiles>>, text: &str) -> Result<bool> {
+    match opened {
+        Ok(_) => Ok(false),
+        Err(Error::InvalidArgument(found)) => Ok(found.as_str() == text),
         Err(e) => Err(e),
     }
 }
@@ -215,6 +262,7 @@ fn is_answered<R: Threads + Sync>(rt: &R, alloc: Global, row: &(Change, Answer))
     match &row.1 {
         Answer::Holds(text) => opens(rt, alloc, files, text),
         Answer::Says(text) => says(open(rt, alloc, files, Vec::new(alloc)), text),
+        Answer::Names(text) => names(open(rt, alloc, files, Vec::new(alloc)), text),
     }
 }
 
@@ -255,6 +303,7 @@ fn is_answered_in_mode<R: Threads + Sync>(
     match &row.2 {
         Answer::Holds(text) => holds_in_mode(rt, alloc, row.0, files, text),
         Answer::Says(text) => says(engine_in_mode(rt, alloc, row.0, files), text),
+        Answer::Names(text) => names(engine_in_mode(rt, alloc, row.0, files), text),
     }
 }
 

@@ -24,8 +24,9 @@ impl<F: EngineFiles> Engine<F> {
     ///
     /// # Errors
     ///
-    /// Those of `EngineFiles::read`; `Corruption` where what stands at the entry's place is no sound block with its bytes;
-    /// `Memory`. Only reads were asked then, and the engine is as intact as it was.
+    /// Those of `EngineFiles::read`; `Corruption` where what stands at the entry's place is no sound block with its bytes: its
+    /// text begins with the region, the index, and the file and the offset of the block, as in `region 7, index 12, append file
+    /// 3, offset 4096: ..`; `Memory`. Only reads were asked then, and the engine is as intact as it was.
     pub fn get_entry(&mut self, region: u64, index: u64) -> Result<Option<Vec<u8>>>
         ensures only { IsOnlyRead self.old self.new }
         ensures ok { IfOk result (λ found. IsEntryGot (entry_at index (table_in self.old region).entries)
@@ -36,7 +37,7 @@ impl<F: EngineFiles> Engine<F> {
             → AreBothTold self.new.asks content
             → option_map (λ bytes. bytes.items) found
             ≡ option_map content (entry_at index (table_in self.old region).entries)) }
-        ensures err { IfErr result (IsEntryUnread (entry_at index (table_in self.old region).entries)
+        ensures err { IfErr result (IsEntryUnread region (entry_at index (table_in self.old region).entries)
             self.old.asks self.new.asks) }
     {
         moves_are_stored();
@@ -44,7 +45,7 @@ impl<F: EngineFiles> Engine<F> {
         let Some(entry) = self.entry_index(region, index) else {
             return Ok(None);
         };
-        let bytes = read_alone(self.append.allocator(), &mut self.files, &entry)?;
+        let bytes = read_alone(self.append.allocator(), &mut self.files, region, &entry)?;
         Ok(Some(bytes))
     }
 
@@ -57,8 +58,9 @@ impl<F: EngineFiles> Engine<F> {
     ///
     /// Where the range isn't empty: `EntryNotFound` where the table has no entries, `EntryCompacted` where the range begins
     /// below the first one, `EntryNotFound` where `end` is above their end: nothing is read then. Those of
-    /// `EngineFiles::read`; `Corruption` where what stands at the place of an entry is no sound block with its bytes; `Memory`.
-    /// Only reads were asked then, the engine is as intact as it was, and `entries` has what it had.
+    /// `EngineFiles::read`; `Corruption` where what stands at the place of an entry is no sound block with its bytes, which is
+    /// named as by [`Engine::get_entry`]; `Memory`. Only reads were asked then, the engine is as intact as it was, and `entries`
+    /// has what it had.
     pub fn fetch_entries_to(
         &mut self,
         region: u64,
@@ -85,7 +87,7 @@ impl<F: EngineFiles> Engine<F> {
         if indexes.is_empty() {
             return Ok(0);
         }
-        let mut found = read_by_blocks(alloc, &mut self.files, indexes.as_slice())?;
+        let mut found = read_by_blocks(alloc, &mut self.files, region, indexes.as_slice())?;
         entries.append(&mut found)?;
         Ok(indexes.len())
     }

@@ -7,7 +7,7 @@ use Rattle.raft_engine.proofs.block_reads.read_alone.Goals as goal
 pub returns-in_err-block-clause-err : goal.returns-in_err-block-clause-err
 returns-in_err-block-clause-err g c =
     let p = err_from_is_err_and c.from_residual.result c.from_residual.ensures.1 in
-    rw (p.1, p.2) (no_next_block [] [] [] c.args.entry.now None _ _ _ _ (none_yet [] _ refl) c.in_err-block.ensures.err)
+    rw (p.1, p.2) (no_next_block c.args.region [] [] [] c.args.entry.now None _ _ _ _ (none_yet [] _ refl) c.in_err-block.ensures.err)
 
 pub returns-clause-ok : goal.returns-clause-ok
 returns-clause-ok g c =
@@ -18,5 +18,5 @@ returns-clause-ok g c =
 pub returns-clause-err : goal.returns-clause-err
 returns-clause-err g c =
     let n = next_block [] [] c.args.entry.now None c.in_ok-block.block _ _ _ (none_yet [] _ refl) c.in_ok-block.ensures.ok in
-    IfErr-weaker c.bytes_in.result _ _ (λ error b. no_next_bytes [] [] [] c.args.entry.now c.in_ok-block.block _ _ error n
-    (subst (λ (l : List ℕ). AreNoBytesIn l c.args.entry.now error) c.as_slice.ensures.value b)) c.bytes_in.ensures.err
+    IfErr-weaker c.bytes_in.result _ _ (λ error b. no_next_bytes c.args.region [] [] [] c.args.entry.now c.in_ok-block.block _ _ error n
+    (subst (λ (l : List ℕ). AreNoBytesIn c.args.region c.in_ok-block.block.place l c.args.entry.now error) c.as_slice.ensures.value b)) c.bytes_in.ensures.err

@@ -3,6 +3,7 @@ use Rattle.std.proofs.Common.{inl, inr, map}
 use Rattle.raft_base.specs.declared.pipe_log.LogQueue.TheVariants.{Append, Rewrite}
 use Rattle.raft_files.specs.HeldFiles.{file_shown}
 use Rattle.raft_engine.specs.Unopened.{AreUnrecoveredAs}
+use Rattle.raft_engine.proofs.ModeLemmas.{on_ok}
 use Rattle.raft_engine.proofs.RecoveredLemmas.{long_refused, many_refused, of_slice, out_of_rows, read_sound, reading_refused, replayed_by, unreadable_as}
 use Rattle.raft_engine.proofs.reading.read_found.Goals as goal
 
@@ -50,3 +51,6 @@ returns-clause-fault g c =
     (replayed_by c.files_hold_few_records.ensures c.segments_read_as_one_history.ensures c.args.version _ _ c.as_slice-append.result.now c.as_slice-rewrite.result.now
     (of_slice Append _ _ _ _ c.as_slice-append.ensures.value c.in_ok-append_segments.ensures.appended) (of_slice Rewrite _ _ _ _ c.as_slice-rewrite.ensures.value c.in_ok-append_segments.ensures.rewritten)
     c.in_ok-check_groups.ensures.ok _ _ c.in_ok-rewritten.ensures.appended c.in_ok-rewritten.ensures.rewritten))
+
+pub returns-clause-accepted : goal.returns-clause-accepted
+returns-clause-accepted g c = on_ok c.with_contexts.result _ c.in_ok-ready.ensures.ok.accepted

@@ -10,7 +10,7 @@ pub add_raw_entries-requires-clause-counts : goal.add_raw_entries-requires-claus
 add_raw_entries-requires-clause-counts g c = counted c.in_ok-entries.entries.items c.as_slice.result.now c.in_ok-strings.strings.items _ _ c.as_slice.ensures.value c.in_ok-strings.ensures.ok
 
 pub returns-in_err-strings-clause-err : goal.returns-in_err-strings-clause-err
-returns-in_err-strings-clause-err g c = on_any _ _ (unread_only _ _ _ _ c.in_err-strings.ensures.err)
+returns-in_err-strings-clause-err g c = on_any _ _ (unread_only _ _ _ _ _ c.in_err-strings.ensures.err)
 
 pub returns-in_err-add_raw_entries-clause-err : goal.returns-in_err-add_raw_entries-clause-err
 returns-in_err-add_raw_entries-clause-err g c = on_any _ _ (read_only _ _ _ _ c.in_ok-strings.ensures.ok)
@@ -21,7 +21,7 @@ returns-in_err-put_pairs-clause-err g c = on_any _ _ (read_only _ _ _ _ c.in_ok-
 pub returns-in_err-strings-clause-refused : goal.returns-in_err-strings-clause-refused
 returns-in_err-strings-clause-refused g c =
     let p = err_from_is_err_and c.from_residual-in_err-strings.result c.from_residual-in_err-strings.ensures.1 in
-    rw (p.1, p.2) (λ some. entries_refused c.args.gate c.args.table.now c.in_ok-entries.entries.items c.as_slice.result.now _ _ _ c.as_slice.ensures.value c.in_ok-entries.ensures.ok c.in_err-strings.ensures.err)
+    rw (p.1, p.2) (λ some. entries_refused c.args.gate c.args.table.now c.region_id-region.result c.region_id-region.ensures c.in_ok-entries.entries.items c.as_slice.result.now _ _ _ c.as_slice.ensures.value c.in_ok-entries.ensures.ok c.in_err-strings.ensures.err)
 
 pub returns-in_err-add_raw_entries-clause-refused : goal.returns-in_err-add_raw_entries-clause-refused
 returns-in_err-add_raw_entries-clause-refused g c =

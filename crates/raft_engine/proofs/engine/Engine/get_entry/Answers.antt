@@ -11,7 +11,7 @@ invariant_of-self g c =
     let e = c.self.inside in
     let old : List Ask = g.F.EngineFiles.asked e.files in
     let new : List Ask = g.F.EngineFiles.asked c.read_alone.new.files in
-    kept_read c.moves_are_stored.ensures.read e.version old e.append e.rewrite e.untold e.accessor e.intact c.self.invariant new (unread_only _ old new _ c.in_err-bytes.ensures.err)
+    kept_read c.moves_are_stored.ensures.read e.version old e.append e.rewrite e.untold e.accessor e.intact c.self.invariant new (unread_only _ _ old new _ c.in_err-bytes.ensures.err)
 
 pub invariant_of-self-2 : goal.invariant_of-self-2
 invariant_of-self-2 g c =

@@ -38,7 +38,7 @@ fn main() {
         if !library.is_file() {
             println!(
                 "cargo::warning=the proved library isn't made yet: run `make rust` (about 40 minutes), \
-                 or, to try things without a proof, `make rust-unproved` (a minute)"
+                 or, to try things without a proof, `make rust-unproved` (a minute), and set `RAFT_FFI_ARCHIVE` to what it names"
             );
         }
         library

@@ -24,6 +24,7 @@ IN_RUST = {
     "Place": "PlaceNumbers",
     "Entry": "EntryNumbers",
     "Summary": "SummaryNumbers",
+    "Tail": "TailNumbers",
 }
 
 # What the archive may call: C's functions on memory, the text of a system error, and the heap.

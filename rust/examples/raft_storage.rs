@@ -1,66 +1,13 @@
 //! The log of a Raft node, in a region of an engine that many nodes share: the six calls of raft-rs's `Storage`, and what a node
 //! writes, all of which lasts once the call returned `Ok`. `raft_storage <folder>` appends an entry.
-//!
 //! An entry's term stands in front of its data. The hard state and what is known of the snapshot are key values. Terms are kept in
 //! memory, so `term` reads no block. The region is the log's alone.
 
+mod raft_rs;
 use StorageError::*;
 use raft_recover::{Engine, Files, LogBatch, Options};
+pub use raft_rs::{ConfState, Entry, HardState, Result, SnapshotMetadata, Storage, StorageError};
 use std::{env, sync::Arc};
-
-/// What a node has promised: its term, for whom it voted there, and up to where it knows that entries are committed.
-#[derive(Clone, Copy, PartialEq, Eq, Debug, Default)]
-pub struct HardState {
-    pub term: u64,
-    pub vote: u64,
-    pub commit: u64,
-}
-
-/// The members who vote.
-pub type ConfState = Vec<u64>;
-
-/// An entry of the log.
-#[derive(Clone, PartialEq, Eq, Debug)]
-pub struct Entry {
-    pub index: u64,
-    pub term: u64,
-    pub data: Vec<u8>,
-}
-
-/// The last entry that a snapshot has in it, and the members there. The snapshot itself is the node's.
-#[derive(Clone, PartialEq, Eq, Debug, Default)]
-pub struct SnapshotMetadata {
-    pub conf_state: ConfState,
-    pub index: u64,
-    pub term: u64,
-}
-
-/// Why a call was refused.
-#[derive(Debug)]
-pub enum StorageError {
-    /// The entry is in the snapshot.
-    Compacted,
-    /// The log doesn't reach so far.
-    Unavailable,
-    /// The snapshot that is there reaches as far.
-    SnapshotOutOfDate,
-    /// The snapshot that is there doesn't reach so far.
-    SnapshotTemporarilyUnavailable,
-    /// The engine refused.
-    Other(raft_recover::Error),
-}
-
-pub type Result<T> = std::result::Result<T, StorageError>;
-
-/// The calls of raft-rs's trait of this name, but for the context that its `entries` takes.
-pub trait Storage {
-    fn initial_state(&self) -> Result<(HardState, ConfState)>;
-    fn entries(&self, low: u64, high: u64, max_size: impl Into<Option<u64>>) -> Result<Vec<Entry>>;
-    fn term(&self, index: u64) -> Result<u64>;
-    fn first_index(&self) -> Result<u64>;
-    fn last_index(&self) -> Result<u64>;
-    fn snapshot(&self, request_index: u64, to: u64) -> Result<SnapshotMetadata>;
-}
 
 /// The log of a node.
 pub struct RaftStorage<F: Files> {

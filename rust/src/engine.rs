@@ -2,6 +2,7 @@
 
 use crate::sys::{EngineHandle, Order};
 use crate::{Error, Queue, Result};
+use std::collections::VecDeque;
 use std::fmt;
 use std::path::Path;
 use std::sync::{Arc, Mutex, MutexGuard, OnceLock};
@@ -27,6 +28,7 @@ mod purged;
 mod purging;
 mod reading;
 mod recovered;
+mod recovery_mode;
 mod stats;
 mod turns;
 mod unwritten;
@@ -42,6 +44,7 @@ pub use options::Options;
 pub use pairs::Pairs;
 pub use purged::{Holder, Purged};
 pub use recovered::{CutTail, Recovered};
+pub use recovery_mode::RecoveryMode;
 pub use stats::{QueueStats, Stats};
 pub use usage::{QueueUsage, Usage};
 
@@ -58,7 +61,7 @@ use unwritten::Unwritten;
 /// [`Files`].
 ///
 /// A region has entries with consecutive indexes, and keys with values. Whenever the machine stops, the files that are left have
-/// the records of all batches that were synced, and of a front of those written since, each of them whole or not at all. An
+/// the records of all batches that were synced, and of a prefix of those written since, each of them whole or not at all. An
 /// engine that is opened over them has these.
 ///
 /// ```
@@ -104,9 +107,13 @@ use unwritten::Unwritten;
 /// What was written is read at once, synced or not. Where a change of the files fails, and in few cases without memory, the
 /// engine fails: every later change returns `Failed` with the reason, and what the files have is found when it is dropped and they
 /// are opened again; where a sync failed, once the machine was started again ([`Files`] says why). Where it was the files that
-/// failed, as on a full disk, reads go on: they find all that was written, and perhaps what was being written then, which may
-/// last or not. Else they return `Failed` too. A call that is refused otherwise changes nothing, unless it says what it leaves.
-/// Dropping an engine syncs nothing.
+/// failed, reads go on: they find all that was written, and perhaps what was being written then, which may last or not. Else they
+/// return `Failed` too. A call that is refused otherwise changes nothing, unless it says what it leaves. Dropping an engine syncs
+/// nothing.
+///
+/// Where a change found no room in a folder, and left the files as they were ([`Files::is_as_before`]), the engine hasn't failed. All
+/// is read, and every change first does what was left undone, and returns that `Io` until there is room. So a write that found none is
+/// made again by the same call: its batch was kept, and is empty.
 ///
 /// A batch is handed in by one thread, and files that threads can't share make no engine:
 ///
@@ -147,6 +154,8 @@ pub struct Engine<F: Files = FolderFiles> {
     numbers: Mutex<Numbers>,
     /// What was ordered and isn't in the files yet.
     unwritten: Unwritten,
+    /// The orders that found no room and left the files as they were, and those behind them.
+    undone: Mutex<VecDeque<Order>>,
     kept_blocks: KeptBlocks,
     commits: Commits,
     /// What the listener is told.
@@ -160,7 +169,8 @@ pub struct Engine<F: Files = FolderFiles> {
 impl Engine {
     /// Opens a folder, or makes it. Its files are read on several threads ([`Options::recovery_threads`]). The torn tail of
     /// a queue's last file, which a stop in the midst of a write leaves, is cut, and kept in a file beside. A damaged last batch
-    /// there counts as one, unless its checksum is that for another file. [`Engine::recovered`] tells of it.
+    /// there counts as one, unless its checksum is that for another file. [`Engine::recovered`] tells of it, and
+    /// [`Options::recovery_mode`] may say otherwise.
     ///
     /// ```
     /// use raft_recover::{Engine, Options};
@@ -224,9 +234,10 @@ impl<F: Files> Engine<F> {
     ///
     /// # Errors
     ///
-    /// `Corruption` where a file before the last one of its queue can't be read; where the last one is damaged: its reading stops,
-    /// what is left isn't part of one batch, and a batch that can be read stands behind, or one that is signed for another file;
-    /// where it is of the other version, a file is missing between two others, or the numbers of files don't rise;
+    /// `Corruption` where a file before the last one of its queue can't be read; where the last one can't, and the
+    /// [`RecoveryMode`] cuts nothing off, or not what is left: in the default one where that isn't part of one batch, and a batch that
+    /// can be read stands behind, or one that is signed for another file; where it is of the other version, a file is missing between
+    /// two others, or the numbers of files don't rise;
     /// `InvalidArgument` where a file is one of raft-engine, which begins with a header, or the batches of an atomic group don't
     /// stand in a row in one file; `Codec`, `Full`. Nothing was asked of the files then but to be read. `Io`, `Memory`: whatever
     /// is left has the records that were found.
@@ -248,8 +259,8 @@ impl<F: Files> Engine<F> {
         Ok(engine)
     }
 
-    /// Opens an engine over files of which nothing is asked but to be listed and read. A torn tail is cut in memory alone
-    /// ([`Engine::recovered`] tells of it), so the files need be nobody's own, as long as nobody changes them.
+    /// Opens an engine over files of which nothing is asked but to be listed and read. What the [`RecoveryMode`] cuts off it cuts in
+    /// memory alone ([`Engine::recovered`] tells of it), so the files need be nobody's own, as long as nobody changes them.
     ///
     /// Each call that would change something is refused, and named: `write`, `sync`, `rotate`, `rewrite`, `rewrite_again` and
     /// `purge`.
@@ -296,6 +307,7 @@ impl<F: Files> Engine<F> {
             turns: Turns::default(),
             numbers: Mutex::new(opened.numbers),
             unwritten: Unwritten::default(),
+            undone: Mutex::default(),
             kept_blocks: KeptBlocks::default(),
             commits: Commits::default(),
             events: Events::default(),

@@ -96,7 +96,8 @@ impl fmt::Display for ErrorKind {
     }
 }
 
-/// Why a call was refused: its kind, the reason in words, and the file and the byte that it is about, where there is one.
+/// Why a call was refused: its kind, the reason in words, and the file and the byte that it is about, where there is one, or the
+/// region and the index of the entry.
 ///
 /// ```
 /// use raft_recover::{ErrorKind, LogBatch};
@@ -133,13 +134,18 @@ pub struct Error {
     pub file: Option<FileId>,
     /// Where in that file.
     pub offset: Option<u64>,
+    /// The region whose entry, key or item it is about.
+    pub region: Option<u64>,
+    /// The index of the entry, or of the item's first one.
+    pub index: Option<u64>,
     /// Which item of a batch, the first one of which is 0, doesn't fit the entries of its region.
     pub item: Option<usize>,
-    source: Option<Source>,
+    source: Option<Arc<Source>>,
 }
 
-/// The refusal that is the reason of another one.
-type Source = Arc<dyn error::Error + Send + Sync>;
+/// The refusal that is the reason of another one. Its box keeps an `Error` small.
+#[derive(Debug)]
+struct Source(Box<dyn error::Error + Send + Sync>);
 
 /// What a call returns that may be refused.
 ///
@@ -157,16 +163,33 @@ type Source = Arc<dyn error::Error + Send + Sync>;
 pub type Result<T> = std::result::Result<T, Error>;
 
 impl Error {
+    /// Returns the kind of the system's error, if that is the reason.
+    ///
+    /// ```
+    /// use raft_recover::{Engine, Options};
+    /// use std::io;
+    ///
+    /// let refused = Engine::open_read_only("/no such folder", Options::new()).unwrap_err();
+    /// assert_eq!(refused.io_kind(), Some(io::ErrorKind::NotFound));
+    /// ```
+    #[must_use]
+    pub fn io_kind(&self) -> Option<io::ErrorKind> {
+        let source = &self.source.as_deref()?.0;
+        source.downcast_ref().map(io::Error::kind)
+    }
+
     /// Makes the refusal of a number of the library. A place in front of its words is that of the refusal.
     pub(crate) fn of(code: u32, text: String) -> Error {
         let kind = u8::try_from(code).map(ErrorKind::try_from);
         let Ok(Ok(kind)) = kind else {
             unreachable!("the library has no error of number {code}")
         };
-        let place = place_in(&text);
+        let place = Place::in_front_of(&text);
         Error {
-            file: place.map(|(file, _)| file),
-            offset: place.map(|(_, offset)| offset),
+            file: place.file.map(|(file, _)| file),
+            offset: place.file.map(|(_, offset)| offset),
+            region: place.region,
+            index: place.index,
             ..Error::new(kind, text)
         }
     }
@@ -178,6 +201,8 @@ impl Error {
             text: text.into(),
             file: None,
             offset: None,
+            region: None,
+            index: None,
             item: None,
             source: None,
         }
@@ -219,7 +244,7 @@ impl Error {
     pub(crate) fn system(about: impl fmt::Display, source: io::Error) -> Error {
         let text = format!("IO Error: {about}: {source}");
         Error {
-            source: Some(Arc::new(source)),
+            source: Some(Arc::new(Source(source.into()))),
             ..Error::new(ErrorKind::Io, text)
         }
     }
@@ -232,7 +257,7 @@ impl Error {
         let source = source.into();
         let text = format!("Message Error: {about}: {source}");
         Error {
-            source: Some(source.into()),
+            source: Some(Arc::new(Source(source))),
             ..Error::new(ErrorKind::Message, text)
         }
     }
@@ -254,12 +279,64 @@ impl Error {
         (self.file, self.offset) = (Some(file), Some(offset));
         self
     }
+
+    /// Says which entry of a region the refusal is about, in front of the place in a file that it names.
+    pub(crate) fn of_entry(mut self, region: u64, index: u64) -> Error {
+        if let Some((kind, reason)) = self.text.split_once(": ") {
+            self.text = format!("{kind}: region {region}, index {index}, {reason}");
+        }
+        self.about(region, Some(index))
+    }
+
+    /// Notes the region that the refusal is about, and the index of an entry. Its words stay.
+    pub(crate) fn about(self, region: u64, index: Option<u64>) -> Error {
+        Error {
+            region: Some(region),
+            index,
+            ..self
+        }
+    }
 }
 
-/// Reads the place in front of a refusal's words, as in `Corruption: append file 3, offset 17: ..`.
-fn place_in(text: &str) -> Option<(FileId, u64)> {
-    let (_, words) = text.split_once(": ")?;
-    let (place, _) = words.split_once(": ")?;
+/// What stands in front of a refusal's words: a place in a file, as in `Corruption: append file 3, offset 17: ..`, and the entry
+/// there, as in `Corruption: region 7, index 12, append file 3, offset 17: ..`.
+#[derive(Default)]
+struct Place {
+    region: Option<u64>,
+    index: Option<u64>,
+    file: Option<(FileId, u64)>,
+}
+
+impl Place {
+    fn in_front_of(text: &str) -> Place {
+        let mut place = Place::default();
+        let Some((_, words)) = text.split_once(": ") else {
+            return place;
+        };
+        let Some((mut words, _)) = words.split_once(": ") else {
+            return place;
+        };
+        (place.region, words) = number_behind("region ", words);
+        (place.index, words) = number_behind("index ", words);
+        place.file = file_in(words);
+        place
+    }
+}
+
+/// Reads a number behind a word, and returns it with what follows; no number where it doesn't stand there.
+fn number_behind<'a>(word: &str, words: &'a str) -> (Option<u64>, &'a str) {
+    let number = |text: &'a str| {
+        let (number, rest) = text.split_once(", ").unwrap_or((text, ""));
+        Some((number.parse().ok()?, rest))
+    };
+    match words.strip_prefix(word).and_then(number) {
+        Some((number, rest)) => (Some(number), rest),
+        None => (None, words),
+    }
+}
+
+/// Reads a place in a file.
+fn file_in(place: &str) -> Option<(FileId, u64)> {
     let (file, offset) = place.split_once(", offset ")?;
     let (queue, seq) = file.split_once(" file ")?;
     let file = FileId::new(queue.parse().ok()?, seq.parse().ok()?);
@@ -267,9 +344,9 @@ fn place_in(text: &str) -> Option<(FileId, u64)> {
 }
 
 impl PartialEq for Error {
-    /// Compares kinds, words and places.
+    /// Compares kinds, words, places and entries.
     fn eq(&self, other: &Error) -> bool {
-        let seen = |e: &Error| (e.kind, e.file, e.offset, e.item);
+        let seen = |e: &Error| (e.kind, e.file, e.offset, e.region, e.index, e.item);
         seen(self) == seen(other) && self.text == other.text
     }
 }
@@ -278,7 +355,8 @@ impl Eq for Error {}
 
 impl Hash for Error {
     fn hash<H: Hasher>(&self, state: &mut H) {
-        (self.kind, &self.text, self.file, self.offset, self.item).hash(state);
+        (self.kind, &self.text, self.file, self.offset).hash(state);
+        (self.region, self.index, self.item).hash(state);
     }
 }
 
@@ -292,6 +370,6 @@ impl error::Error for Error {
     /// Returns the refusal of the system, or of a message, if that is the reason.
     fn source(&self) -> Option<&(dyn error::Error + 'static)> {
         let source = self.source.as_deref()?;
-        Some(source)
+        Some(&*source.0)
     }
 }

@@ -69,7 +69,7 @@ pub use batches::{
 pub use context::{Context, Kept};
 pub use engine::{
     Ask, CutTail, Engine, Entries, Files, FolderFiles, Holder, Listener, MemoryFiles, Options,
-    Pairs, Purged, QueueStats, QueueUsage, Recovered, Stats, Unsynced, Usage,
+    Pairs, Purged, QueueStats, QueueUsage, Recovered, RecoveryMode, Stats, Unsynced, Usage,
 };
 pub use entries::{Block, Entry, Pair};
 pub use error::{Error, ErrorKind, Result};

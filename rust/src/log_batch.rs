@@ -212,7 +212,7 @@ impl LogBatch {
             return refused;
         }
         match self.shapes.misfit(is_tested, summary) {
-            Some(item) => refused.of_item(item),
+            Some((item, region, index)) => refused.of_item(item).about(region, Some(index)),
             None => refused,
         }
     }

@@ -11,8 +11,8 @@
 //! - Numbers and stages that a contract bounds are tested where they come in: the part of a file by [`FilePart::check`]; the
 //!   files of an atomic group by [`Tables::set_atomic_group`](crate::Tables::set_atomic_group); the stage of a batch, the last
 //!   index of its entries and its offset by [`LogBatchHandle`].
-//! - Contexts that an engine is opened with have read just the batches of its files, but for torn tails: `engine::found::Found`
-//!   alone makes a [`FoundHandle`], and reads and opens it with its contexts.
+//! - Contexts that an engine is opened with have read just the batches of its files, up to where each queue's last one can't be
+//!   read: `engine::found::Found` alone makes a [`FoundHandle`], and reads and opens it with its contexts.
 //! - The orders of an engine are taken in their order, none twice ([`EngineHandle`] tests their numbers), and carried out so
 //!   before another call that orders something is made: `engine::orders::Turn` alone makes such calls.
 //!
@@ -85,14 +85,13 @@ const TEXT_LEN: usize = 256;
 fn refusal(call: impl FnOnce(*mut u8, usize) -> Status) -> Option<Error> {
     let mut text = [0u8; TEXT_LEN];
     let status = call(text.as_mut_ptr(), text.len());
-    if status.code == 0 {
-        return None;
-    }
-    let text = &text[..status.text_len.min(TEXT_LEN)];
-    Some(Error::of(
-        status.code,
-        String::from_utf8_lossy(text).into_owned(),
-    ))
+    (status.code != 0).then(|| refused(status.code, status.text_len, &text))
+}
+
+/// Makes the refusal of a number that isn't 0, of whose text so many bytes were written, where there was room.
+fn refused(code: u32, text_len: usize, text: &[u8; TEXT_LEN]) -> Error {
+    let text = &text[..text_len.min(TEXT_LEN)];
+    Error::of(code, String::from_utf8_lossy(text).into_owned())
 }
 
 /// Makes a call that may be refused, with room for its text.

@@ -226,6 +226,11 @@ fn all_items_before_the_named_one_fit_and_it_doesnt() {
         };
         refused += 1;
         let item = e.item.unwrap();
+        let (region, change) = &changes[item];
+        let Change::Entries(first, _) = change else {
+            panic!("item {item} has no entries: {e}")
+        };
+        assert_eq!((e.region, e.index), (Some(*region), Some(*first)));
         tables.check_append(&batch_of(&changes[..item])).unwrap();
         let same = tables.check_append(&batch_of(&changes[..=item]));
         assert_eq!(same, Err(e));

@@ -98,15 +98,17 @@ fn entries_are_read_by_ranges() {
 #[test]
 fn ranges_that_a_region_has_not_are_refused() {
     let engine = compacted_engine();
-    for (begin, end, kind) in [
-        (2, 4, ErrorKind::EntryCompacted),
-        (3, 8, ErrorKind::EntryNotFound),
-        (6, u64::MAX, ErrorKind::EntryNotFound),
+    for (begin, end, kind, index) in [
+        (2, 4, ErrorKind::EntryCompacted, 2),
+        (3, 8, ErrorKind::EntryNotFound, 7),
+        (6, u64::MAX, ErrorKind::EntryNotFound, u64::MAX - 1),
     ] {
-        assert_eq!(
-            engine.entries(7, begin..end).unwrap_err().kind,
-            kind,
-            "{begin}..{end}"
+        let e = engine.entries(7, begin..end).unwrap_err();
+        assert_eq!(e.kind, kind, "{begin}..{end}");
+        assert_eq!((e.region, e.index), (Some(7), Some(index)));
+        assert!(
+            e.text.ends_with(&format!(": region 7, index {index}")),
+            "{e}"
         );
     }
     let e = engine.entries(7, 3..=u64::MAX).unwrap_err();
@@ -318,7 +320,7 @@ fn a_sync_begins_no_file_behind_an_empty_one() {
 }
 
 #[test]
-fn damaged_bytes_are_told_by_file_and_offset() {
+fn damaged_bytes_are_told_by_region_and_index_file_and_offset() {
     let engine = engine();
     write(&engine, |batch| batch.put(7, b"key", b"value"));
     write(&engine, |batch| batch.add_entries(8, 1, &["damaged"]));
@@ -337,13 +339,17 @@ fn damaged_bytes_are_told_by_file_and_offset() {
         assert_eq!(e.kind, ErrorKind::Corruption);
         assert_eq!((e.file, e.offset), (Some(FIRST), Some(at as u64)));
         assert!(
-            e.text
-                .starts_with(&format!("Corruption: append file 1, offset {at}: ")),
+            e.text.contains(&format!("append file 1, offset {at}: ")),
             "{e}"
         );
     };
-    is_told(engine.entry(8, 1).unwrap_err());
-    is_told(engine.entries(8, ..).unwrap_err());
+    for e in [engine.entry(8, 1), engine.entries(8, ..).map(|_| None)] {
+        let e = e.unwrap_err();
+        assert_eq!((e.region, e.index), (Some(8), Some(1)));
+        let place = format!("Corruption: region 8, index 1, append file 1, offset {at}: ");
+        assert!(e.text.starts_with(&place), "{e}");
+        is_told(e);
+    }
     is_told(engine.rewrite(1).unwrap_err());
     assert_eq!(engine.entry(9, 1).unwrap().unwrap(), b"sound");
     write(&engine, |batch| batch.clean(8));
@@ -365,16 +371,25 @@ fn damaged_bytes_that_are_to_move_again_are_told_by_file_and_offset() {
     let bytes = &mut files[0].1;
     let at = bytes.windows(7).position(|bytes| bytes == b"damaged");
     bytes[at.unwrap()] ^= 1;
-    let found = MemoryFiles::found(engine.files().files(Queue::Append), files);
-    let engine = Engine::with_files(found, Options::new()).unwrap();
+    let append = engine.files().files(Queue::Append);
+    let last = MemoryFiles::found(append.clone(), files.clone());
+    let refused = Engine::with_files(last, Options::new()).err().unwrap();
+    files.push((2, Vec::new()));
+    let closed = MemoryFiles::found(append, files);
+    let engine = Engine::with_files(closed, Options::new()).unwrap();
     let told = engine.entry(8, 1).unwrap_err();
-    assert_eq!(told.kind, ErrorKind::Corruption);
-    assert_eq!(told.file, Some(FileId::new(Queue::Rewrite, 1)));
+    for told in [&refused, &told] {
+        assert_eq!(told.kind, ErrorKind::Corruption);
+        assert_eq!(told.file, Some(FileId::new(Queue::Rewrite, 1)));
+    }
     assert!(
         told.offset
             .is_some_and(|offset| offset <= at.unwrap() as u64)
     );
-    assert_eq!(engine.rewrite_again().unwrap_err(), told);
+    assert_eq!((told.region, told.index), (Some(8), Some(1)));
+    let unmoved = engine.rewrite_again().unwrap_err();
+    assert_eq!(unmoved.kind, told.kind);
+    assert_eq!((unmoved.file, unmoved.offset), (told.file, told.offset));
     write(&engine, |batch| batch.clean(8));
     write(&engine, |batch| batch.add_entries(7, 2, &["sound too"]));
     assert_eq!(texts(engine.entries(7, 2..)), ["sound too"]);

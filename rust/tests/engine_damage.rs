@@ -5,7 +5,8 @@ mod common;
 
 use common::{batch_bytes, file};
 use raft_recover::{
-    Engine, Error, ErrorKind, FileId, LogFile, MemoryFiles, Options, Queue, Version,
+    Engine, Error, ErrorKind, FileId, LogFile, MemoryFiles, Options, Queue, RecoveryMode, Version,
+    crc32,
 };
 
 /// The bytes of a file of four batches, each with two entries and a key, and where they begin.
@@ -158,4 +159,110 @@ fn a_part_of_one_batch_is_cut_whatever_its_entries_hold() {
     bytes[len - 1] ^= 0x80;
     let e = opened(id, &bytes, &Options::new()).unwrap_err();
     assert_eq!((e.kind, e.offset), (ErrorKind::Corruption, Some(front)));
+}
+
+#[test]
+fn an_entry_that_ends_behind_its_block_is_refused_by_its_name() {
+    // of region 7 the entries 10 and 11, which end at the bytes 2 and 5 of no bytes
+    let items = [1, 7, 1, 2, 10, 2, 3];
+    let (len, block_end) = (16 + items.len() as u64 + 4, 16u64);
+    let mut bytes = (len << 8).to_be_bytes().to_vec();
+    bytes.extend(block_end.to_be_bytes());
+    bytes.extend(items);
+    bytes.extend(crc32(&items).to_le_bytes());
+    let first = FileId::new(Queue::Append, 1);
+    let options = Options::new().version(Version::V1);
+    let engine = Engine::with_files(found(first, &bytes), options).unwrap();
+    assert_eq!(engine.last_index(7).unwrap(), Some(11));
+    for (index, e) in [
+        (10, engine.entry(7, 10).unwrap_err()),
+        (11, engine.entry(7, 11).unwrap_err()),
+        (10, engine.entries(7, ..).unwrap_err()),
+    ] {
+        assert_eq!((e.kind, e.file), (ErrorKind::Corruption, Some(first)));
+        assert_eq!((e.region, e.index), (Some(7), Some(index)));
+        let place = format!("Corruption: region 7, index {index}, append file 1, offset ");
+        assert!(e.text.starts_with(&place), "{e}");
+    }
+}
+
+/// Options of a mode.
+fn in_mode(mode: RecoveryMode) -> Options {
+    Options::new().recovery_mode(mode)
+}
+
+#[test]
+fn nothing_is_cut_in_the_strict_mode() {
+    let strict = in_mode(RecoveryMode::AbsoluteConsistency);
+    for queue in [Queue::Append, Queue::Rewrite] {
+        let id = FileId::new(queue, 1);
+        let (bytes, places) = four_batches(LogFile::new(queue, 1, Version::V2));
+        let whole = opened(id, &bytes, &strict).unwrap();
+        assert_eq!(whole, (bytes.len() as u64, 0));
+        // a torn tail, and damage
+        let mut damaged = bytes.clone();
+        damaged[places[1]] ^= 1;
+        for (bytes, at) in [
+            (&bytes[..bytes.len() - 1], places[3]),
+            (&damaged, places[1]),
+        ] {
+            let e = opened(id, bytes, &strict).unwrap_err();
+            let reason = "no batch can be read there, and nothing may be cut off";
+            assert_eq!(e.text, format!("Corruption: {id}, offset {at}: {reason}"));
+            let place = (ErrorKind::Corruption, Some(id), Some(at as u64));
+            assert_eq!((e.kind, e.file, e.offset), place);
+        }
+    }
+}
+
+#[test]
+fn all_from_damage_on_is_cut_in_the_mode_that_tolerates_it() {
+    let tolerant = in_mode(RecoveryMode::TolerateTailCorruption);
+    for queue in [Queue::Append, Queue::Rewrite] {
+        let id = FileId::new(queue, 1);
+        let (bytes, places) = four_batches(LogFile::new(queue, 1, Version::V2));
+        for at in places {
+            let mut bytes = bytes.clone();
+            bytes[at] ^= 1;
+            let cut = (bytes.len() - at) as u64;
+            let left = opened(id, &bytes, &tolerant).unwrap();
+            assert_eq!(left, (at as u64, cut), "{at}");
+            let engine = Engine::with_files(found(id, &bytes), tolerant.clone()).unwrap();
+            let told = engine.recovered().cuts().next().unwrap();
+            assert_eq!((told.file, told.offset, told.len), (id, at as u64, cut));
+            let reason = told.reason.as_ref().unwrap();
+            assert_eq!((reason.file, reason.offset), (Some(id), Some(at as u64)));
+            assert_ne!(reason.kind, ErrorKind::Memory);
+            // what was cut is cut for good: the other modes open what is left
+            let held = engine.files().files(queue).remove(0).1;
+            assert!(held.starts_with(&bytes[..at]));
+            for mode in [
+                RecoveryMode::AbsoluteConsistency,
+                RecoveryMode::TolerateTornTail,
+            ] {
+                let left = opened(id, &held, &in_mode(mode)).unwrap();
+                assert_eq!(left, (held.len() as u64, 0));
+            }
+        }
+    }
+}
+
+#[test]
+fn a_missing_file_and_one_of_the_other_version_are_refused_in_each_mode() {
+    let (first, _) = four_batches(file(1));
+    let (third, _) = four_batches(file(3));
+    for mode in [
+        RecoveryMode::AbsoluteConsistency,
+        RecoveryMode::TolerateTornTail,
+        RecoveryMode::TolerateTailCorruption,
+    ] {
+        let held = vec![(1, first.clone()), (3, third.clone())];
+        let e = Engine::with_files(MemoryFiles::found(held, vec![]), in_mode(mode)).unwrap_err();
+        let missing = FileId::new(Queue::Append, 2);
+        assert_eq!((e.kind, e.file), (ErrorKind::Corruption, Some(missing)));
+        let options = in_mode(mode).version(Version::V1);
+        let e = opened(FileId::from(file(1)), &first, &options).unwrap_err();
+        let text = "Corruption: append file 1, offset 0: a batch of the other version stands there";
+        assert_eq!(e.text, text);
+    }
 }

@@ -3,7 +3,7 @@
 mod common;
 
 use common::hooked::{Call, Hooked};
-use raft_recover::{Engine, FileId, LogBatch, MemoryFiles, Options, Queue};
+use raft_recover::{Engine, FileId, LogBatch, MemoryFiles, Options, Queue, Result};
 use std::sync::atomic::{AtomicBool, AtomicUsize, Ordering::SeqCst};
 use std::sync::{Arc, Condvar, Mutex};
 use std::time::{Duration, Instant};
@@ -34,15 +34,21 @@ impl Gate {
 
     /// Comes to the gate, and passes it once it is open.
     fn pass(&self) {
+        self.has_waited();
+    }
+
+    /// Comes to the gate, passes it once it is open, and tells whether it was closed.
+    fn has_waited(&self) -> bool {
         let mut state = self.state.lock().unwrap();
-        if !state.0 {
-            return;
+        let was_closed = state.0;
+        if was_closed {
+            state.1 += 1;
+            self.changed.notify_all();
         }
-        state.1 += 1;
-        self.changed.notify_all();
         while state.0 {
             state = self.changed.wait(state).unwrap();
         }
+        was_closed
     }
 
     /// Comes to the open gate, and tells whether it is the first to come.
@@ -53,12 +59,16 @@ impl Gate {
         state.1 == 1
     }
 
-    /// Waits until this many calls came to the gate.
+    /// Waits until this many calls came to the gate, which they do soon.
     fn wait_for(&self, count: usize) {
-        let mut state = self.state.lock().unwrap();
-        while state.1 < count {
-            state = self.changed.wait(state).unwrap();
-        }
+        let state = self.state.lock().unwrap();
+        let long = Duration::from_secs(60);
+        let waited = self
+            .changed
+            .wait_timeout_while(state, long, |(_, came)| *came < count);
+        let (state, waited) = waited.unwrap();
+        drop(state);
+        assert!(!waited.timed_out(), "nobody came to the gate");
     }
 }
 
@@ -170,8 +180,9 @@ fn who_comes_while_the_leader_waits_for_a_turn_is_in_its_group() {
     assert!((0..10).any(|_| syncs_of_four() == 1));
 }
 
-#[test]
-fn who_wants_no_sync_goes_on_before_it() {
+/// How many of seven threads that want no sync go on before that of an eighth one. All of them hand in their batches while another
+/// one syncs.
+fn going_on_before_a_sync() -> usize {
     let (gates, is_first_over) = ([Gate::default(), Gate::default()], AtomicBool::new(false));
     let hooked = Hooked::new(&MemoryFiles::new(), |call: Call<'_>| {
         match call {
@@ -188,7 +199,6 @@ fn who_wants_no_sync_goes_on_before_it() {
         let [first, second] = gates.each_ref().map(Gate::close);
         scope.spawn(|| engine.sync().unwrap());
         gates[0].wait_for(1);
-        // all of these are handed in while the first thread syncs, and one of them leads
         for region in 0..8 {
             let (engine, gone_on) = (&engine, &gone_on);
             scope.spawn(move || {
@@ -201,12 +211,81 @@ fn who_wants_no_sync_goes_on_before_it() {
         drop(first);
         gates[1].wait_for(1);
         let begun = Instant::now();
-        while gone_on.load(SeqCst) < 4 && begun.elapsed() < Duration::from_secs(20) {
+        while gone_on.load(SeqCst) < 7 && begun.elapsed() < Duration::from_secs(2) {
             thread::yield_now();
         }
-        assert!(gone_on.load(SeqCst) >= 4);
+        let before = gone_on.load(SeqCst);
         drop(second);
+        before
+    })
+}
+
+#[test]
+fn who_wants_no_sync_goes_on_before_it() {
+    // a thread that comes late waits for the sync that is under way
+    assert!((0..10).any(|_| going_on_before_a_sync() == 7));
+}
+
+/// What `Engine::write` takes and returns.
+type Write<'a> = &'a dyn Fn(&mut LogBatch, bool) -> Result<()>;
+
+/// Hands in a batch, and behind it one of another thread that wants a sync, while a third thread begins a file, so that the first
+/// one writes both. It is over before that sync, whose result only the other thread is told.
+fn hands_the_sync_on(fails: bool, write: impl FnOnce(Write<'_>) + Send) {
+    let [rotating, syncing] = [Gate::default(), Gate::default()];
+    let hooked = Hooked::new(&MemoryFiles::new(), |call: Call<'_>| match call {
+        Call::Rotate(_) => {
+            rotating.pass();
+            Ok(())
+        }
+        Call::Sync(_) if syncing.has_waited() && fails => Err(io::ErrorKind::TimedOut.into()),
+        _ => Ok(()),
     });
+    let engine = Engine::with_files(hooked, Options::new()).unwrap();
+    let result = thread::scope(|scope| {
+        let engine = &engine;
+        let first_closed = rotating.close();
+        scope.spawn(|| engine.rotate().unwrap());
+        rotating.wait_for(1);
+        let writing = scope.spawn(move || write(&|batch, sync| engine.write(batch, sync)));
+        thread::sleep(Duration::from_millis(50));
+        let second_closed = syncing.close();
+        let other = scope.spawn(|| engine.write(&mut batch(8, 1), true));
+        thread::sleep(Duration::from_millis(50));
+        drop(first_closed);
+        let begun = Instant::now();
+        while !writing.is_finished() && begun.elapsed() < Duration::from_secs(20) {
+            thread::yield_now();
+        }
+        assert!(writing.is_finished());
+        syncing.wait_for(1);
+        assert!(!other.is_finished());
+        drop(second_closed);
+        other.join().unwrap()
+    });
+    assert_eq!(result.map_err(|e| e.kind).is_err(), fails);
+    assert_eq!(engine.entry(8, 1).unwrap().unwrap(), b"1");
+    let files = &engine.files().files;
+    let unsynced = files.unsynced(files.asked(), Queue::Append);
+    assert_eq!(unsynced.steps == 0, !fails);
+}
+
+#[test]
+fn who_writes_for_others_makes_no_sync_that_it_doesnt_want() {
+    for fails in [false, true] {
+        hands_the_sync_on(fails, |write| write(&mut batch(7, 1), false).unwrap());
+    }
+}
+
+#[test]
+fn whose_batch_is_refused_makes_no_sync_for_others() {
+    for fails in [false, true] {
+        hands_the_sync_on(fails, |write| {
+            let mut hole = batch(7, 1);
+            hole.add_entries(7, 5, &["behind a hole"]).unwrap();
+            assert_eq!(write(&mut hole, true).unwrap_err().item, Some(1));
+        });
+    }
 }
 
 #[test]

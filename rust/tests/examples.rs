@@ -47,7 +47,9 @@ fn said(name: &str, words: &[&Path]) -> Vec<String> {
 #[test]
 fn each_program_is_run() {
     let files = fs::read_dir(top().join("rust/examples")).unwrap();
-    let names = files.map(|file| file.unwrap().path().file_stem().unwrap().to_owned());
+    let files = files.map(|file| file.unwrap().path());
+    let programs = files.filter(|path| path.is_file());
+    let names = programs.map(|path| path.file_stem().unwrap().to_owned());
     let names: BTreeSet<_> = names.map(|name| name.into_string().unwrap()).collect();
     assert!(names.iter().eq(&PROGRAMS), "{names:?}");
 }

@@ -3,10 +3,15 @@
 mod common;
 
 use common::TempFolder;
-use raft_recover::{ErrorKind, FileId, Files, FolderFiles, Queue};
+use raft_recover::{ErrorKind, FileId, Files, FolderFiles, Queue, Result};
 use std::fs::{self, TryLockError};
 use std::io;
 use std::os::unix::fs::symlink;
+use std::path::{Path, PathBuf};
+use std::process::Command;
+use std::sync::mpsc;
+use std::thread;
+use std::time::Duration;
 
 const FIRST: FileId = FileId::new(Queue::Append, 1);
 const SECOND: FileId = FileId::new(Queue::Append, 2);
@@ -215,13 +220,35 @@ fn names_that_are_none_of_log_files_are_left_alone_and_those_that_seem_so_are_re
 }
 
 #[test]
-fn a_log_file_that_cant_be_opened_is_named() {
-    let room = TempFolder::new();
-    let path = room.path().join("0000000000000001.raftlog");
-    fs::create_dir(&path).unwrap();
-    let e = FolderFiles::open(room.path()).unwrap_err();
-    assert_eq!(e.kind, ErrorKind::Io);
-    assert!(e.text.contains(path.to_str().unwrap()), "{e}");
+fn what_has_the_name_of_a_log_file_and_cant_be_opened_is_named_and_left() {
+    type Make = fn(&Path) -> io::Result<()>;
+    let rows: [(Make, ErrorKind); 3] = [
+        (|path| fs::create_dir(path), ErrorKind::InvalidArgument),
+        (
+            |path| Command::new("mkfifo").arg(path).status().map(drop),
+            ErrorKind::InvalidArgument,
+        ),
+        (|path| symlink("nowhere", path), ErrorKind::Io),
+    ];
+    for (make, kind) in rows {
+        let room = TempFolder::new();
+        let path = room.path().join("0000000000000001.raftlog");
+        make(&path).unwrap();
+        let open: [fn(PathBuf) -> Result<FolderFiles>; 2] =
+            [FolderFiles::open, FolderFiles::open_read_only];
+        for open in open {
+            let (sender, refused) = mpsc::channel();
+            let folder = room.path().to_owned();
+            thread::spawn(move || {
+                let _ = sender.send(open(folder)); // which might wait for ever
+            });
+            let refused = refused.recv_timeout(Duration::from_secs(60)).unwrap();
+            let e = refused.unwrap_err();
+            assert_eq!(e.kind, kind);
+            assert!(e.text.contains(path.to_str().unwrap()), "{e}");
+        }
+        assert!(path.symlink_metadata().is_ok());
+    }
 }
 
 #[test]
@@ -248,7 +275,9 @@ fn after_a_change_that_failed_none_is_made_and_files_can_be_read() {
         let files = FolderFiles::open(room.path()).unwrap();
         files.rotate(FIRST).unwrap();
         files.write(FIRST, b"one").unwrap();
+        assert!(files.is_as_before());
         fails(&files).expect_err(what);
+        assert!(!files.is_as_before(), "{what}");
         for change in changes {
             let e = change(&files).unwrap_err();
             assert_eq!(e.to_string(), "an earlier change failed", "{what}");

@@ -12,6 +12,7 @@ use raft_recover::{
 use std::collections::BTreeMap;
 use std::path::{Path, PathBuf};
 use std::process::Command;
+use std::sync::{Mutex, MutexGuard, PoisonError};
 use std::{fs, io};
 
 const FIRST: FileId = FileId::new(Queue::Append, 1);
@@ -19,13 +20,18 @@ const FIRST: FileId = FileId::new(Queue::Append, 1);
 /// How many bytes an entry has.
 const ENTRY: usize = 10_000;
 
-/// A file system of 256 KiB, which is taken away at the end.
-struct SmallDisk(TempFolder);
+/// Held as long as a small disk is: a process that another test starts has this one's open files until its program begins,
+/// and a deleted file that is open anywhere still takes its room.
+static ONE_DISK: Mutex<()> = Mutex::new(());
+
+/// A file system of 256 KiB, the only one at its time, which is taken away at the end.
+struct SmallDisk(TempFolder, #[expect(dead_code)] MutexGuard<'static, ()>);
 
 impl SmallDisk {
     /// Mounts one, where this user may.
     fn mounted() -> Option<SmallDisk> {
-        let disk = SmallDisk(TempFolder::new());
+        let alone = ONE_DISK.lock().unwrap_or_else(PoisonError::into_inner);
+        let disk = SmallDisk(TempFolder::new(), alone);
         let mut mount = Command::new("mount");
         mount.args(["-t", "tmpfs", "-o", "size=256k", "none"]);
         let is_mounted = mount.arg(disk.0.path()).output();
@@ -87,6 +93,7 @@ fn assert_full(e: &Error) {
     let source = std::error::Error::source(e).unwrap();
     let source: &io::Error = source.downcast_ref().unwrap();
     assert_eq!(source.kind(), io::ErrorKind::StorageFull, "{e}");
+    assert_eq!(e.io_kind(), Some(io::ErrorKind::StorageFull));
 }
 
 /// The files in a folder.
@@ -118,8 +125,7 @@ fn a_full_disk_is_read_and_goes_on_once_there_is_room() {
     assert_full(&e);
     assert!((10..20).contains(&written), "{written}");
     assert_read(&engine, written);
-    let e = engine.sync().unwrap_err();
-    assert_eq!(e.kind, ErrorKind::Failed);
+    assert_full(&engine.sync().unwrap_err());
     assert_read(&engine, written);
     drop(engine);
     // what was written of the last batch was taken back, so there is nothing to cut
@@ -138,6 +144,108 @@ fn a_full_disk_is_read_and_goes_on_once_there_is_room() {
     let (more, e) = write_until_full(&engine);
     assert_full(&e);
     assert!(more > written + 4);
+    assert_read(&engine, more);
+}
+
+/// Writes entries of ten thousand bytes to small files until there is no room, each with a compaction that leaves three of them.
+/// Returns the last one's index.
+fn write_three_until_full(engine: &Engine) -> u64 {
+    let first = engine.last_index(7).unwrap().map_or(1, |last| last + 1);
+    let mut batch = LogBatch::new().unwrap();
+    for index in first.. {
+        let entry = [[index as u8; ENTRY]];
+        batch.add_entries(7, index, &entry).unwrap();
+        batch.compact(7, index.saturating_sub(2)).unwrap();
+        if let Err(e) = engine.write(&mut batch, true) {
+            assert_full(&e);
+            return index - 1;
+        }
+    }
+    unreachable!()
+}
+
+/// Tests that an engine has the last three entries up to an index, or one more, which was being written.
+fn assert_three(engine: &Engine, last: u64) {
+    let entries = engine.entries(7, ..).unwrap();
+    let indexes: Vec<_> = entries.iter().map(|(index, _)| index).collect();
+    let found = *indexes.last().unwrap();
+    assert!([last, last + 1].contains(&found), "{found} of {last}");
+    assert!(indexes.into_iter().eq(found - 2..=found));
+    assert!(
+        entries
+            .iter()
+            .all(|(index, entry)| entry == [index as u8; ENTRY])
+    );
+}
+
+#[test]
+fn a_full_disk_is_freed_by_a_purge_and_goes_on() {
+    let Some(disk) = SmallDisk::mounted() else {
+        return;
+    };
+    let options = || Options::new().target_file_size(3 * ENTRY as u64);
+    let mut last = 0;
+    for round in 0..4 {
+        let engine = Engine::open(disk.path(), options()).unwrap();
+        let before = last;
+        last = write_three_until_full(&engine);
+        assert!(last > before + 8, "round {round}: {before} to {last}");
+        // what was synced is read, and nothing is changed before there is room for the last batch
+        assert_three(&engine, last);
+        assert_full(&engine.purge().unwrap_err());
+        drop(engine);
+        let engine = opened_without_room(&disk.path());
+        assert_three(&engine, last);
+        let asked = engine.stats();
+        let purged = engine.purge().unwrap();
+        assert!(purged.append_files >= 4, "round {round}: {purged:?}");
+        let stats = engine.stats();
+        assert_eq!(stats.rewrite, asked.rewrite, "nothing was written");
+        assert!(stats.append.bytes < 70_000, "{stats:?}");
+        assert_three(&engine, last);
+    }
+}
+
+#[test]
+fn an_engine_that_found_no_room_goes_on_once_there_is_some() {
+    let Some(disk) = SmallDisk::mounted() else {
+        return;
+    };
+    disk.fill();
+    let engine = Engine::open(disk.path(), Options::new()).unwrap();
+    let (written, e) = write_until_full(&engine);
+    assert_full(&e);
+    let before = files_in(&disk.path());
+    let mut batch = LogBatch::new().unwrap();
+    batch.put(8, b"key", b"value").unwrap();
+    for _ in 0..3 {
+        let refused = [
+            engine.write(&mut batch, true),
+            engine.sync(),
+            engine.rotate(),
+            engine.rewrite(1),
+            engine.purge().map(drop),
+        ];
+        for refused in refused {
+            assert_eq!(refused, Err(e.clone()));
+        }
+        assert_eq!(batch.len(), 1);
+        assert_eq!(engine.get(8, b"key").unwrap(), None);
+        assert_read(&engine, written);
+    }
+    assert_eq!(files_in(&disk.path()), before);
+    disk.make_room();
+    engine.write(&mut batch, true).unwrap();
+    assert_eq!(engine.last_index(7).unwrap(), Some(written + 1));
+    assert_eq!(engine.get(8, b"key").unwrap().unwrap(), b"value");
+    let (more, e) = write_until_full(&engine);
+    assert_full(&e);
+    assert!(more > written + 4);
+    assert_read(&engine, more);
+    drop(engine);
+    let engine = opened_without_room(&disk.path());
+    assert_eq!(engine.recovered().cuts().count(), 0);
+    assert_eq!(engine.last_index(7).unwrap(), Some(more));
     assert_read(&engine, more);
 }
 
@@ -184,10 +292,11 @@ fn bytes_that_find_no_room_are_taken_back() -> io::Result<()> {
     let e = files.write(FIRST, &[2; 200_000]).unwrap_err();
     assert_eq!(e.kind(), io::ErrorKind::StorageFull);
     assert_eq!(files.list(Queue::Append)?, [(1, 100_000)]);
-    assert!(files.write(FIRST, b"..").is_err());
-    let mut bytes = vec![0; 100_000];
+    assert!(files.is_as_before());
+    files.write(FIRST, b"..")?;
+    let mut bytes = vec![0; 100_002];
     files.read(FIRST, 0, &mut bytes)?;
-    assert_eq!(bytes, [1; 100_000]);
+    assert_eq!(bytes, [&[1; 100_000][..], b".."].concat());
     Ok(())
 }
 

@@ -65,6 +65,17 @@ fn messages_are_entries_and_values() {
         [Number(22)]
     );
     assert_eq!(engine.entries_of::<Number>(9, ..).unwrap(), []);
+    let bytes = |count| engine.entries(7, ..).unwrap().take(count).flatten().count() as u64;
+    for (max_size, count) in [
+        (0, 1),
+        (bytes(1), 1),
+        (bytes(2) - 1, 1),
+        (bytes(2), 2),
+        (u64::MAX, numbers.len()),
+    ] {
+        let some = engine.entries_of_up_to::<Number>(7, .., max_size).unwrap();
+        assert_eq!(some, numbers[..count], "{max_size}");
+    }
     assert_eq!(engine.entry_of(8, 1).unwrap(), Some(Number(4)));
     assert_eq!(engine.entry_of::<Number>(8, 2).unwrap(), None);
     assert_eq!(engine.get_message(7, b"b").unwrap(), Some(Number(66)));
@@ -107,11 +118,20 @@ fn a_message_that_cant_be_encoded_is_named_and_adds_nothing() {
     let [entry, value, greedy] = refused.map(Result::err);
     assert_eq!(greedy, None); // there was nothing to take away
     assert_eq!(batch.len(), 2);
-    for (e, text) in [
-        (entry, "Message Error: region 7, entry 3: it is unlucky"),
-        (value, r"Message Error: region 7, key \x01: it is unlucky"),
+    for (e, index, text) in [
+        (
+            entry,
+            Some(3),
+            "Message Error: region 7, entry 3: it is unlucky",
+        ),
+        (
+            value,
+            None,
+            r"Message Error: region 7, key \x01: it is unlucky",
+        ),
     ] {
         let e = e.unwrap();
+        assert_eq!((e.region, e.index, e.io_kind()), (Some(7), index, None));
         assert_eq!((e.kind, &e.text[..]), (ErrorKind::Message, text));
         assert_eq!(e.source().unwrap().to_string(), "it is unlucky");
     }
@@ -177,6 +197,8 @@ fn bytes_that_are_no_message_are_named() {
         (engine.get_message::<Number>(7, b"key").unwrap_err(), key),
         (engine.scan_messages::<Number>(7, ..).unwrap_err(), key),
     ] {
+        let index = (text == entry).then_some(2);
+        assert_eq!((e.region, e.index), (Some(7), index));
         assert_eq!((e.kind, &e.text[..]), (ErrorKind::Message, text));
         assert!(e.source().unwrap().is::<ParseIntError>());
     }

@@ -8,6 +8,7 @@ mod common;
 mod raft_storage;
 
 use common::TempFolder;
+use common::hooked::{Call, Hooked};
 use common::model::Draw;
 use raft_recover::{Engine, Files, MemoryFiles, Options, Queue, Unsynced};
 use raft_storage::{
@@ -17,6 +18,7 @@ use std::collections::BTreeMap;
 use std::io::{BufRead, BufReader};
 use std::process::{Command, Stdio};
 use std::sync::Arc;
+use std::sync::atomic::{AtomicUsize, Ordering::SeqCst};
 use std::time::Duration;
 use std::{env, thread};
 
@@ -246,6 +248,31 @@ fn a_log_has_what_was_acknowledged_wherever_the_machine_stops() {
             }
         }
     }
+}
+
+#[test]
+fn terms_cost_no_read() {
+    let reads = Arc::new(AtomicUsize::new(0));
+    let counted = reads.clone();
+    let files = Hooked::new(&MemoryFiles::new(), move |call: Call<'_>| {
+        counted.fetch_add(usize::from(!call.is_change()), SeqCst);
+        Ok(())
+    });
+    let engine = Arc::new(Engine::with_files(files, Options::new()).unwrap());
+    let mut log = RaftStorage::open(engine, REGION).unwrap();
+    let term_of = |index: u64| 1 + index / 7;
+    for index in 1..=100 {
+        let data = b"put x 1".to_vec();
+        let term = term_of(index);
+        log.append(&[Entry { index, term, data }]).unwrap();
+    }
+    reads.store(0, SeqCst);
+    for index in 1..=100 {
+        assert_eq!(log.term(index).unwrap(), term_of(index));
+    }
+    assert_eq!(reads.load(SeqCst), 0);
+    assert_eq!(log.entries(1, 101, None).unwrap().len(), 100);
+    assert!(reads.load(SeqCst) > 0, "reads are counted");
 }
 
 /// The environment of a process that is killed names its folder.

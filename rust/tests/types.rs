@@ -4,7 +4,7 @@ use raft_recover::{
     Ask, Batch, BatchIntoIter, BatchIter, Batches, Block, Content, Context, Engine, Entries, Entry,
     Error, ErrorKind, FileId, FilePart, Files, FolderFiles, Holder, Item, Kept, Listener, LogBatch,
     LogFile, MemoryFiles, Message, Options, Pair, Pairs, Purged, Queue, QueueStats, QueueUsage,
-    Slot, Stage, Stats, Summary, Tables, Unsynced, Usage, Version,
+    RecoveryMode, Slot, Stage, Stats, Summary, Tables, Unsynced, Usage, Version,
 };
 use std::collections::{BTreeSet, HashSet};
 use std::fmt::{Debug, Display};
@@ -55,7 +55,7 @@ all_are!(
     Send, Sync, Debug, Clone, PartialEq, Eq, Hash, Unpin =>
     Ask, Options, Purged, QueueStats, Stats, Unsynced,
     Block, Content, Entry, Error, ErrorKind, FileId, FilePart<'static>, Item, Kept, LogFile, Pair,
-    Queue, Stage, Summary, Version,
+    Queue, RecoveryMode, Stage, Summary, Version,
 );
 all_are!(
     Copy => Block, Entry, ErrorKind, FileId, FilePart<'static>, Kept, LogFile, Queue, Stage,

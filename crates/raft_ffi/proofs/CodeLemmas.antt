@@ -1,5 +1,5 @@
 -- The code of a refusal.
-use Rattle.raft_ffi.proofs.Common.{◌≡◌, ◌≢◌, ◌∙◌, sym, subst, ℕ, Result, Ok, Err, OnErr, OnOk, IfErr, Option, Some, None, Error, AllHold, BothHold, Holds, IsCodeForBoth, IsCodeOf, code_of}
+use Rattle.raft_ffi.proofs.Common.{◌≡◌, ◌≢◌, ◌∙◌, sym, subst, ℕ, Result, Ok, Err, OnErr, OnOk, IfErr, IfOk, Option, Some, None, Error, AllHold, BothHold, Holds, IsCodeForBoth, IsCodeOf, code_of}
 use Rattle.raft_base.specs.declared.errors.Error.TheVariants as errors
 
 -- a call that was refused for this reason has the code of an error that has it
@@ -37,6 +37,11 @@ some_code errors.Failed h = absurd cc
 pub passed : {R : Type 0} (r : Result R Error) (code : ℕ) (P : Type 0) → OnOk r P → IfErr r (λ e. code ≡ code_of e) → code ≡ 0 → P
 passed (Ok x) code P p is zero = p
 passed (Err e) code P p is zero = absurd (some_code e (sym is ∙ zero))
+
+-- a call whose code is 0 returned what is so
+pub told_both : {R : Type 0} (r : Result R Error) (code : ℕ) (P Q : R → Type 0) → IfOk r P → IfOk r Q → IfErr r (λ e. code ≡ code_of e) → code ≡ 0 → (x : R) × P x × Q x
+told_both (Ok x) code P Q p q is zero = (x, p, q)
+told_both (Err e) code P Q p q is zero = absurd (some_code e (sym is ∙ zero))
 
 -- a call whose code isn't 0 failed
 pub failed : {R : Type 0} (r : Result R Error) (code : ℕ) (P : Type 0) → OnOk r (code ≡ 0) → OnErr r P → code ≢ 0 → P

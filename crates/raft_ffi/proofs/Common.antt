@@ -1,7 +1,7 @@
 -- What proofs of this crate import of std, of the definitions and of the crates below, in one place.
 pub use Rattle.std.proofs.BoxSteps.Form.{B, Bx, D, P, R, args, box_ty, box_typed, word, τ}
 pub use Rattle.std.proofs.BoxSteps.Steps.{box_in, box_out}
-pub use Rattle.std.proofs.Common.{Bool, Err, IfErr, List, None, Ok, OnErr, OnOk, Option, Result, Some, [], ap, arith, cond, drop, false, filter, inl, length, map, min, refl, rules, subst, suc}
+pub use Rattle.std.proofs.Common.{Bool, Err, IfErr, IfOk, List, None, Ok, OnErr, OnOk, Option, Result, Some, [], ap, arith, cond, drop, false, filter, inl, length, map, min, refl, rules, subst, suc}
 pub use Rattle.std.proofs.Common.{sym, take, true, ℕ, ◌++◌, ◌+◌, ◌-◌, ◌<◌, ◌^◌, ◌∙◌, ◌∷◌, ◌≡◌, ◌≢◌, ◌≤◌}
 pub use Rattle.std.proofs.Math.Nat.{min_comm}
 pub use Rattle.std.proofs.ResultValues.{and_tt}
@@ -27,7 +27,7 @@ unfoldable pub use Rattle.raft_table.specs.TableEntries.{placed_in}
 pub use Rattle.raft_ffi.specs.Words.{Accessor, AllByRecursion, AllHold, Appending, AreAcceptedOncePlaced, AreBatchesUpTo, AreInKeyOrder, AreItemsRefused, ArePairsIn, AreRewritesUnpurged, AreScanned, AreScannedIn, AreTablesOf, AreUngroupedAs}
 pub use Rattle.raft_ffi.specs.Words.{AreUnmovedAgain, AreWritten, Ask, Batch, BothHold, Called, ComparesAs, Drains, EntryIndex, Error, Event, FilesSeen, Global, HasRead, HasReadExactly, HasStrings, HaveReadFound, Holds, IntoIter}
 pub use Rattle.raft_ffi.specs.Words.{IsCodeForBoth, IsCodeOf, IsConsecutive, IsCopied, IsMemoryOr, IsNeighborFault, IsNextFault, IsOfBothExactly, IsOpened, IsPermutation, IsRun, IsShareRefused, IsStoodFor, IsStoppedAt, IsStrictWeakOrder}
-pub use Rattle.raft_ffi.specs.Words.{IsUnopened, IsUnopenedAs, IsUnordered, IsUnpurged, IsUnrewritten, IsUnwritten, Item, KeptEngine, Keys, Lasts, LogItem, Ordering, RecoverContext, Rewriting, RisesFrom, Sound, Stored, TolerateTornTail, Version, Writing}
+pub use Rattle.raft_ffi.specs.Words.{IsUnopened, IsUnopenedAs, IsUnordered, IsUnpurged, IsUnrewritten, IsUnwritten, Item, KeptEngine, Keys, Lasts, LogItem, Ordering, RecoverContext, RecoveryMode, Rewriting, RisesFrom, Sound, Stored, Version, Writing}
 pub use Rattle.raft_ffi.specs.Words.{Yields, box_owns, bytes_of, code_of, copied_over, entries_from, entry_of, entry_with_index, file_of, found_asks, handle_owned, into_iter_items, into_iter_len, into_iter_steps, is_between}
 pub use Rattle.raft_ffi.specs.Words.{is_lt, item_of, lengths_of, moving_entries, moving_pairs, nat_cmp, number_in, option_copied, pairs_shown, part_of, queue_of, share_of, signature_of, slice_cmp, strings_of, table_of, version_of}
 pub use Rattle.raft_ffi.specs.FoundFilesView.{files_seen}

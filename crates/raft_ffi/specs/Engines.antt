@@ -1,5 +1,5 @@
 -- What the calls of an engine make of it, and which orders they hand out.
-use Rattle.std.specs.Prelude.{◌≡◌, ◌⊎◌, ℕ, zero, suc, Bool, false, List, [], ◌∷◌, Option, take}
+use Rattle.std.specs.Prelude.{◌≡◌, ◌⊎◌, ℕ, zero, suc, Bool, false, true, List, [], ◌∷◌, Option, None, Some, take}
 use Rattle.raft_base.specs.declared.entry_index.EntryIndex.{EntryIndex}
 use Rattle.raft_base.specs.declared.errors.Error.{Error}
 use Rattle.raft_base.specs.declared.pipe_log.LogQueue.TheVariants.{Append}
@@ -8,16 +8,22 @@ use Rattle.raft_contexts.specs.RecoverContext.{RecoverContext}
 use Rattle.raft_files.specs.Asks.{Act, Ask, Begin, Cut, Delete, Put, Sync, ask}
 use Rattle.raft_records.specs.LogBatch.{Batch}
 use Rattle.raft_engine_fronts.specs.Contents.{AreBothTold}
+use Rattle.raft_engine.specs.CutTails.{IsRecoveredOf}
 use Rattle.raft_engine.specs.KeptEngine.{KeptEngine}
 use Rattle.raft_engine.specs.Lasting.{IsLasting}
 use Rattle.raft_engine.specs.ReadContexts.{HaveReadFound}
 use Rattle.raft_engine.specs.Unopened.{AreUngroupedAs, IsUnopened}
 use Rattle.raft_engine.specs.WrittenBatch.{IsOneMore, IsOnlySynced, IsUnwritten}
-use Rattle.raft_engine.specs.declared.recovery_mode.RecoveryMode.TheVariants.{TolerateTornTail}
+use Rattle.raft_engine.specs.declared.recovered.CutTail.{CutTail}
+use Rattle.raft_engine.specs.declared.recovered.Recovered.{Recovered}
+use Rattle.raft_engine.specs.declared.recovery_mode.RecoveryMode.{RecoveryMode}
+use Rattle.raft_engine.specs.declared.recovery_mode.RecoveryMode.TheVariants.{AbsoluteConsistency, TolerateTailCorruption, TolerateTornTail}
 use Rattle.raft_orders.specs.Refusals.{IsUnordered}
-use Rattle.raft_ffi.specs.Calls.{BothHold, Holds, IsCodeOf, queue_of}
+use Rattle.raft_ffi.specs.Calls.{BothHold, Holds, IsCodeOf, code_of, queue_of}
 use Rattle.raft_ffi.specs.FoundFiles.{FilesSeen}
+use Rattle.raft_ffi.specs.Rooms.{IsTextOf}
 use Rattle.raft_ffi.specs.declared.order_calls.OrderHead.{OrderHead}
+use Rattle.raft_ffi.specs.declared.status.Tail.{Tail}
 
 -- the act of a kind, with a number, of which these bytes are put
 abbrev pub act_of_kind : ℕ → ℕ → List ℕ → Act
@@ -31,6 +37,30 @@ act_of_kind (suc (suc (suc (suc kind)))) number bytes = Cut number
 abbrev pub ask_in : OrderHead → List ℕ → Ask
 ask_in order bytes = ask (queue_of order.is_rewrite) (act_of_kind order.kind order.number (take order.len bytes))
 
+-- the recovery mode of a number: 0 cuts nothing off, 2 cuts off damage, and any other is the default one
+abbrev pub mode_of : ℕ → RecoveryMode
+mode_of zero = AbsoluteConsistency
+mode_of (suc (suc zero)) = TolerateTailCorruption
+mode_of _ = TolerateTornTail
+
+-- a tail that was cut off, if one was, in numbers, with the code and the text of the reason why no batch can be read there
+abbrev pub IsTailIn : Option CutTail → Tail → List ℕ → List ℕ → Type 0
+IsTailIn None tail old new = tail.is_some ≡ false
+IsTailIn (Some cut) tail old new =
+    (tail.is_some ≡ true) × (tail.seq ≡ cut.file) × (tail.offset ≡ cut.offset) × (tail.len ≡ cut.len) × (tail.code ≡ code_of cut.error)
+    × IsTextOf cut.error old new tail.text_len
+
+-- what was cut off from both queues is told in numbers, with the texts of the reasons
+pub record AreTailsIn (append rewrite : Tail) (append_old append_new rewrite_old rewrite_new : List ℕ) (recovered : Recovered) : Type 0 where
+  pub append_in : IsTailIn recovered.append append append_old append_new
+  pub rewrite_in : IsTailIn recovered.rewrite rewrite rewrite_old rewrite_new
+
+-- so is what an opening cut off from found files
+abbrev pub AreTailsToldIn : Version → FilesSeen → Tail → Tail → List ℕ → List ℕ → List ℕ → List ℕ → Type 0
+AreTailsToldIn version found append rewrite append_old append_new rewrite_old rewrite_new =
+    (recovered : Recovered) × IsRecoveredOf version found.append found.rewrite recovered
+    × AreTailsIn append rewrite append_old append_new rewrite_old rewrite_new recovered
+
 -- the contexts of both queues have read the found files, up to where each can't be read on
 abbrev pub HaveReadBoth : Version → Option FilesSeen → Option RecoverContext → Option RecoverContext → Type 0
 HaveReadBoth version found appended rewritten = Holds (λ f. BothHold (HaveReadFound version f.append f.rewrite) appended rewritten) found
@@ -40,9 +70,9 @@ abbrev pub IsUnwrittenAs : Bool → ℕ → Option Batch → Option Batch → Ke
 IsUnwrittenAs sync code batch left old new = BothHold (λ b l. IsCodeOf (IsUnwritten sync b l old new) code) batch left
 
 -- why found files aren't opened, whatever was ordered by then; an order fails for want of memory or of numbers
-abbrev pub IsUnopenedAs : Version → FilesSeen → Error → Type 0
-IsUnopenedAs version found e =
-    (asks : List Ask) × IsUnopened (AreUngroupedAs version) (λ _ _. IsUnordered) TolerateTornTail version found.append found.rewrite asks e
+abbrev pub IsUnopenedAs : RecoveryMode → Version → FilesSeen → Error → Type 0
+IsUnopenedAs mode version found e =
+    (asks : List Ask) × IsUnopened (AreUngroupedAs version) (λ _ _. IsUnordered) mode version found.append found.rewrite asks e
 
 -- a sync of the append queue more is asked
 abbrev pub IsSynced : KeptEngine → KeptEngine → Type 0

@@ -1,20 +1,22 @@
 //! Calls of an engine whose files the caller keeps: what changes it leaves orders behind, which the caller carries out in turn.
 
-ghost use Rattle.std.specs.Prelude.{◌≡◌, ◌≢◌, true, false, Some, None, IsTrue, is_some, IfErr, OnErr, OnOk};
+ghost use Rattle.std.specs.Prelude.{◌≡◌, ◌≢◌, true, false, Some, None, IsTrue, is_some, IfErr, IfOk, OnErr, OnOk};
 ghost use Rattle.raft_ffi.specs.Words.{AllHold, AreAcceptedOncePlaced, AreBothAccepted, ArePurged, AreRewritesPurged, AreRewritesUnpurged, BothHold, HasText, HaveReadBoth, HaveReadFound, Holds, IsCodeForBoth, IsCodeOf, IsOpened, IsRead, IsRotated};
-ghost use Rattle.raft_ffi.specs.Words.{IsStopped, IsSynced, IsUnopenedAs, IsUnpurged, IsUnrotated, IsUnwrittenAs, IsWrittenOrNone, TolerateTornTail, empty_batch, is_open, version_of};
+ghost use Rattle.raft_ffi.specs.Words.{AreTailsIn, AreTailsToldIn, IsRecoveredOf, IsStopped, IsSynced, IsUnopenedAs, IsUnpurged, IsUnrotated, IsUnwrittenAs, IsWrittenOrNone, empty_batch, is_open, mode_of, version_of};
 
 use crate::found_files::FoundFiles;
 use crate::handles::{Batch, Context, Engine, Found, Handle, told, with};
 use crate::held_engine::HeldEngine;
-use crate::status::{Status, answered, version};
+use crate::status::{Status, Tail, answered, recovery_mode, version};
 use raft_base::{Result, Version};
 use raft_contexts::MemTableRecoverContext;
+use raft_engine::{Recovered, RecoveryMode};
 use raft_orders::HandedFiles;
 use std::alloc::Global;
 
-/// Opens found files, with the context of each queue that read them: one that has read the batches of its files, in order, up to
-/// where the last one can't be read. The files and the contexts are gone then.
+/// Opens found files in a mode, with the context of each queue that read them: one that has read the batches of its files, in order,
+/// up to where the last one can't be read. In mode 0 nothing is cut off, in mode 2 all from there on, and in any other what a crash
+/// can leave. It says what was cut off from each queue. The files and the contexts are gone then.
 #[unsafe(no_mangle)]
 pub extern "C" fn raft_ffi_engine_open(
     alloc: Global,
@@ -23,46 +25,90 @@ pub extern "C" fn raft_ffi_engine_open(
     rewritten: Context,
     appended: Context,
     is_signed: bool,
+    mode: u32,
+    append_tail: &mut Tail,
+    append_reason: &mut [u8],
+    rewrite_tail: &mut Tail,
+    rewrite_reason: &mut [u8],
     text: &mut [u8],
 ) -> Status
     requires empty { engine.old.value ≡ None }
     requires read { HaveReadBoth (version_of is_signed) found.value appended.value rewritten.value }
     ensures ok { result.code ≡ 0 → BothHold
         (λ f e. IsOpened (version_of is_signed) f.append f.rewrite e) found.value engine.new.value }
-    ensures accepted { result.code ≡ 0 → Holds (λ f. AreBothAccepted TolerateTornTail (version_of is_signed) f.append f.rewrite) found.value }
+    ensures accepted { result.code ≡ 0 → Holds (λ f. AreBothAccepted (mode_of mode) (version_of is_signed) f.append f.rewrite) found.value }
+    ensures told { result.code ≡ 0 → Holds (λ f. AreTailsToldIn (version_of is_signed) f append_tail.new rewrite_tail.new
+        append_reason.old append_reason.new rewrite_reason.old rewrite_reason.new) found.value }
     ensures err { result.code ≢ 0 → engine.new.value ≡ None }
-    ensures fault { result.code ≢ 0 → Holds (λ f. IsCodeOf (IsUnopenedAs (version_of is_signed) f) result.code) found.value }
+    ensures fault { result.code ≢ 0 → Holds (λ f. IsCodeOf
+        (IsUnopenedAs (mode_of mode) (version_of is_signed) f) result.code) found.value }
     ensures text { HasText result text.old text.new }
 {
     let files = found.into_held();
     let rewrite = rewritten.into_held();
     let append = appended.into_held();
-    let answer = open_into(engine, alloc, version(is_signed), files, rewrite, append);
+    let answer = open_into(
+        engine,
+        alloc,
+        recovery_mode(mode),
+        version(is_signed),
+        files,
+        rewrite,
+        append,
+    );
+    tell(
+        alloc,
+        &answer,
+        append_tail,
+        append_reason,
+        rewrite_tail,
+        rewrite_reason,
+    );
     answered(alloc, &answer, text)
+}
+
+/// Writes down what an opening cut off, if it succeeded.
+fn tell(
+    alloc: Global,
+    answer: &Result<Recovered>,
+    append_tail: &mut Tail,
+    append_reason: &mut [u8],
+    rewrite_tail: &mut Tail,
+    rewrite_reason: &mut [u8],
+)
+    ensures { IfOk answer.now (AreTailsIn append_tail.new rewrite_tail.new append_reason.old append_reason.new
+        rewrite_reason.old rewrite_reason.new) }
+{
+    if let Ok(recovered) = answer {
+        *append_tail = Tail::of(alloc, &recovered.append, append_reason);
+        *rewrite_tail = Tail::of(alloc, &recovered.rewrite, rewrite_reason);
+    }
 }
 
 fn open_into(
     engine: &mut Engine,
     alloc: Global,
+    mode: RecoveryMode,
     version: Version,
     found: FoundFiles,
     rewritten: MemTableRecoverContext,
     appended: MemTableRecoverContext,
-) -> Result<()>
+) -> Result<Recovered>
     requires empty { engine.old.value ≡ None }
     requires read { HaveReadFound version found.append found.rewrite appended rewritten }
     ensures ok { OnOk result (Holds (IsOpened version found.append found.rewrite) engine.new.value) }
-    ensures accepted { OnOk result (AreBothAccepted TolerateTornTail version found.append found.rewrite) }
+    ensures accepted { OnOk result (AreBothAccepted mode version found.append found.rewrite) }
+    ensures recovered { IfOk result (IsRecoveredOf version found.append found.rewrite) }
     ensures err { OnErr result (engine.new.value ≡ None) }
-    ensures fault { IfErr result (IsUnopenedAs version found) }
+    ensures fault { IfErr result (IsUnopenedAs mode version found) }
 {
     let FoundFiles { append, rewrite } = found;
     let files = HandedFiles::found(alloc, &append, &rewrite);
-    let opened = raft_engine::Engine::open_over(
-        alloc, version, files, append, rewrite, appended, rewritten,
+    let opened = raft_engine::Engine::open_over_telling(
+        alloc, mode, version, files, append, rewrite, appended, rewritten,
     )?;
-    engine.put_new(alloc, HeldEngine::of(opened))?;
-    Ok(())
+    engine.put_new(alloc, HeldEngine::of(opened.engine))?;
+    Ok(opened.recovered)
 }
 
 /// Tests whether the engine takes further calls.

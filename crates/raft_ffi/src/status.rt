@@ -1,9 +1,10 @@
 //! What calls take and return, in numbers.
 
 ghost use Rattle.std.specs.Prelude.{◌≡◌, OnOk, OnErr, IfOk, IfErr, option_map};
-ghost use Rattle.raft_ffi.specs.Words.{HasText, IsCopied, IsFound, IsTextIn, IsTextOf, code_of, file_of, number_in, queue_of, version_of};
+ghost use Rattle.raft_ffi.specs.Words.{HasText, IsCopied, IsFound, IsTailIn, IsTextIn, IsTextOf, code_of, file_of, mode_of, number_in, queue_of, version_of};
 
 use raft_base::{Error, FileId, LogFileContext, LogQueue, Result, Version};
+use raft_engine::{CutTail, RecoveryMode};
 use std::alloc::Global;
 
 /// A log file.
@@ -33,6 +34,19 @@ pub struct Status {
     pub text_len: usize,
 }
 
+/// A tail that was cut off from a queue's last file, if one was: the file, where the tail began, and how many bytes it had; and the
+/// number of the error why no batch can be read there, with how many bytes the error's text has.
+#[repr(C)]
+#[derive(Clone, Copy)]
+pub struct Tail {
+    pub seq: u64,
+    pub offset: u64,
+    pub len: u64,
+    pub text_len: usize,
+    pub code: u32,
+    pub is_some: bool,
+}
+
 pub(crate) fn queue(is_rewrite: bool) -> LogQueue
     ensures { result ≡ queue_of is_rewrite }
 {
@@ -47,6 +61,16 @@ pub(crate) fn version(is_signed: bool) -> Version
     ensures { result ≡ version_of is_signed }
 {
     if is_signed { Version::V2 } else { Version::V1 }
+}
+
+pub(crate) fn recovery_mode(mode: u32) -> RecoveryMode
+    ensures { result ≡ mode_of mode }
+{
+    match mode {
+        0 => RecoveryMode::AbsoluteConsistency,
+        2 => RecoveryMode::TolerateTailCorruption,
+        _ => RecoveryMode::TolerateTornTail,
+    }
 }
 
 pub(crate) fn is_rewrite(queue: LogQueue) -> bool
@@ -77,6 +101,31 @@ impl Maybe {
         Maybe {
             is_some: number.is_some(),
             number: number.unwrap_or(0),
+        }
+    }
+}
+
+impl Tail {
+    pub(crate) fn of(alloc: Global, cut: &Option<CutTail>, text: &mut [u8]) -> Tail
+        ensures { IsTailIn cut.now result text.old text.new }
+    {
+        match cut {
+            Some(cut) => Tail {
+                seq: cut.file,
+                offset: cut.offset,
+                len: cut.len,
+                text_len: write_text(alloc, &cut.error, text),
+                code: code(&cut.error),
+                is_some: true,
+            },
+            None => Tail {
+                seq: 0,
+                offset: 0,
+                len: 0,
+                text_len: 0,
+                code: 0,
+                is_some: false,
+            },
         }
     }
 }

@@ -11,7 +11,7 @@ mod group;
 pub(super) use group::Group;
 
 /// Batches that wait to be written. Of the threads that hand them in one leads: it writes all that wait, and the others wait
-/// for it.
+/// for it. It makes the sync for all who want one, if it wants one itself; else one of them leads next.
 #[derive(Debug, Default)]
 pub(super) struct Commits {
     line: Mutex<Line>,
@@ -22,6 +22,8 @@ pub(super) struct Commits {
 struct Line {
     next_ticket: u64,
     waiting: Vec<Commit>,
+    /// Those that were written and wait for a sync, which none of their threads makes yet.
+    unsynced: Vec<Commit>,
     /// Those whose threads may go on.
     over: Vec<Commit>,
     /// Whether a thread leads.
@@ -61,7 +63,8 @@ impl Commit {
 }
 
 impl Commits {
-    /// Hands in a batch, and waits until it was written. Where no other thread leads this one does.
+    /// Hands in a batch, and waits until it was written. Where no other thread leads this one does, unless a sync is due that it
+    /// doesn't want.
     ///
     /// # Errors
     ///
@@ -80,7 +83,7 @@ impl Commits {
                 *batch = over.batch;
                 return over.result.unwrap_or_else(|| Err(Error::failed()));
             }
-            if line.is_led {
+            if line.is_led || (!sync && !line.unsynced.is_empty()) {
                 line.sleepers += 1;
                 line = locks::wait(&self.is_over, line);
                 line.sleepers -= 1;
@@ -88,7 +91,7 @@ impl Commits {
             }
             line.is_led = true;
             drop(line);
-            lead(&mut Group::of(self));
+            lead(&mut Group::of(self, ticket));
             line = locks::lock(&self.line);
         }
     }

@@ -46,24 +46,30 @@ struct Place {
 }
 
 impl Entries {
-    /// Reads entries by their blocks, each of them once.
+    /// Reads entries of a region by their blocks, each of them once.
     ///
     /// # Errors
     ///
-    /// `Corruption` where no sound block with the bytes of an entry stands at its place, `Io`, `Memory`.
-    pub(super) fn read<F: Files>(engine: &Engine<F>, entries: &[Entry]) -> Result<Entries> {
+    /// `Corruption` where no sound block with the bytes of an entry stands at its place, `Io`, `Memory`; they name the region and
+    /// the index of the entry.
+    pub(super) fn read<F: Files>(
+        engine: &Engine<F>,
+        region: u64,
+        entries: &[Entry],
+    ) -> Result<Entries> {
         let (mut blocks, mut last) = (Vec::<Arc<Vec<u8>>>::new(), None);
         let mut places = Vec::new();
         places
             .try_reserve_exact(entries.len())
             .map_err(|_| Error::memory())?;
         for entry in entries {
+            let of_entry = |e: Error| e.of_entry(region, entry.index);
             if last != Some(entry.block) {
-                blocks.push(entry_bytes(engine, entry.block)?);
+                blocks.push(entry_bytes(engine, entry.block).map_err(of_entry)?);
                 last = Some(entry.block);
             }
             let block = blocks.len() - 1;
-            let bytes = bytes_of(entry, blocks[block].len())?;
+            let bytes = bytes_of(entry, blocks[block].len()).map_err(of_entry)?;
             let index = entry.index;
             places.push(Place {
                 index,

@@ -9,12 +9,12 @@ use std::sync::Arc;
 ///
 /// An engine calls [`list`](Files::list) for each queue, and reads the files that it names. From then on the calls that change
 /// something come one after another, never two at once, and [`read`](Files::read) comes from any thread at any time. After an
-/// `Err` of a call that changes something an engine makes no further one.
+/// `Err` of a call that changes something an engine makes no further one, but for the same call, where all is as before it.
 ///
 /// That nothing is lost whenever the machine stops is proved of the calls alone, and of a disk that does with them what an
 /// implementor answers for:
 ///
-/// - Of bytes that weren't synced a front stands when the machine stops: no hole, and no page of zeros in front of others. So
+/// - Of bytes that weren't synced a prefix stands when the machine stops: no hole, and no page of zeros in front of others. So
 ///   files are neither made longer beforehand nor used again. Bytes that were synced aren't harmed by those behind them.
 /// - [`sync`](Files::sync) makes the names of new files and deletions last too, as a sync of the folder does.
 ///   [`rotate`](Files::rotate) first syncs the file that it closes. [`truncate`](Files::truncate) is on the disk when it returns.
@@ -22,7 +22,8 @@ use std::sync::Arc;
 ///   is gone.
 /// - After a call that failed half way either all is as before, or every later call that changes something fails. After a sync
 ///   that failed no later one can be believed: a system may take bytes for synced that it has dropped. So the machine is started
-///   again before such files are listed.
+///   again before such files are listed. Where [`is_as_before`](Files::is_as_before) says that all is as before the call, an
+///   engine may make it again.
 /// - [`read`](Files::read) returns the bytes that were written at the place, or fails.
 /// - All that [`list`](Files::list) names is on the disk, with its bytes: a process that was killed may have left bytes that a
 ///   reader sees and a failure of power takes away. So files that are found are synced first, and their folder.
@@ -203,6 +204,19 @@ pub trait Files: Send + Sync {
     ///
     /// Those of the system, where the file is gone or ends before that too.
     fn read(&self, file: FileId, offset: u64, bytes: &mut [u8]) -> io::Result<()>;
+
+    /// Tests whether the change that was asked for last, and failed, left all as it was, so that it may be asked for again: a write
+    /// that found no room, of which no byte is left. It is asked before the next change. Where nobody knows, it isn't so.
+    ///
+    /// ```
+    /// # use raft_recover::{FileId, Files, MemoryFiles, Queue};
+    /// # let files = MemoryFiles::new();
+    /// files.write(FileId::new(Queue::Append, 1), b"bytes").unwrap_err(); // there is no such file
+    /// assert!(!files.is_as_before());
+    /// ```
+    fn is_as_before(&self) -> bool {
+        false
+    }
 }
 
 /// The files are those of what stands behind it.
@@ -233,5 +247,9 @@ impl<F: Files + ?Sized> Files for Arc<F> {
 
     fn read(&self, file: FileId, offset: u64, bytes: &mut [u8]) -> io::Result<()> {
         (**self).read(file, offset, bytes)
+    }
+
+    fn is_as_before(&self) -> bool {
+        (**self).is_as_before()
     }
 }

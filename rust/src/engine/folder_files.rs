@@ -18,7 +18,7 @@ mod writing;
 use locking::LockedFolder;
 use names::{id_of, name_of};
 use reading::read_at;
-use writing::write_all_or_nothing;
+use writing::{Unmade, lacks_room, write_all_or_nothing};
 
 /// The files of both queues in a folder, as `0000000000000001.raftlog` and `0000000000000001.rewrite`, and a file `LOCK`. It and
 /// the folder itself are locked for as long as this value lives. Other names are left alone.
@@ -27,9 +27,9 @@ use writing::write_all_or_nothing;
 /// `0000000000000001.raftlog.4096.cut`, and `0000000000000001.raftlog.4096.2.cut` where something else was cut there before. None
 /// is ever read or deleted: look at them where a batch is missed, and delete them when you like.
 ///
-/// Where a name is made or deleted the folder is synced at once, and a file without new bytes isn't synced again. After an `Err`
-/// of a call that changes something every later one fails: what the disk has is found when the folder is opened again. A write
-/// that finds no room leaves nothing behind that would have to be cut then, if the system allows that.
+/// Where a name is made or deleted the folder is synced at once, and a file without new bytes isn't synced again. A write that
+/// finds no room leaves no byte behind, if the system allows that, and may be made again. After any other `Err` of a call that
+/// changes something every later one fails: what the disk has is found when the folder is opened again.
 ///
 /// ```
 /// use raft_recover::{ErrorKind, Files, FolderFiles, Queue};
@@ -79,7 +79,7 @@ impl FolderFiles {
     /// # Errors
     ///
     /// `TryAgain` where another engine has the folder open; `InvalidArgument` where a name ends like that of a log file and is
-    /// none; `Io`.
+    /// none, or is that of a folder, for example; `Io`.
     pub fn open(path: impl AsRef<Path>) -> Result<FolderFiles> {
         let path = path.as_ref();
         let about = |e| Error::system(path.display(), e);
@@ -120,7 +120,7 @@ impl FolderFiles {
     /// # Errors
     ///
     /// `TryAgain` where an engine has the folder open that writes; `InvalidArgument` where a name ends like that of a log file and
-    /// is none; `Io`, where there is no folder too.
+    /// is none, or is that of a folder, for example; `Io`, where there is no folder too.
     pub fn open_read_only(path: impl AsRef<Path>) -> Result<FolderFiles> {
         let path = path.as_ref();
         let path = fs::canonicalize(path).map_err(|e| Error::system(path.display(), e))?;
@@ -184,19 +184,24 @@ impl FolderFiles {
         Ok(())
     }
 
-    /// Makes a change, which has failed until it has ended well. It gets the files with bytes that aren't synced.
+    /// Makes a change, which has failed until it has ended well, or left all as it was. It gets the files with bytes that aren't
+    /// synced.
     fn change(
         &self,
-        change: impl FnOnce(&mut BTreeSet<FileId>) -> io::Result<()>,
+        change: impl FnOnce(&mut BTreeSet<FileId>) -> std::result::Result<(), Unmade>,
     ) -> io::Result<()> {
         let mut changes = locks::lock(&self.changes);
         if let Some(why) = changes.refused {
             return Err(io::Error::other(why));
         }
         changes.refused = Some("an earlier change failed");
-        change(&mut changes.unsynced)?;
+        let result = match change(&mut changes.unsynced) {
+            Ok(()) => Ok(()),
+            Err(Unmade::AsBefore(e)) => Err(e),
+            Err(Unmade::InPart(e)) => return Err(e),
+        };
         changes.refused = None;
-        Ok(())
+        result
     }
 }
 
@@ -217,7 +222,7 @@ impl Files for FolderFiles {
     }
 
     fn sync(&self, queue: Queue) -> io::Result<()> {
-        self.change(|unsynced| self.sync_new(queue, unsynced))
+        self.change(|unsynced| Ok(self.sync_new(queue, unsynced)?))
     }
 
     fn rotate(&self, file: FileId) -> io::Result<()> {
@@ -225,7 +230,12 @@ impl Files for FolderFiles {
             self.sync_new(file.queue, unsynced)?;
             let mut how = OpenOptions::new();
             how.create_new(true).read(true).append(true);
-            let opened = how.open(self.path_of(file))?;
+            let opened = how.open(self.path_of(file)).map_err(|e| {
+                if lacks_room(&e) {
+                    return Unmade::AsBefore(e);
+                }
+                e.into()
+            })?;
             self.locked.folder.sync_all()?;
             locks::write(&self.files).insert(file, Arc::new(opened));
             Ok(())
@@ -237,7 +247,7 @@ impl Files for FolderFiles {
             unsynced.remove(&file);
             locks::write(&self.files).remove(&file);
             fs::remove_file(self.path_of(file))?;
-            self.locked.folder.sync_all()
+            Ok(self.locked.folder.sync_all()?)
         })
     }
 
@@ -261,6 +271,10 @@ impl Files for FolderFiles {
     fn read(&self, file: FileId, offset: u64, bytes: &mut [u8]) -> io::Result<()> {
         read_at(self.file(file)?.as_ref(), bytes, offset)
     }
+
+    fn is_as_before(&self) -> bool {
+        locks::lock(&self.changes).refused.is_none()
+    }
 }
 
 impl fmt::Debug for FolderFiles {
@@ -282,8 +296,13 @@ fn opened_in(
     for entry in fs::read_dir(folder).map_err(about)? {
         let entry = entry.map_err(about)?;
         if let Some(id) = id_of(&entry.file_name().to_string_lossy())? {
-            let opened = open(entry.path());
-            let file = opened.map_err(|e| Error::system(entry.path().display(), e))?;
+            let path = entry.path();
+            let about = |e| Error::system(path.display(), e);
+            if !fs::metadata(&path).map_err(about)?.is_file() {
+                let text = format!("{} isn't a file", path.display());
+                return Err(Error::invalid_argument(&text)); // to open a pipe might take for ever
+            }
+            let file = open(path.clone()).map_err(about)?;
             files.insert(id, Arc::new(file));
         }
     }

@@ -1,16 +1,16 @@
 //! The files that are found when an engine is opened.
 
 use super::numbers::Numbers;
-use super::{Recovered, locks};
+use super::{Recovered, RecoveryMode, locks};
 use crate::recovery;
 use crate::sys::{EngineHandle, FoundHandle, Order};
-use crate::{FileId, Files, Options, Queue, Result, Version};
+use crate::{Context, FileId, Files, Options, Queue, Result, Version};
 use std::sync::{Mutex, PoisonError};
 
 mod held;
 mod read_queue;
 
-use read_queue::ReadQueue;
+use read_queue::read_queue;
 
 /// How the files of raft-engine begin. No batch begins so: such a file would be taken for a torn one, and cut.
 const FOREIGN_HEADER: &[u8] = b"RAFT-LOG-FILE-HEADER";
@@ -18,14 +18,15 @@ const FOREIGN_HEADER: &[u8] = b"RAFT-LOG-FILE-HEADER";
 /// From how many bytes on those of a queue are added by a thread of its own.
 const ADDED_BESIDE: usize = 256 << 10;
 
-/// The bytes of the files of both queues, and contexts that have read just these, but for the torn tail of each queue's last
-/// file.
+/// The bytes of the files of both queues, and contexts that have read just these, up to where each queue's last file can't be
+/// read.
 #[derive(Debug)]
 pub(super) struct Found {
     files: FoundHandle,
     version: Version,
-    rewritten: ReadQueue,
-    appended: ReadQueue,
+    mode: RecoveryMode,
+    rewritten: Context,
+    appended: Context,
     numbers: Numbers,
 }
 
@@ -59,6 +60,7 @@ impl Found {
         Ok(Found {
             files: found.into_inner().unwrap_or_else(PoisonError::into_inner),
             version: options.version,
+            mode: options.recovery_mode,
             rewritten,
             appended,
             numbers,
@@ -69,21 +71,17 @@ impl Found {
     ///
     /// # Errors
     ///
-    /// Those of [`Context::overlay`]; `Corruption` where the last file of a queue is damaged or of the other version, and where
-    /// numbers of files don't rise; `InvalidArgument` where the batches of an atomic group don't stand
-    /// in a row in one file; `Full`, `Memory`.
+    /// Those of [`Context::overlay`]; `Corruption` where the mode refuses the tail of a queue's last file, or that is of the other
+    /// version, and where numbers of files don't rise; `InvalidArgument` where the batches of an atomic group don't stand in a row
+    /// in one file; `Full`, `Memory`.
     pub(super) fn open(self) -> Result<Opened> {
-        let (rewritten, appended) = (self.rewritten, self.appended);
-        let mut tables = self.files.open(
-            rewritten.context.into_handle()?,
-            appended.context.into_handle()?,
+        let (mut tables, recovered) = self.files.open(
+            self.rewritten.into_handle()?,
+            self.appended.into_handle()?,
             self.version,
+            self.mode,
         )?;
         let orders = tables.take_orders()?;
-        let recovered = Recovered::of(&orders, &self.numbers, |queue| match queue {
-            Queue::Append => appended.refused.clone(),
-            Queue::Rewrite => rewritten.refused.clone(),
-        });
         Ok(Opened {
             tables,
             numbers: self.numbers,
@@ -100,7 +98,7 @@ fn read_and_added(
     queue: Queue,
     options: &Options,
     found: &Mutex<FoundHandle>,
-) -> Result<ReadQueue> {
+) -> Result<Context> {
     let (version, threads) = (options.version, options.recovery_threads.max(1));
     let add = || {
         let mut found = locks::lock(found);
@@ -109,11 +107,11 @@ fn read_and_added(
     };
     let len: usize = held.iter().map(|(_, bytes)| bytes.len()).sum();
     if threads == 1 || len < ADDED_BESIDE {
-        let read = ReadQueue::of(held, queue, version, threads)?;
+        let read = read_queue(held, queue, version, threads)?;
         add()?;
         return Ok(read);
     }
-    let (read, added) = recovery::both(|| ReadQueue::of(held, queue, version, threads - 1), add);
+    let (read, added) = recovery::both(|| read_queue(held, queue, version, threads - 1), add);
     let read = read?;
     added?;
     Ok(read)

@@ -1,6 +1,6 @@
 //! Messages are read.
 
-use super::Engine;
+use super::{Engine, Entries};
 use crate::{Error, Files, Message, Result};
 use std::fmt;
 use std::ops::RangeBounds;
@@ -100,23 +100,52 @@ impl<F: Files> Engine<F> {
         region: u64,
         range: impl RangeBounds<u64>,
     ) -> Result<Vec<M>> {
-        let entries = self.entries(region, range)?;
-        let messages = entries
-            .iter()
-            .map(|(index, bytes)| of_entry(region, index, bytes));
-        messages.collect()
+        of_entries(region, &self.entries(region, range)?)
     }
+
+    /// Returns the messages that are the entries of a range of indexes up to `max_size` encoded bytes in all, and one at least.
+    ///
+    /// ```
+    /// # use raft_recover::{Engine, LogBatch, MemoryFiles, Options};
+    /// # let engine = Engine::with_files(MemoryFiles::new(), Options::new())?;
+    /// # let mut batch = LogBatch::new()?;
+    /// batch.add_messages(7, 10, &["one".to_owned(), "two".to_owned(), "three".to_owned()])?;
+    /// engine.write(&mut batch, true)?;
+    /// assert_eq!(engine.entries_of_up_to::<String>(7, 10.., 6)?, ["one", "two"]);
+    /// # Ok::<(), raft_recover::Error>(())
+    /// ```
+    ///
+    /// # Errors
+    ///
+    /// Those of [`Engine::entries_of`].
+    pub fn entries_of_up_to<M: Message>(
+        &self,
+        region: u64,
+        range: impl RangeBounds<u64>,
+        max_size: u64,
+    ) -> Result<Vec<M>> {
+        of_entries(region, &self.entries_up_to(region, range, max_size)?)
+    }
+}
+
+/// Makes the messages that entries are.
+fn of_entries<M: Message>(region: u64, entries: &Entries) -> Result<Vec<M>> {
+    let entries = entries.iter();
+    let messages = entries.map(|(index, bytes)| of_entry(region, index, bytes));
+    messages.collect()
 }
 
 /// Makes the message that a value is.
 fn of_value<M: Message>(region: u64, key: &[u8], value: &[u8]) -> Result<M> {
     let key = key.escape_ascii();
-    decoded(value, format_args!("region {region}, key {key}"))
+    let message = decoded(value, format_args!("region {region}, key {key}"));
+    message.map_err(|e| e.about(region, None))
 }
 
 /// Makes the message that an entry is.
 fn of_entry<M: Message>(region: u64, index: u64, bytes: &[u8]) -> Result<M> {
-    decoded(bytes, format_args!("region {region}, entry {index}"))
+    let message = decoded(bytes, format_args!("region {region}, entry {index}"));
+    message.map_err(|e| e.about(region, Some(index)))
 }
 
 /// Makes a message of bytes that stand where these words say.

@@ -1,5 +1,6 @@
 //! How an engine is opened, and when it begins and clears files.
 
+use super::RecoveryMode;
 use crate::Version;
 use std::num::NonZero;
 use std::thread;
@@ -19,6 +20,8 @@ use std::thread;
 pub struct Options {
     /// The format of the files. Those of the other one are refused.
     pub version: Version,
+    /// What an opening does where a queue's last file can't be read to its end.
+    pub recovery_mode: RecoveryMode,
     /// On how many threads the files are read when they are opened, the caller's with them. 0 are 1.
     pub recovery_threads: usize,
     /// With so many bytes the last append file is closed by the write that reaches them, and a new one begun.
@@ -30,8 +33,8 @@ pub struct Options {
 }
 
 impl Options {
-    /// Files of version 2 of 64 MiB, read on up to four threads, with up to 1 GiB in each queue, or more where half of it or more is
-    /// needed.
+    /// Files of version 2 of 64 MiB, cut where a crash can have torn them, read on up to four threads, with up to 1 GiB in each queue,
+    /// or more where half of it or more is needed.
     ///
     /// ```
     /// # use raft_recover::Options;
@@ -40,6 +43,7 @@ impl Options {
     pub fn new() -> Options {
         Options {
             version: Version::V2,
+            recovery_mode: RecoveryMode::default(),
             recovery_threads: thread::available_parallelism()
                 .map_or(1, NonZero::get)
                 .min(4),
@@ -57,6 +61,20 @@ impl Options {
     /// ```
     pub fn version(self, version: Version) -> Options {
         Options { version, ..self }
+    }
+
+    /// Sets what an opening does where a queue's last file can't be read to its end.
+    ///
+    /// ```
+    /// # use raft_recover::{Options, RecoveryMode};
+    /// let mode = RecoveryMode::TolerateTailCorruption;
+    /// assert_eq!(Options::new().recovery_mode(mode).recovery_mode, mode);
+    /// ```
+    pub fn recovery_mode(self, recovery_mode: RecoveryMode) -> Options {
+        Options {
+            recovery_mode,
+            ..self
+        }
     }
 
     /// Sets on how many threads the files are read when they are opened.

@@ -4,8 +4,9 @@ use super::turns::Having;
 use super::{Engine, Event, locks};
 use crate::sys::{EngineHandle, Order};
 use crate::{Error, ErrorKind, FileId, Files, Queue, Result};
-use std::thread;
+use std::collections::VecDeque;
 use std::time::Instant;
+use std::{mem, thread};
 
 /// The turn of a thread, which has it to itself: it makes calls that order something, and carries the orders out. An engine
 /// on which it panics has failed.
@@ -26,17 +27,20 @@ impl<F: Files> Drop for Turn<'_, F> {
 }
 
 impl<F: Files> Engine<F> {
-    /// Waits for a turn.
+    /// Waits for a turn, in which orders that found no room are carried out first.
     ///
     /// # Errors
     ///
-    /// `Failed` where the engine has failed.
+    /// `Failed` where the engine has failed; `Io` where such an order finds no room again, or can't be carried out otherwise: the
+    /// engine has failed then.
     pub(super) fn turn(&self) -> Result<Turn<'_, F>> {
         let turn = Turn {
             engine: self,
             _turn: self.turns.take(),
         };
         self.intact()?;
+        let undone = mem::take(&mut *locks::lock(&self.undone));
+        turn.carry_out(undone)?;
         Ok(turn)
     }
 }
@@ -46,7 +50,8 @@ impl<F: Files> Turn<'_, F> {
     ///
     /// # Errors
     ///
-    /// Those of the call; `Io` where an order can't be carried out, or `Memory`: the engine has failed then.
+    /// Those of the call; `Io` where an order can't be carried out, or `Memory`: the engine has failed then, unless the order left
+    /// all as it was.
     pub(super) fn call<T>(&self, call: impl FnOnce(&mut EngineHandle) -> Result<T>) -> Result<T> {
         let mut tables = self.engine.tables();
         let result = call(&mut tables);
@@ -57,7 +62,7 @@ impl<F: Files> Turn<'_, F> {
         let orders = tables.take_orders().map_err(|e| self.engine.fail(e))?;
         self.note(&orders); // before a reader can find what isn't written yet
         drop(tables);
-        self.carry_out(orders)?;
+        self.carry_out(orders.into())?;
         result
     }
 
@@ -68,7 +73,7 @@ impl<F: Files> Turn<'_, F> {
     /// Those of [`Turn::carry_out`].
     pub(super) fn open(&self, orders: Vec<Order>) -> Result<()> {
         self.note(&orders);
-        self.carry_out(orders)
+        self.carry_out(orders.into())
     }
 
     /// Notes the bytes of orders, which are read from memory until they are written.
@@ -81,11 +86,18 @@ impl<F: Files> Turn<'_, F> {
     ///
     /// # Errors
     ///
-    /// `Io` where one can't be carried out: the engine has failed then, and keeps the bytes of that one and of those after it.
-    fn carry_out(&self, orders: Vec<Order>) -> Result<()> {
-        for order in orders {
-            self.carry_out_one(&order)
-                .map_err(|e| self.engine.fail_files(e))?;
+    /// `Io` where one can't be carried out: the engine keeps the bytes of that one and of those after it. Where the files are as they
+    /// were before, the next turn begins with these, and else the engine has failed.
+    fn carry_out(&self, mut orders: VecDeque<Order>) -> Result<()> {
+        while let Some(order) = orders.front() {
+            if let Err(e) = self.carry_out_one(order) {
+                if !self.engine.files.is_as_before() {
+                    return Err(self.engine.fail_files(e));
+                }
+                *locks::lock(&self.engine.undone) = orders;
+                return Err(e);
+            }
+            orders.pop_front();
         }
         Ok(())
     }

@@ -15,7 +15,8 @@ impl<F: Files> Engine<F> {
     /// between while it moves records of the append queue, a mebibyte or a region at a time; those of the rewrite queue move at
     /// once. Where there is nothing to do it asks nothing of the files. Files that are needed no more go
     /// first, before records move; but what the batches in them took away is written to the rewrite queue before they go, so on a
-    /// full disk even that may be refused.
+    /// full disk even that may be refused. The next change then does what was left undone; or an engine that is opened anew writes
+    /// it only where the rewrite queue has something of it, so its purge may make room.
     ///
     /// ```
     /// # use raft_recover::{Engine, LogBatch, MemoryFiles, Options};

@@ -2,7 +2,7 @@
 
 use super::{Engine, Entries, Pairs, pairs};
 use crate::sys::EngineHandle;
-use crate::{Entry, Files, Result, Summary};
+use crate::{Entry, Error, ErrorKind, Files, Result, Summary};
 use std::ops::{Bound, Range, RangeBounds};
 
 /// How often entries are found and read before a reader waits for a turn.
@@ -24,9 +24,12 @@ impl<F: Files> Engine<F> {
     ///
     /// # Errors
     ///
-    /// `Corruption` where its bytes were damaged since they were written; `Io`, `Memory`, `Failed`.
+    /// `Corruption` where its bytes were damaged since they were written, with the file and the offset of its block; `Io`, `Memory`,
+    /// `Failed`.
     pub fn entry(&self, region: u64, index: u64) -> Result<Option<Vec<u8>>> {
-        let mut entries = self.read(|tables| Ok(Vec::from_iter(tables.entry(region, index))))?;
+        let mut entries = self.read(region, |tables| {
+            Ok(Vec::from_iter(tables.entry(region, index)))
+        })?;
         Ok(entries.next())
     }
 
@@ -52,7 +55,9 @@ impl<F: Files> Engine<F> {
         index: u64,
         call: impl FnOnce(&[u8]) -> T,
     ) -> Result<Option<T>> {
-        let entries = self.read(|tables| Ok(Vec::from_iter(tables.entry(region, index))))?;
+        let entries = self.read(region, |tables| {
+            Ok(Vec::from_iter(tables.entry(region, index)))
+        })?;
         Ok(entries.iter().next().map(|(_, bytes)| call(bytes)))
     }
 
@@ -101,11 +106,11 @@ impl<F: Files> Engine<F> {
     ///
     /// # Errors
     ///
-    /// Where the range isn't empty: `EntryCompacted` where it begins below the region's first entry, `EntryNotFound` where it
-    /// ends behind the last one, or there is none. `Corruption` where bytes were damaged since they were written; `Io`, `Memory`,
+    /// Where the range isn't empty: `EntryCompacted` where it begins below the region's first entry, with the index where it
+    /// begins, `EntryNotFound` where it ends behind the last one, or there is none, with the last index of the range. `Corruption` where bytes were damaged since they were written; `Io`, `Memory`,
     /// `Failed`.
     pub fn entries(&self, region: u64, range: impl RangeBounds<u64>) -> Result<Entries> {
-        self.read(|tables| places(tables, region, &range, None))
+        self.read(region, |tables| places(tables, region, &range, None))
     }
 
     /// Returns the entries of a range of indexes up to `max_size` bytes in all, and one at least.
@@ -130,7 +135,9 @@ impl<F: Files> Engine<F> {
         range: impl RangeBounds<u64>,
         max_size: u64,
     ) -> Result<Entries> {
-        self.read(|tables| places(tables, region, &range, Some(max_size)))
+        self.read(region, |tables| {
+            places(tables, region, &range, Some(max_size))
+        })
     }
 
     /// Returns the value of a region's key, if there is one.
@@ -256,23 +263,27 @@ impl<F: Files> Engine<F> {
         self.look_up(EngineHandle::regions)
     }
 
-    /// Reads the entries that a call finds. Their bytes may move before they are read: then they are found again, at last in a
+    /// Reads the entries of a region that a call finds. Their bytes may move before they are read: then they are found again, at last in a
     /// turn, in which none moves.
-    fn read(&self, find: impl Fn(&mut EngineHandle) -> Result<Vec<Entry>>) -> Result<Entries> {
+    fn read(
+        &self,
+        region: u64,
+        find: impl Fn(&mut EngineHandle) -> Result<Vec<Entry>>,
+    ) -> Result<Entries> {
         let mut before = None;
         for _ in 0..LOOK_UPS {
             let found = self.look_up(&find)?;
             if before.as_ref() == Some(&found) {
                 break; // they haven't moved
             }
-            if let Ok(entries) = Entries::read(self, &found) {
+            if let Ok(entries) = Entries::read(self, region, &found) {
                 return Ok(entries);
             }
             before = Some(found);
         }
         let _turn = self.turns.take();
         let found = self.look_up(&find)?;
-        Entries::read(self, &found)
+        Entries::read(self, region, &found)
     }
 
     /// Makes a call that reads the tables.
@@ -290,9 +301,23 @@ pub(super) fn places(
     max_size: Option<u64>,
 ) -> Result<Vec<Entry>> {
     match closed(tables, region, range) {
-        Some(range) => tables.entries(region, range, max_size),
+        Some(range) => tables
+            .entries(region, range.clone(), max_size)
+            .map_err(|e| missing(e, region, &range)),
         None => Ok(Vec::new()),
     }
+}
+
+/// Says of the refusal of a range which of its entries isn't there: the first one, or the last.
+fn missing(refused: Error, region: u64, range: &Range<u64>) -> Error {
+    let index = match refused.kind {
+        ErrorKind::EntryCompacted => range.start,
+        ErrorKind::EntryNotFound => range.end - 1,
+        _ => return refused,
+    };
+    let mut refused = refused.about(region, Some(index));
+    refused.text += &format!(": region {region}, index {index}");
+    refused
 }
 
 /// Closes those bounds of a range of indexes that are open, and returns the range, unless it is empty.

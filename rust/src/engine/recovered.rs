@@ -1,11 +1,10 @@
 //! What was cut off the files of an engine when it was opened.
 
-use super::numbers::Numbers;
-use crate::sys::Order;
-use crate::{Error, FileId, Queue};
+use crate::{Error, FileId};
 use std::fmt;
 
-/// What was cut off the files of an engine when it was opened: the torn tail of each queue's last file, where it had one.
+/// What was cut off the files of an engine when it was opened: the tail of each queue's last file, where it couldn't be read to its
+/// end.
 ///
 /// ```
 /// use raft_recover::{Engine, ErrorKind, Files, LogBatch, MemoryFiles, Options, Queue};
@@ -59,7 +58,7 @@ pub struct CutTail {
     pub offset: u64,
     /// How many bytes were cut off.
     pub len: u64,
-    /// Why the batch there can't be read, as far as that was found out.
+    /// Why the batch there can't be read.
     pub reason: Option<Error>,
 }
 
@@ -76,35 +75,6 @@ impl Recovered {
     /// ```
     pub fn cuts(&self) -> impl Iterator<Item = &CutTail> {
         self.append.iter().chain(&self.rewrite)
-    }
-
-    /// Tells of the orders of an opening what they cut off the files, which have these lengths. The reasons are those why the
-    /// last files can't be read to their ends.
-    pub(super) fn of(
-        orders: &[Order],
-        numbers: &Numbers,
-        reasons: impl Fn(Queue) -> Option<Error>,
-    ) -> Recovered {
-        let mut recovered = Recovered::default();
-        for order in orders {
-            if let Order::Cut(queue, offset) = *order {
-                let cut = numbers.last(queue).and_then(|(file, old)| {
-                    let len = old.checked_sub(offset).filter(|len| *len > 0)?;
-                    let reason = reasons(queue);
-                    Some(CutTail {
-                        file,
-                        offset,
-                        len,
-                        reason,
-                    })
-                });
-                match queue {
-                    Queue::Append => recovered.append = cut,
-                    Queue::Rewrite => recovered.rewrite = cut,
-                }
-            }
-        }
-        recovered
     }
 }
 

@@ -28,7 +28,9 @@ impl<F: Files> Engine<F> {
     ///
     /// `InvalidArgument` where the batch is no longer open; `Corruption` where its entries leave a hole behind those of their
     /// region, or don't fit otherwise; `Full` where it has 2^56 bytes or more, or its file more than 2^63; `Memory`. Engine and batch
-    /// are then as they were. `Io`, `Failed`: the engine has failed, and the batch may be in the files or not.
+    /// are then as they were. `Io`, `Failed`: the engine has failed, and the batch may be in the files or not. But where there was no
+    /// room in a folder for the batch, it is kept and written by the next change, such as this same call; where there was none
+    /// for an earlier one yet, the batch is as it was.
     pub fn write(&self, batch: &mut LogBatch, sync: bool) -> Result<()> {
         self.changeable("write")?;
         self.write_in_turn(batch, sync)
@@ -60,7 +62,8 @@ impl<F: Files> Engine<F> {
         self.tell_after(|| self.commits.write(batch, sync, |group| self.lead(group)))
     }
 
-    /// Writes the batches of all threads that wait, syncs once for those who want that, and begins a file where it is due.
+    /// Writes the batches of all threads that wait, syncs once for those who want that, if its own is among them, and begins a file
+    /// where it is due.
     fn lead(&self, group: &mut Group<'_>) {
         let turn = self.turn();
         group.take();
@@ -77,12 +80,12 @@ impl<F: Files> Engine<F> {
             }
             Ok(())
         });
+        locks::lock(&self.numbers).batches += group.written();
         if written.is_err() {
             return group.end(&written);
         }
-        locks::lock(&self.numbers).batches += group.written();
         group.release_unsynced();
-        if !group.commits().is_empty() {
+        if group.is_sync_due() {
             let synced = turn.call(EngineHandle::sync);
             group.end(&synced);
         }

@@ -63,7 +63,8 @@ impl LogBatch {
             let encoded = self.room.push_by(|bytes| message.encode(bytes));
             encoded.map_err(|e| {
                 let index = first.saturating_add(at as u64);
-                Error::message(format_args!("region {region}, entry {index}"), e)
+                let place = format_args!("region {region}, entry {index}");
+                Error::message(place, e).about(region, Some(index))
             })?;
         }
         self.add_packed(region, first)
@@ -196,7 +197,7 @@ impl LogBatch {
         let mut value = Vec::new();
         message.encode(&mut value).map_err(|e| {
             let key = key.escape_ascii();
-            Error::message(format_args!("region {region}, key {key}"), e)
+            Error::message(format_args!("region {region}, key {key}"), e).about(region, None)
         })?;
         self.put(region, key, &value)
     }

@@ -65,36 +65,36 @@ impl Shapes {
         self.0.clear();
     }
 
-    /// Finds the first item whose entries leave a hole behind those of their region, or begin in front of them. A call finds
-    /// what a region had before all items, if it is tested.
+    /// Finds the first item whose entries leave a hole behind those of their region, or begin in front of them, with the region and
+    /// the first index. A call finds what a region had before all items, if it is tested.
     pub(super) fn misfit(
         &self,
         is_tested: impl Fn(u64) -> bool,
         mut summary: impl FnMut(u64) -> Option<Summary>,
-    ) -> Option<usize> {
+    ) -> Option<(usize, u64, u64)> {
         let mut extents = BTreeMap::new();
-        self.0.iter().position(|(region, shape)| {
-            if !is_tested(*region) {
-                return false;
-            }
+        let tested = self.0.iter().enumerate();
+        let mut tested = tested.filter(|(_, (region, _))| is_tested(*region));
+        tested.find_map(|(item, (region, shape))| {
             let now = extents
                 .entry(*region)
                 .or_insert_with(|| extent_of(summary(*region)));
-            let fits = shape.fits(now);
+            let misfit = shape.misfit(now);
             *now = shape.applied_to(now);
-            !fits
+            misfit.map(|index| (item, *region, index))
         })
     }
 }
 
 impl Shape {
-    /// Tests whether the item's entries, if it has some, go on with those of its region.
-    fn fits(self, extent: &Extent) -> bool {
+    /// Returns the first index of the item's entries, if it has some and they don't go on with those of its region.
+    fn misfit(self, extent: &Extent) -> Option<u64> {
         match (self, extent) {
             (Shape::Run { first, .. }, Some(extent)) => {
-                (extent.start..=extent.end).contains(&first)
+                let fits = (extent.start..=extent.end).contains(&first);
+                (!fits).then_some(first)
             }
-            _ => true,
+            _ => None,
         }
     }
 

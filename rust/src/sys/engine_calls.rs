@@ -21,6 +21,17 @@ pub(super) struct PlaceNumbers {
     pub(super) is_rewrite: bool,
 }
 
+#[repr(C)]
+#[derive(Clone, Copy, Default)]
+pub(super) struct TailNumbers {
+    pub(super) seq: u64,
+    pub(super) offset: u64,
+    pub(super) len: u64,
+    pub(super) text_len: usize,
+    pub(super) code: u32,
+    pub(super) is_some: bool,
+}
+
 unsafe extern "C" {
     pub(super) fn raft_ffi_found_new(found: *mut Handle) -> u32;
     pub(super) fn raft_ffi_found_add(
@@ -38,6 +49,13 @@ unsafe extern "C" {
         rewritten: Handle,
         appended: Handle,
         is_signed: bool,
+        mode: u32,
+        append_tail: *mut TailNumbers,
+        append_reason: *mut u8,
+        append_reason_len: usize,
+        rewrite_tail: *mut TailNumbers,
+        rewrite_reason: *mut u8,
+        rewrite_reason_len: usize,
         text: *mut u8,
         text_len: usize,
     ) -> Status;

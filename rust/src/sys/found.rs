@@ -1,10 +1,10 @@
 //! The handle of files that were found.
 
 use super::engine_calls::{
-    raft_ffi_engine_open, raft_ffi_found_add, raft_ffi_found_drop, raft_ffi_found_new,
+    TailNumbers, raft_ffi_engine_open, raft_ffi_found_add, raft_ffi_found_drop, raft_ffi_found_new,
 };
-use super::{ContextHandle, EngineHandle, Handle, checked, remembered};
-use crate::{FileId, Queue, Result, Version};
+use super::{ContextHandle, EngineHandle, Handle, TEXT_LEN, checked, refused, remembered};
+use crate::{CutTail, FileId, Queue, Recovered, RecoveryMode, Result, Version};
 use std::mem;
 
 /// Holds the bytes of files that were found.
@@ -38,14 +38,17 @@ impl FoundHandle {
         })
     }
 
-    /// Opens an engine over the files, of which the contexts have read all batches, but for the torn tails of the last ones.
+    /// Opens an engine over the files, of which the contexts have read all batches, up to where the last ones can't be read, and
+    /// tells what was cut off.
     pub(crate) fn open(
         self,
         rewritten: ContextHandle,
         appended: ContextHandle,
         version: Version,
-    ) -> Result<EngineHandle> {
+        mode: RecoveryMode,
+    ) -> Result<(EngineHandle, Recovered)> {
         let mut handle = Handle::EMPTY;
+        let (mut append, mut rewrite) = (Tail::default(), Tail::default());
         let found = self.into_raw();
         let (rewritten, appended) = (rewritten.into_raw(), appended.into_raw());
         let is_signed = version == Version::V2;
@@ -57,11 +60,22 @@ impl FoundHandle {
                 rewritten,
                 appended,
                 is_signed,
+                number_of(mode),
+                &mut append.numbers,
+                append.reason.as_mut_ptr(),
+                append.reason.len(),
+                &mut rewrite.numbers,
+                rewrite.reason.as_mut_ptr(),
+                rewrite.reason.len(),
                 text,
                 text_len,
             )
         })?;
-        Ok(EngineHandle::of(handle))
+        let recovered = Recovered {
+            append: append.into_cut(Queue::Append),
+            rewrite: rewrite.into_cut(Queue::Rewrite),
+        };
+        Ok((EngineHandle::of(handle), recovered))
     }
 
     /// Gives the library's handle away.
@@ -69,6 +83,45 @@ impl FoundHandle {
         let handle = self.0;
         mem::forget(self);
         handle
+    }
+}
+
+/// Room for what is told of a tail that was cut off.
+struct Tail {
+    numbers: TailNumbers,
+    reason: [u8; TEXT_LEN],
+}
+
+impl Default for Tail {
+    fn default() -> Tail {
+        Tail {
+            numbers: TailNumbers::default(),
+            reason: [0; TEXT_LEN],
+        }
+    }
+}
+
+impl Tail {
+    /// Returns what is told, if a tail was cut off.
+    fn into_cut(self, queue: Queue) -> Option<CutTail> {
+        let numbers = self.numbers.is_some.then_some(self.numbers)?;
+        let file = FileId::new(queue, numbers.seq);
+        let reason = refused(numbers.code, numbers.text_len, &self.reason);
+        Some(CutTail {
+            file,
+            offset: numbers.offset,
+            len: numbers.len,
+            reason: Some(reason.at(file, numbers.offset)),
+        })
+    }
+}
+
+/// Returns the library's number of a mode.
+fn number_of(mode: RecoveryMode) -> u32 {
+    match mode {
+        RecoveryMode::AbsoluteConsistency => 0,
+        RecoveryMode::TolerateTornTail => 1,
+        RecoveryMode::TolerateTailCorruption => 2,
     }
 }
 

@@ -7,24 +7,42 @@ use std::io::{self, Write};
 ///
 /// # Errors
 ///
-/// Those of the system. Some of the bytes may be there.
-pub(super) fn write_all_or_nothing(mut file: &File, bytes: &[u8]) -> io::Result<()> {
+/// Those of the system. Where it isn't said that all is as before some of the bytes may be there.
+pub(super) fn write_all_or_nothing(
+    mut file: &File,
+    bytes: &[u8],
+) -> std::result::Result<(), Unmade> {
     let mut rest = bytes;
     while !rest.is_empty() {
         match file.write(rest) {
-            Ok(0) => return Err(io::ErrorKind::WriteZero.into()),
+            Ok(0) => return Err(io::Error::from(io::ErrorKind::WriteZero).into()),
             Ok(written) => rest = &rest[written..],
             Err(e) if e.kind() == io::ErrorKind::Interrupted => {}
             Err(e) => {
-                let written = bytes.len() - rest.len();
-                if written > 0 && lacks_room(&e) {
-                    let _ = take_back(file, written as u64); // else it is cut as a torn tail
+                let written = (bytes.len() - rest.len()) as u64;
+                if lacks_room(&e) && (written == 0 || take_back(file, written).is_ok()) {
+                    return Err(Unmade::AsBefore(e));
                 }
-                return Err(e);
+                return Err(e.into()); // what is there is cut as a torn tail
             }
         }
     }
     Ok(())
+}
+
+/// Why a change of the files wasn't made.
+#[derive(Debug)]
+pub(super) enum Unmade {
+    /// All is as it was before.
+    AsBefore(io::Error),
+    /// It may have been made in part.
+    InPart(io::Error),
+}
+
+impl From<io::Error> for Unmade {
+    fn from(e: io::Error) -> Unmade {
+        Unmade::InPart(e)
+    }
 }
 
 /// Takes the last bytes of a file away, so many.
@@ -33,7 +51,7 @@ fn take_back(file: &File, count: u64) -> io::Result<()> {
 }
 
 /// Tests whether the system refused a write for want of room.
-fn lacks_room(refused: &io::Error) -> bool {
+pub(super) fn lacks_room(refused: &io::Error) -> bool {
     matches!(
         refused.kind(),
         io::ErrorKind::StorageFull | io::ErrorKind::QuotaExceeded | io::ErrorKind::FileTooLarge

@@ -2,47 +2,33 @@
 
 use crate::recovery;
 use crate::{
-    Context, Error, ErrorKind, FileId, FilePart, LogFile, Queue, Result, Version, batch_len,
+    Context, ErrorKind, FileId, FilePart, LogFile, Queue, Result, Version, batch_len,
     readable_front,
 };
 
 /// In how many parts a thread reads its share of the files, at least.
 const PARTS_OF_A_THREAD: usize = 4;
 
-/// What was read of the files of a queue.
-#[derive(Debug)]
-pub(super) struct ReadQueue {
-    pub(super) context: Context,
-    /// Why the last file can't be read to its end, if it can't be.
-    pub(super) refused: Option<Error>,
-}
-
-impl ReadQueue {
-    /// Reads the files of a queue, but for the torn tail of the last one. Mostly there is none, so that is looked for where the
-    /// files can't be read whole.
-    pub(super) fn of(
-        held: &[(FileId, Vec<u8>)],
-        queue: Queue,
-        version: Version,
-        threads: usize,
-    ) -> Result<ReadQueue> {
-        let mut whole: Vec<_> = held
-            .iter()
-            .map(|(id, bytes)| FilePart::new(LogFile::new(id.queue, id.seq, version), bytes))
-            .collect();
-        let mut refused = None;
-        let context = match recovered(&whole, queue, threads) {
-            Err(e) if e.kind != ErrorKind::Memory => {
-                if let Some(last) = whole.last_mut() {
-                    let front;
-                    (front, refused) = front_of(*last)?;
-                    last.bytes = &last.bytes[..front];
-                }
-                recovered(&whole, queue, threads)?
+/// Reads the files of a queue, up to where the last one can't be read. Mostly it can be read to its end, so that place is looked
+/// for where the files can't be read whole.
+pub(super) fn read_queue(
+    held: &[(FileId, Vec<u8>)],
+    queue: Queue,
+    version: Version,
+    threads: usize,
+) -> Result<Context> {
+    let mut whole: Vec<_> = held
+        .iter()
+        .map(|(id, bytes)| FilePart::new(LogFile::new(id.queue, id.seq, version), bytes))
+        .collect();
+    match recovered(&whole, queue, threads) {
+        Err(e) if e.kind != ErrorKind::Memory => {
+            if let Some(last) = whole.last_mut() {
+                last.bytes = &last.bytes[..front_of(*last)?];
             }
-            recovered => recovered?,
-        };
-        Ok(ReadQueue { context, refused })
+            recovered(&whole, queue, threads)
+        }
+        recovered => recovered,
     }
 }
 
@@ -57,15 +43,15 @@ fn recovered(files: &[FilePart<'_>], queue: Queue, threads: usize) -> Result<Con
     recovery::read(&parts, queue, threads)
 }
 
-/// Returns where the batches of a part end that can be read, and why the one there can't be.
+/// Returns where the batches of a part end that can be read.
 ///
 /// # Errors
 ///
 /// `Memory`.
-fn front_of(part: FilePart<'_>) -> Result<(usize, Option<Error>)> {
+fn front_of(part: FilePart<'_>) -> Result<usize> {
     match readable_front(part)? {
         (_, Some(refused)) if refused.kind == ErrorKind::Memory => Err(refused),
-        front => Ok(front),
+        (front, _) => Ok(front),
     }
 }
 

@@ -1,5 +1,5 @@
 use Rattle.raft_ffi.proofs.Common.{FilesSeen, KeptEngine, IsOpened, version_of}
-use Rattle.raft_ffi.proofs.CodeLemmas.{failed, held_both, passed, refusal}
+use Rattle.raft_ffi.proofs.CodeLemmas.{failed, held_both, passed, refusal, told_both}
 use Rattle.raft_ffi.proofs.engine_calls.raft_ffi_engine_open.Goals as goal
 
 pub open_into-answer-requires-clause-read : goal.open_into-answer-requires-clause-read
@@ -15,7 +15,7 @@ returns-clause-ok c = λ zero.
 
 pub returns-clause-accepted : goal.returns-clause-accepted
 returns-clause-accepted c = λ zero.
-    let accepted = rw (c.version.ensures) at c.open_into-answer.ensures.accepted in
+    let accepted = rw (c.version.ensures, c.recovery_mode.ensures) at c.open_into-answer.ensures.accepted in
     rw (c.into_held-files.ensures) (passed c.open_into-answer.result c.answered.result.code _ accepted c.answered.ensures.err zero)
 
 pub returns-clause-err : goal.returns-clause-err
@@ -23,6 +23,11 @@ returns-clause-err c = λ some. failed c.open_into-answer.result c.answered.resu
 
 pub returns-clause-fault : goal.returns-clause-fault
 returns-clause-fault c = λ some.
-    let fault = rw (c.version.ensures) at c.open_into-answer.ensures.fault in
+    let fault = rw (c.version.ensures, c.recovery_mode.ensures) at c.open_into-answer.ensures.fault in
     rw (c.into_held-files.ensures)
     (refusal c.open_into-answer.result c.answered.result.code _ c.answered.ensures.ok c.answered.ensures.err fault some)
+
+pub returns-clause-told : goal.returns-clause-told
+returns-clause-told c = λ zero.
+    let recovered = rw (c.version.ensures) at c.open_into-answer.ensures.recovered in
+    rw (c.into_held-files.ensures) (told_both c.open_into-answer.result c.answered.result.code _ _ recovered c.tell.ensures c.answered.ensures.err zero)

@@ -1,0 +1,132 @@
+//! A disk that writes unsynced pages in any order: a page of zeros may stand in front of others behind what was synced. An entry
+//! that was synced is read then, or the files are refused, with the place, whichever way it was moving when the machine stopped.
+
+mod common;
+
+use common::engines::{engine, write};
+use raft_recover::{Ask, Engine, MemoryFiles, Options, Queue, Unsynced};
+
+/// The entry of a region: so many bytes, none of which is 0.
+fn entry(region: u64, len: usize) -> Vec<u8> {
+    vec![region as u8; len]
+}
+
+/// An engine of which region 1 and the next ones have so many entries, of so many bytes each, in the rewrite queue alone. All of
+/// it was synced, and the append files that had them are gone.
+fn moved(regions: u64, entries: usize, len: usize) -> Engine<MemoryFiles> {
+    let options = Options::new().purge_above(1).purge_garbage(0);
+    let engine = Engine::with_files(MemoryFiles::new(), options).unwrap();
+    for region in 1..=regions {
+        write(&engine, |batch| {
+            batch.add_entries(region, 1, &vec![entry(region, len); entries])
+        });
+    }
+    engine.sync().unwrap();
+    engine.rotate().unwrap();
+    engine.rewrite(1).unwrap();
+    assert_eq!(engine.purge().unwrap().append_files, 1);
+    engine
+}
+
+/// Has records move once more, by a purge, and returns the files that are left where the machine stops in it, once all records
+/// were written that move, and before they are synced: of the last rewrite file the pages of one block were not written, those of
+/// the first block of a batch or of the last one. Zeros stand there. All else stands.
+fn left_in_purge(engine: &Engine<MemoryFiles>, is_first: bool) -> MemoryFiles {
+    let files = engine.files();
+    engine.purge().unwrap();
+    let asks = files.asks();
+    let is_moving = |ask: &Ask| matches!(ask, Ask::Write(file, _) if file.queue == Queue::Rewrite);
+    let asked = asks.iter().rposition(is_moving).unwrap() + 1;
+    let synced = asks[asked..]
+        .iter()
+        .position(|ask| *ask == Ask::Sync(Queue::Rewrite));
+    let deleted = asks[asked..]
+        .iter()
+        .position(|ask| matches!(ask, Ask::Delete(_)));
+    assert!(synced.unwrap() < deleted.unwrap());
+    let most = files.unsynced(asked, Queue::Rewrite);
+    let left = files.left(asked, Unsynced::default(), most);
+    let mut rewrite = left.files(Queue::Rewrite);
+    let (_, last) = rewrite.last_mut().unwrap();
+    assert_eq!(
+        most.steps,
+        last.len() + 1,
+        "the file was begun since the last sync"
+    );
+    let blocks = blocks_of(last);
+    let lost = if is_first {
+        blocks[0].clone()
+    } else {
+        blocks[blocks.len() - 1].clone()
+    };
+    last[lost].fill(0);
+    MemoryFiles::found(left.files(Queue::Append), rewrite)
+}
+
+/// Where the entries stand in the batches of a file: behind the 16 bytes of a header, the first seven of which are the length of
+/// the batch, and the last eight the offset of its items, in front of which the checksum of the entries stands.
+fn blocks_of(bytes: &[u8]) -> Vec<std::ops::Range<usize>> {
+    let (mut blocks, mut at) = (Vec::new(), 0);
+    while at < bytes.len() {
+        let number = |from: usize| u64::from_be_bytes(bytes[from..from + 8].try_into().unwrap());
+        let items = number(at + 8) as usize;
+        if items > 16 {
+            blocks.push(at + 16..at + items - 4);
+        }
+        at += (number(at) >> 8) as usize;
+    }
+    blocks
+}
+
+/// Tests that an engine which is opened over what is left, if it isn't refused at a place that is named, has all entries, and
+/// that it has them after the next purge.
+fn assert_kept(left: MemoryFiles, regions: u64, entries: u64, len: usize) {
+    let opened = match Engine::with_files(left, Options::new()) {
+        Ok(opened) => opened,
+        Err(e) => return assert!(e.file.is_some() && e.offset.is_some(), "{e}"),
+    };
+    for is_purged in [false, true] {
+        if is_purged {
+            opened.purge().unwrap();
+        }
+        for region in 1..=regions {
+            for index in 1..=entries {
+                let read = opened.entry(region, index);
+                let read = read.map_err(|e| panic!("region {region}, entry {index}: {e}"));
+                assert_eq!(read.unwrap().unwrap(), entry(region, len));
+            }
+        }
+    }
+}
+
+#[test]
+fn an_entry_stays_that_was_moving_again_when_the_machine_stopped() {
+    assert_kept(left_in_purge(&moved(1, 1, 100), true), 1, 1, 100);
+}
+
+#[test]
+fn so_it_does_where_another_region_moved_behind_it() {
+    assert_kept(left_in_purge(&moved(2, 1, 100), true), 2, 1, 100);
+    assert_kept(left_in_purge(&moved(2, 1, 100), false), 2, 1, 100);
+}
+
+#[test]
+fn so_it_does_where_a_region_moved_in_a_group() {
+    const LEN: usize = 100 << 10;
+    assert_kept(left_in_purge(&moved(1, 3, LEN), true), 1, 3, LEN);
+    assert_kept(left_in_purge(&moved(1, 3, LEN), false), 1, 3, LEN);
+}
+
+#[test]
+fn an_entry_of_the_append_queue_stays_where_its_moved_copy_is_lost() {
+    let engine = engine();
+    write(&engine, |batch| batch.add_entries(1, 1, &[entry(1, 100)]));
+    engine.rotate().unwrap();
+    engine.rewrite(1).unwrap();
+    let files = engine.files();
+    let mut rewrite = files.files(Queue::Rewrite);
+    let block = blocks_of(&rewrite[0].1).remove(0);
+    rewrite[0].1[block].fill(0);
+    let left = MemoryFiles::found(files.files(Queue::Append), rewrite);
+    assert_kept(left, 1, 1, 100);
+}

@@ -1,3 +1,4 @@
+pub mod FileLemmas
 pub mod GroupLemmas
 pub mod KeyedLemmas
 pub mod LiveLemmas

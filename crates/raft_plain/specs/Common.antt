@@ -29,6 +29,9 @@ pub use Rattle.raft_accessor.specs.Accessor.{live_in_all}
 pub use Rattle.raft_replay.specs.Replays.{HasReplayed, CannotFollow}
 pub use Rattle.raft_replay.specs.Segments.{HoldsFrom, EachHolds}
 pub use Rattle.raft_replay.specs.Stops.{IsPlaced, IsNothing, StopsIn, StopsAmong}
+pub use Rattle.raft_recover.specs.AskedRequests.{file_shown}
+pub use Rattle.raft_recover.specs.Files.{FilesCannotBeRead, IsPrintFailure, PrintsRecovered}
+pub use Rattle.raft_reading.specs.QueueRead.{whole_file}
 pub use Rattle.raft_recover.specs.Recovery.{AreBothRecovered, IsRecovered}
 pub use Rattle.raft_recover.specs.TableLines.{IsTextOfTables, PrintsTables, PrintsFrontOfTables, cleaned_line, live_line, range_text, seq_text, table_line}
 pub use Rattle.raft_plain.specs.Overlaid.{AreOverlaid, all_tables, recovered_shown}

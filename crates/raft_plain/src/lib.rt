@@ -3,6 +3,7 @@
 #![tactic(auto)]
 
 pub mod batches;
+pub mod files;
 pub mod groups;
 pub mod live;
 pub mod overlay;
@@ -12,6 +13,7 @@ pub mod recovery;
 pub mod region;
 pub mod text;
 
+pub use files::{file_parts, print_files_plainly};
 pub use parts::read_parts;
 pub use reading::Reading;
 pub use recovery::{Recovered, recover_both_plainly, recover_plainly};

@@ -66,7 +66,7 @@ fn placed(alloc: Global, error: Error, id: FileId, offset: u64) -> Error
     ensures memory { result ≢ Error.Memory → error ≢ Error.Memory }
 {
     match error {
-        Error::Memory => Error::Memory,
-        _ => corruption_at(alloc, id, offset, "no batch can be read here"),
+        Error::Corruption(reason) => corruption_at(alloc, id, offset, reason.as_str()),
+        kept => kept,
     }
 }

@@ -15,11 +15,19 @@ use std::alloc::Global;
 use std::io::Write;
 
 /// Prints a line for each region, by rising region, then the cleaned regions and the live counts.
+///
+/// # Errors
+///
+/// `Memory`, with nothing written, and `Io` where the writer fails: a prefix of the lines may stand then, and not all of
+/// them.
 pub fn print_plainly<W: Write>(alloc: Global, recovered: &Recovered, writer: &mut W) -> Result<()>
     ensures ok { OnOk result (PrintsTables (recovered_shown recovered.now) (W.contents writer.old)
         (W.contents writer.new)) }
     ensures silent { IfErr result
         (λ e. (IsIoError e → ⊥) → Keeps (W.contents writer.old) (W.contents writer.new)) }
+    ensures cut_short { IfErr result (λ e. IsIoError e → PrintsFrontOfTables
+        (recovered_shown recovered.now) (W.contents writer.old) (W.contents writer.new)) }
+    ensures fault { IfErr result (λ e. (IsIoError e → ⊥) → e ≡ Error.Memory) }
 {
     let text = recovered_text(alloc, recovered)?;
     write_whole(writer, text.as_bytes())

@@ -1,0 +1,59 @@
+//! Whole files of a queue, and the lines of their tables.
+
+ghost use Rattle.std.specs.Prelude.{◌≡◌, ◌≢◌, ◌⊎◌, map, IfOk, IfErr, OnOk};
+ghost use Rattle.raft_plain.specs.Common.{FilesCannotBeRead, IsPrintFailure, Keeps, PrintsRecovered, file_shown, whole_file};
+
+use crate::{print_plainly, recover_plainly};
+use raft_base::{Error, FileId, FileSeq, LogQueue, Result, Version};
+use raft_records::FilePart;
+use std::alloc::Global;
+use std::io::Write;
+
+/// Makes a part of each file of a queue, which has all its bytes.
+///
+/// # Errors
+///
+/// `Memory`.
+pub fn file_parts(
+    queue: LogQueue,
+    version: Version,
+    files: Vec<(FileSeq, Vec<u8>)>,
+) -> Result<Vec<FilePart>>
+    ensures ok { IfOk result (λ parts. parts.items
+        ≡ map (whole_file queue version) (map file_shown files.items)) }
+    ensures memory { IfErr result (λ e. e ≡ Error.Memory) }
+{
+    let mut parts = Vec::new(*files.allocator());
+    for (seq, bytes) in files {
+        parts.push(FilePart::new(FileId::new(queue, seq), version, 0, bytes)?)?;
+    }
+    Ok(parts)
+}
+
+/// Prints the tables that the files of a queue give: the lines of [`print_plainly`].
+///
+/// # Errors
+///
+/// Those of [`recover_plainly`], with nothing written, and then `Io` where the writer fails: a prefix of the lines may
+/// stand then.
+pub fn print_files_plainly<W: Write>(
+    alloc: Global,
+    queue: LogQueue,
+    version: Version,
+    files: Vec<(FileSeq, Vec<u8>)>,
+    writer: &mut W,
+) -> Result<()>
+    ensures ok { OnOk result (PrintsRecovered queue version (map file_shown files.items)
+        (W.contents writer.old) (W.contents writer.new)) }
+    ensures silent { IfErr result (λ e. Keeps (W.contents writer.old) (W.contents writer.new)
+        ⊎ IsPrintFailure queue version (map file_shown files.items) (W.contents writer.old)
+        (W.contents writer.new) e) }
+    ensures refused { IfErr result (λ e. e ≢ Error.Memory
+        → FilesCannotBeRead queue version (map file_shown files.items)
+        ⊎ IsPrintFailure queue version (map file_shown files.items) (W.contents writer.old)
+        (W.contents writer.new) e) }
+{
+    let parts = file_parts(queue, version, files)?;
+    let recovered = recover_plainly(alloc, queue, parts.as_slice())?;
+    print_plainly(alloc, &recovered, writer)
+}

@@ -1,0 +1,83 @@
+//! `recover --plain`: what `recover` prints, by a slow program that does what the definitions say.
+
+ghost use Rattle.std.specs.Prelude.{◌≡◌, ◌<◌, ◌≤◌, ◌⊎◌, ℕ, List, IfErr, IsTrue, OnOk, length, map, string_bytes};
+ghost use Rattle.std.specs.Io.KnownBytes.{Keeps};
+ghost use Rattle.raft_recover.specs.AskedRequests.{asks_for};
+ghost use Rattle.raft_recover.specs.Programs.{IsRecoveryFrontPrinted, IsRecoveryPrinted};
+ghost use Rattle.raft_recover.specs.Requests.{AsksNothing, AsksRecovery};
+
+use raft_plain::print_files_plainly;
+use raft_recover::request::{RecoverWords, Request, read_files};
+use raft_recover::{Error, MAX_WORKERS, Result, refusal, run_without_words};
+use std::io;
+use std::io::{ErrorKind, Write};
+use std::rt::Files;
+
+/// Tests whether words begin with `recover --plain`.
+pub(crate) fn is_asked(words: &[String]) -> bool
+    ensures { IsTrue result → 1 < length words.now }
+{
+    let [command, option, ..] = words else {
+        return false;
+    };
+    command.as_str() == "recover" && option.as_str() == "--plain"
+}
+
+/// Does slowly what the words of `recover` ask for, here without `--plain`, and returns the status to end with: 0 where it is done,
+/// 1 where it is refused, 2 where they ask for no recovery. A refusal and a hint at the words are a line on `err`.
+pub(crate) fn run<S: Files + AllocGlobal, W: Write, E: Write>(
+    rt: &S,
+    words: &[String],
+    out: &mut W,
+    err: &mut E,
+) -> u8
+    ensures known { result ≤ 2 }
+    ensures done { result ≡ 0
+        → IsRecoveryPrinted (map string_bytes words.now) (W.contents out.old) (W.contents out.new) }
+    ensures silent { result ≡ 1 → Keeps (W.contents out.old) (W.contents out.new)
+        ⊎ IsRecoveryFrontPrinted (map string_bytes words.now) (W.contents out.old) (W.contents out.new) }
+    ensures misused { AsksNothing (map string_bytes words.now) → result ≡ 2 }
+    ensures untouched { result ≡ 2 → Keeps (W.contents out.old) (W.contents out.new) }
+    ensures quiet { result ≡ 0 → Keeps (E.contents err.old) (E.contents err.new) }
+{
+    let asked = match Request::parse(rt.alloc(), words) {
+        Ok(Some(Request::Recover(asked))) => asked,
+        Ok(_) => return run_without_words(&io::Error::from(ErrorKind::InvalidInput), err),
+        Err(memory) => return refused(&memory, err),
+    };
+    match print(rt, &asked, out) {
+        Ok(()) => 0,
+        Err(error) => refused(&error, err),
+    }
+}
+
+/// Prints the tables of the files that words name.
+///
+/// # Errors
+///
+/// Those of `recover`.
+fn print<S: Files + AllocGlobal, W: Write>(
+    rt: &S,
+    asked: &RecoverWords<'_>,
+    out: &mut W,
+) -> Result<()>
+    ensures done { (words : List (List ℕ)) → AsksRecovery words (asks_for asked.now)
+        → OnOk result (IsRecoveryPrinted words (W.contents out.old) (W.contents out.new)) }
+    ensures silent { (words : List (List ℕ)) → AsksRecovery words (asks_for asked.now)
+        → IfErr result (λ _. Keeps (W.contents out.old) (W.contents out.new)
+        ⊎ IsRecoveryFrontPrinted words (W.contents out.old) (W.contents out.new)) }
+{
+    let files = read_files(rt, asked.paths.as_slice())?;
+    if asked.workers == 0 || asked.workers > MAX_WORKERS {
+        return Err(Error::invalid_argument(rt.alloc(), "other than 1 to 256 workers"));
+    }
+    print_files_plainly(rt.alloc(), asked.queue, asked.version, files, out)
+}
+
+/// Says on `err` why a recovery is refused, and returns the status to end with.
+fn refused<E: Write>(error: &Error, err: &mut E) -> u8
+    ensures { result ≡ 1 }
+{
+    let _ = writeln!(err, "raftlog: refused: {}", refusal(error));
+    1
+}

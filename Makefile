@@ -111,13 +111,13 @@ bench:
 	@test -z "$(LOG)" || { crates/raft_bench/out/raft_bench recover $(LOG) && crates/raft_bench/out/raft_bench merge recover $(LOG); }
 
 # Runs `raftlog recover` over a folder of cases, as `make compare CASES=folder WORKERS=1,2,4,8`, and counts those of which it
-# prints something else than they say. `make raftlog` builds it first. With `PROGRAM=crates/raft_cuttings/out/raft_cuttings` each case,
-# of up to 16 batches, is read at every cutting; `make cuttings` builds that.
+# prints something else than they say. `make raftlog` builds it first. With `PLAIN=--plain` the plain program runs them. With
+# `PROGRAM=crates/raft_cuttings/out/raft_cuttings` each case, of up to 16 batches, is read at every cutting; `make cuttings` builds that.
 WORKERS ?= 1
 PROGRAM ?= crates/raftlog/out/raftlog
 compare:
 	@test -n "$(CASES)" || { echo "make compare CASES=folder: the folder with the cases has to be named"; exit 1; }
-	@tools/compare.py $(CASES) $(PROGRAM) $(WORKERS)
+	@tools/compare.py $(CASES) $(PROGRAM) $(WORKERS) $(PLAIN)
 
 # Proves `raft_crashes` and `raft_group_crashes`, and goes through random histories of an engine from a seed on, as
 # `make crashes SEED=7 HISTORIES=100000`, and through a tenth as many of a store with atomic groups.

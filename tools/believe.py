@@ -15,6 +15,7 @@ from pathlib import Path
 TOP = Path(__file__).resolve().parent.parent
 PAGE = TOP / "docs/BELIEVE.md"
 CALL = ("raft_recover", "src/recovery.rt", "recover")
+WIDTH = 150
 
 NAME = r"[A-Za-z_][A-Za-z0-9_']*"
 WORD = re.compile(rf"(?<![A-Za-z0-9_'.])({NAME})((?:\.{NAME})*)")
@@ -287,9 +288,9 @@ def page():
         clauses.replace("\n    ", "\n").strip(),
         "```",
         "",
-        f"It says what it says by **{count} definitions, {total} lines in {len(files)} files**, found by following names from these",
-        "clauses. They are shown below as they stand in `specs/`, each below its comment, each file after those that it uses, with its line numbers.",
-        "No proof can tell whether they say what is meant. That is what a reader has to believe, and then has to believe no code.",
+        f"It says what it says by **{count} definitions, {total} lines in {len(files)} files**, found by following names from these clauses. They are shown below as they",
+        "stand in `specs/`, each file after those that it uses, with line numbers; each definition has its comment above it or, where both are short, behind its",
+        "first line. No proof can tell whether they say what is meant. That is what a reader has to believe, and then has to believe no code.",
         "",
         "In the clauses, `result` and `segments` stand for plain values: what the call returns is seen as an `Accessor` (the map from",
         "region to table, the cleaned regions in order, the counts), a part of a file as a `Part` (its file, version, offset and bytes).",
@@ -311,18 +312,26 @@ def page():
         named.setdefault(crate, []).append(f"[`{name}`]({link(*type_line(crate, place, name))})")
     out += ["", "## Types of the code", "", "Plain enums and structs, whose fields the definitions name.", ""]
     out += [f"- of `{crate}`: " + ", ".join(types) for crate, types in named.items()]
+    out.append("")
     for module in files:
         file = reading.files[module]
-        out += ["", f"## [{file.crate} {file.path.stem}]({link(file.path)})", "```"]
+        out.append(f"## [{file.crate} {file.path.stem}]({link(file.path)})")
         for key in sorted(by_file[module], key=lambda key: reading.met[key].line):
-            found = reading.met[key]
-            for number, text in enumerate(found.lines, found.line):
-                out.append(f"{number:4} {text}")
-        out.append("```")
+            out += shown(reading.met[key])
     return "\n".join(out) + "\n", count, total, len(files)
 
 
-def wrapped(text, width=130):
+def shown(found):
+    """The lines of a definition with their numbers, as code. A comment of one line stands behind the definition's first line, if
+    both are short."""
+    first, lines = found.line, list(found.lines)
+    if len(lines) - len(found.code) == 1 and lines[0].startswith("--") and len(lines[0]) + len(lines[1]) <= WIDTH:
+        lines[:2] = [f"{lines[1]}  {lines[0]}"]
+        first += 1
+    return [f"    {number:4} {text}" for number, text in enumerate(lines, first)]
+
+
+def wrapped(text, width=WIDTH):
     lines, line = [], ""
     for word in text.split(" "):
         if line and len(line) + 1 + len(word) > width:

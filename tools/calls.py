@@ -7,7 +7,7 @@ its first sentence, types with their public fields and their variants.
 
 What a name stands for is listed once, under the first of these crates that has it, with its module where it isn't at the crate's
 root. A name that stands for two things is listed twice, as `Error` and `codec::Error` are. Of laws, which compute nothing, the names
-alone are listed: docs/DEFINITIONS.md says what they state. What is under `#[doc(hidden)]`, where it is defined or where its own crate
+alone are listed: docs/DEFINITIONS.md says what they state. Short neighbors share a line. What is under `#[doc(hidden)]`, where it is defined or where its own crate
 hands it on, is left out: it is public for other crates of this repository alone.
 """
 
@@ -25,6 +25,7 @@ METHOD = re.compile(r"^    (?:pub )?(?:final )?fn (\w+)", re.M)
 IMPL = re.compile(r"^impl(?:<[^{}]*?>)? (\w+)(?:<[^{}]*?>)? \{$", re.M)
 USE = re.compile(r"^(?:#\[doc\((hidden)\)\]\n)?pub use ([^;]+);", re.M | re.S)
 MODULE = re.compile(r"(?<!#\[doc\(hidden\)\]\n)^pub mod (\w+);", re.M)
+WIDTH = 600
 CLAUSE = re.compile(r"\n\s*(?:requires|ensures|ghost)\b|\s*\n?\s*\{|;")
 ENDS_BLOCK = re.compile(r"^\}", re.M)
 
@@ -190,8 +191,34 @@ def is_hidden(text, start):
     return "#[doc(hidden)]" in itertools.takewhile(lambda line: line.startswith("#["), lines)
 
 
+def packed(lines):
+    """The lines, of which short neighbors stand in one: functions, methods, and a type with its only line of methods."""
+    lines = packed_calls(lines)
+    out = []
+    for line, after in zip(lines, [*lines[1:], ""]):
+        is_only = line.startswith("  - ") and out[-1].startswith("- **") and not after.startswith("  - ")
+        if is_only and len(out[-1]) + len(line) <= WIDTH:
+            out[-1] = f"{out[-1]} · {line[4:]}"
+        else:
+            out.append(line)
+    return out
+
+
+def packed_calls(lines):
+    """The lines, of which neighbors that are no types with methods stand in one, as long as that isn't longer than WIDTH."""
+    out, indent = [], None
+    for line in lines:
+        begun = re.match(r" *- (?=`|\*\*`\w+`\*\* \((?:const|type)\))", line)
+        if begun and indent == begun.group(0) and len(out[-1]) + len(line) <= WIDTH:
+            out[-1] = f"{out[-1]} · {line[begun.end():]}"
+        else:
+            out.append(line)
+        indent = begun.group(0) if begun else None
+    return out
+
+
 def page():
-    """The text of the page."""
+    """The text of the page, and how many items it has."""
     crates = {path.name: Crate(path.name) for path in (TOP / "crates").iterdir() if (path / "src/lib.rt").exists()}
     listed, lines = set(), [
         "# All calls", "",
@@ -216,17 +243,17 @@ def page():
                 lines += home.lines_of(name, path)
         lines += [f"- Laws: {', '.join(laws)}."] if laws else []
         lines.append("")
-    return "\n".join(lines)
+    return "\n".join(packed(lines)), sum(bool(re.match(r" *- ", line)) for line in lines)
 
 
 def main():
-    made = page()
+    made, count = page()
     if "--check" in sys.argv[1:]:
         if not PAGE.exists() or PAGE.read_text(encoding="utf-8") != made:
             sys.exit("docs/CALLS.md isn't what the sources say: run `make calls`")
     else:
         PAGE.write_text(made, encoding="utf-8")
-    print(f"docs/CALLS.md: {made.count(chr(10) + '- ') + made.count(chr(10) + '  - ')} items")
+    print(f"docs/CALLS.md: {count} items")
 
 
 if __name__ == "__main__":

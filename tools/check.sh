@@ -1,6 +1,6 @@
 #!/usr/bin/env bash
-# The full check: `rt ci`, then what it can't look at: words that aren't UTF-8, a scan of a sound file, the frames of `raftlog` on
-# the stack, runs with little stack, crashes of more histories, writes of `raft_example` that fail half way, where there is a C
+# The full check: `rt ci`, then what it can't look at: words that aren't UTF-8, `recover --plain`, a scan of a sound file, the frames of
+# `raftlog` on the stack, runs with little stack, crashes of more histories, writes of `raft_example` that fail half way, where there is a C
 # compiler some rows with memory refused, and where there is cargo the tests of rust/; first of all whether docs/BELIEVE.md and
 # docs/CALLS.md are what the definitions and the sources say, the declarations of the Rust crate what the exports are, and whether
 # each wrong body can be applied. The last line is that of `rt ci`, 'N passed, M failed'.
@@ -34,11 +34,18 @@ step "proofs, must-fail edits, tests and programs"
 rm -rf crates/*/out/rlib
 "${RT:-rt}" ci | tee "$room/proved"
 
-step "words that aren't UTF-8, and a scan"
+step "words that aren't UTF-8, the plain program, and a scan"
 status=0
 "$program" recover append 1 1 $'1=\xff' > "$room/out" 2> "$room/err" || status=$?
 if [ "$status" != 2 ] || [ -s "$room/out" ] || ! grep -q '^usage: raftlog ' "$room/err"; then
   echo "a word that isn't UTF-8: status $status, and not the usage alone"
+  exit 1
+fi
+files=(append 2 4 1=demo/1.log 2=demo/2.log 3=demo/3.log 4=demo/4.log)
+"$program" recover "${files[@]}" > "$room/wanted"
+"$program" recover --plain "${files[@]}" > "$room/out"
+if ! [ -s "$room/out" ] || ! cmp -s "$room/out" "$room/wanted"; then
+  echo "recover --plain: other lines than those of recover"
   exit 1
 fi
 status=0

@@ -1,12 +1,13 @@
 #!/usr/bin/env python3
 """Runs `raftlog recover` over a folder of cases and counts those whose answer differs.
 
-    tools/compare.py CASES [PROGRAM [WORKERS]]
+    tools/compare.py CASES [PROGRAM [WORKERS]] [--plain]
 
 A case is a folder with its log files, `args` (a queue, a version, then `<seq>=<path>` for each file) and what is
 owed: `expect`, the lines to print, or `refused`, where nothing is to be printed and the status is to be 1. PROGRAM is
 crates/raftlog/out/raftlog where it isn't given. WORKERS are numbers of workers, as `1,2,4,8`; each case is run with each
-of them, or with 1 where none is given. More than one is for cases whose effects are apart.
+of them, or with 1 where none is given. More than one is for cases whose effects are apart. With --plain the plain
+program runs them, as `raftlog recover --plain` does.
 """
 import os
 import subprocess
@@ -17,12 +18,14 @@ from pathlib import Path
 RAFTLOG = Path(__file__).resolve().parent.parent / "crates/raftlog/out/raftlog"
 SHOWN = 10
 SECONDS = 60
+PLAIN = "--plain"
 
 
 def answer(program, workers, case):
     """The status of the program and what it printed."""
     queue, version, *files = (case / "args").read_text().split()
-    words = [str(program), "recover", queue, version, workers, *files]
+    option = [PLAIN] if PLAIN in sys.argv else []
+    words = [str(program), "recover", *option, queue, version, workers, *files]
     try:
         done = subprocess.run(words, cwd=case, stdin=subprocess.DEVNULL, capture_output=True, timeout=SECONDS)
     except subprocess.TimeoutExpired:
@@ -50,11 +53,12 @@ def differences(program, numbers, case):
 
 
 def main():
-    if not 2 <= len(sys.argv) <= 4:
+    given = [word for word in sys.argv[1:] if word != PLAIN]
+    if not 1 <= len(given) <= 3:
         sys.exit(__doc__)
-    folder = Path(sys.argv[1])
-    program = Path(sys.argv[2]).resolve() if len(sys.argv) > 2 else RAFTLOG
-    numbers = (sys.argv[3] if len(sys.argv) > 3 else "1").split(",")
+    folder = Path(given[0])
+    program = Path(given[1]).resolve() if len(given) > 1 else RAFTLOG
+    numbers = (given[2] if len(given) > 2 else "1").split(",")
     if not folder.is_dir():
         sys.exit(f"{folder}: there is no such folder of cases")
     if not program.exists():

@@ -1,0 +1,436 @@
+//! Histories of an engine, and stops of a machine whose disk writes unsynced pages in any order: of the last file of each queue any of
+//! the pages that weren't synced may be zeros, and it ends anywhere behind what was synced. What is left is opened, or refused by its
+//! place, and compared with maps.
+//!
+//! `HISTORIES=10000 SEED=1 cargo test --release --test engine_page_crashes` runs more of them than by default, from a seed on. A seed
+//! gives the same history each time.
+
+mod common;
+
+use common::model::{COUNT, Change, Draw, KEYS, Region};
+use raft_recover::{
+    Ask, Batches, Content, Engine, Error, ErrorKind, FileId, FilePart, LogBatch, LogFile,
+    MemoryFiles, Options, Queue, Result, Unsynced, Version,
+};
+use std::collections::BTreeMap;
+use std::env;
+use std::sync::atomic::{AtomicU64, Ordering::Relaxed};
+use std::thread;
+
+/// How many steps a history has.
+const STEPS: usize = 30;
+
+/// The regions with entries are 1 to 3; region 0 has the number of the last batch.
+const REGIONS: usize = 3;
+
+const QUEUES: [Queue; 2] = [Queue::Append, Queue::Rewrite];
+
+/// What there is to be after a batch.
+#[derive(Clone, Default)]
+struct State {
+    regions: [Region; REGIONS],
+    /// Of each entry the number of its batch.
+    batches: [BTreeMap<u64, usize>; REGIONS],
+}
+
+impl State {
+    fn apply(&mut self, i: usize, change: &Change, batch: usize) {
+        change.apply(&mut self.regions[i]);
+        let (region, batches) = (&self.regions[i], &mut self.batches[i]);
+        if let Change::Entries(first, strings) = change {
+            batches.extend((*first..).zip(strings.iter().map(|_| batch)));
+        }
+        batches.retain(|index, _| region.entries.contains_key(index));
+    }
+}
+
+/// How large pages, entries and files are.
+#[derive(Clone, Copy)]
+struct Sizes {
+    page: usize,
+    entry: usize,
+    file: u64,
+}
+
+impl Sizes {
+    fn of(seed: u64) -> Sizes {
+        match seed % 4 {
+            0 => Sizes {
+                page: 4096,
+                entry: 6000,
+                file: 40_000,
+            },
+            1 => Sizes {
+                page: 64,
+                entry: 24,
+                file: 300,
+            },
+            _ => Sizes {
+                page: 64,
+                entry: 300,
+                file: 2000,
+            },
+        }
+    }
+}
+
+fn options(seed: u64) -> Options {
+    let version = if seed.is_multiple_of(5) {
+        Version::V1
+    } else {
+        Version::V2
+    };
+    let file = Sizes::of(seed).file;
+    Options::new()
+        .version(version)
+        .target_file_size(file)
+        .purge_above(2 * file)
+        .recovery_threads(1)
+}
+
+/// An engine, and what it was told.
+struct History {
+    seed: u64,
+    draw: Draw,
+    files: MemoryFiles,
+    /// What there is to be before the first batch and after each one.
+    states: Vec<State>,
+}
+
+impl History {
+    /// Takes the steps of a seed.
+    fn new(seed: u64) -> History {
+        let files = MemoryFiles::new();
+        let engine = Engine::with_files(files.clone(), options(seed)).unwrap();
+        let mut history = History {
+            seed,
+            draw: Draw::new(seed),
+            files,
+            states: vec![State::default()],
+        };
+        for _ in 0..STEPS {
+            history.step(&engine).unwrap();
+        }
+        history
+    }
+
+    fn step(&mut self, engine: &Engine<MemoryFiles>) -> Result<()> {
+        match self.draw.below(20) {
+            0 => engine.rotate(),
+            1 | 2 => {
+                let last = engine.stats().append.last_file;
+                engine.rewrite(last - self.draw.below(2) as u64)
+            }
+            3 => engine.rewrite_again(),
+            4 | 5 => engine.purge().map(drop),
+            6 => engine.sync(),
+            _ => self.write(engine),
+        }
+    }
+
+    fn write(&mut self, engine: &Engine<MemoryFiles>) -> Result<()> {
+        let number = self.states.len();
+        let mut state = self.states[number - 1].clone();
+        let mut batch = LogBatch::new()?;
+        batch.put(0, COUNT, &(number as u64).to_le_bytes())?;
+        for _ in 0..1 + self.draw.below(3) {
+            let i = self.draw.below(REGIONS);
+            let mut change = Change::draw(&mut self.draw, &state.regions[i]);
+            if let Change::Entries(_, strings) = &mut change {
+                for string in strings {
+                    let len = self.draw.below(Sizes::of(self.seed).entry);
+                    string.resize(string.len().max(len), 1 + number as u8 % 255);
+                }
+            }
+            state.apply(i, &change, number);
+            change.add(1 + i as u64, &mut batch)?;
+        }
+        engine.write(&mut batch, self.draw.once_in(4))?;
+        self.states.push(state);
+        Ok(())
+    }
+}
+
+/// At which ask each batch was written, the first one's first.
+fn written(asks: &[Ask], version: Version) -> Vec<usize> {
+    let mut places = Vec::new();
+    for (at, ask) in asks.iter().enumerate() {
+        let Ask::Write(file, bytes) = ask else {
+            continue;
+        };
+        let log = LogFile::new(file.queue, file.seq, version);
+        let items = Batches::new(FilePart::new(log, bytes)).unwrap();
+        let counts = items
+            .flat_map(Result::unwrap)
+            .filter(|item| matches!(&item.content, Content::Put { key, .. } if key == COUNT));
+        if file.queue == Queue::Append {
+            places.extend(counts.map(|_| at));
+        }
+    }
+    places
+}
+
+/// The last file of a queue: its number, what it has, and how many of its bytes are synced.
+#[derive(Clone)]
+struct Last {
+    id: FileId,
+    bytes: Vec<u8>,
+    synced: usize,
+}
+
+/// What a stop leaves: the files with all that was written, as it may reach a disk in order, and what this disk has of the last ones.
+struct Left {
+    lasts: Vec<Last>,
+    files: [Vec<(u64, Vec<u8>)>; 2],
+}
+
+impl Left {
+    /// Stops the machine behind so many asks.
+    fn draw(history: &History, asks: usize, draw: &mut Draw) -> Left {
+        let most = QUEUES.map(|queue| history.files.unsynced(asks, queue));
+        let drawn = most.map(|most| Unsynced {
+            steps: if draw.once_in(2) {
+                most.steps
+            } else {
+                draw.below(most.steps + 1)
+            },
+            deletions: draw.below(most.deletions + 1),
+        });
+        let none = Unsynced::default();
+        let safe = history.files.left(asks, none, none);
+        let all = history.files.left(asks, drawn[0], drawn[1]);
+        let page = Sizes::of(history.seed).page;
+        let mut left = Left {
+            lasts: Vec::new(),
+            files: QUEUES.map(|queue| all.files(queue)),
+        };
+        for (queue, files) in QUEUES.into_iter().zip(&mut left.files) {
+            let Some((seq, bytes)) = files.last_mut() else {
+                continue;
+            };
+            let safe = safe.files(queue);
+            let synced = safe.iter().find(|(number, _)| number == seq);
+            let last = Last {
+                id: FileId::new(queue, *seq),
+                bytes: bytes.clone(),
+                synced: synced.map_or(0, |(_, bytes)| bytes.len()),
+            };
+            lose_pages(bytes, last.synced, page, draw);
+            left.lasts.push(last);
+        }
+        left
+    }
+
+    fn open(&self, seed: u64) -> (MemoryFiles, Result<Engine<MemoryFiles>>) {
+        let [append, rewrite] = self.files.clone();
+        let files = MemoryFiles::found(append, rewrite);
+        let engine = Engine::with_files(files.clone(), options(seed));
+        (files, engine)
+    }
+
+    /// Tests that a refusal names the first place of a last file that isn't as it was written.
+    fn assert_named(&self, e: &Error) {
+        assert_eq!(e.kind, ErrorKind::Corruption, "{e}");
+        let (file, offset) = (e.file.unwrap(), e.offset.unwrap() as usize);
+        let last = self.lasts.iter().find(|last| last.id == file).unwrap();
+        let left = &self.files[(file.queue == Queue::Rewrite) as usize];
+        let left = &left.last().unwrap().1;
+        assert!(offset >= last.synced, "{e}");
+        let places = broken_places(&last.bytes, left);
+        assert!(places.contains(&Some(offset)), "{e}: {places:?}");
+    }
+}
+
+/// Has pages behind the synced bytes of a file be zeros, and the file end anywhere behind those.
+fn lose_pages(bytes: &mut Vec<u8>, synced: usize, page: usize, draw: &mut Draw) {
+    let (first, last) = (synced / page, bytes.len() / page);
+    let only = draw
+        .once_in(2)
+        .then(|| first + draw.below(last - first + 1));
+    for number in first..=last {
+        let is_lost = only.map_or_else(|| draw.once_in(3), |only| only == number);
+        if is_lost {
+            let end = bytes.len().min((number + 1) * page);
+            bytes[synced.max(number * page).min(end)..end].fill(0);
+        }
+    }
+    if draw.once_in(3) {
+        bytes.truncate(synced + draw.below(bytes.len() - synced + 1));
+    }
+}
+
+/// Where the first batch begins of which the header or the items aren't as they were written, or of whose bytes a part is gone; and
+/// the first one whose entries aren't: they stand between the 16 bytes of a header, the first seven of which are the length of the
+/// batch, and the items, the offset of which the last eight are.
+fn broken_places(written: &[u8], left: &[u8]) -> [Option<usize>; 2] {
+    let (mut batch, mut block, mut at) = (None, None, 0);
+    let is_same = |from: usize, to: usize| left.get(from..to) == Some(&written[from..to]);
+    while at + 16 <= written.len() {
+        let number = |from: usize| u64::from_be_bytes(written[from..from + 8].try_into().unwrap());
+        let (items, end) = (
+            at + number(at + 8) as usize,
+            at + (number(at) >> 8) as usize,
+        );
+        if end > written.len() || left.len() < end {
+            batch = batch.or(Some(at));
+            break;
+        }
+        if !is_same(at, at + 16) || !is_same(items, end) {
+            batch = batch.or(Some(at));
+        }
+        if !is_same(at + 16, items) {
+            block = block.or(Some(at));
+        }
+        at = end;
+    }
+    [batch.or((at < written.len()).then_some(at)), block]
+}
+
+/// Tests that an engine has the records of a state. Entries that can't be read were in batches behind a number; they are named.
+/// Returns which ones those are.
+fn check(engine: &Engine<MemoryFiles>, state: &State, synced: usize) -> Vec<(u64, u64)> {
+    let mut unread = Vec::new();
+    for (i, region) in state.regions.iter().enumerate() {
+        let id = 1 + i as u64;
+        let ends = [region.entries.keys().next(), region.entries.keys().last()];
+        let found = [engine.first_index(id), engine.last_index(id)];
+        assert_eq!(
+            found.map(|index| index.unwrap().or(None)),
+            ends.map(|end| end.copied())
+        );
+        for (index, entry) in &region.entries {
+            match engine.entry(id, *index) {
+                Ok(found) => assert_eq!(found.as_ref(), Some(entry)),
+                Err(e) => {
+                    assert_eq!((e.region, e.index), (Some(id), Some(*index)), "{e}");
+                    assert!(e.file.is_some() && e.offset.is_some(), "{e}");
+                    assert!(state.batches[i][index] > synced, "{e}");
+                    unread.push((id, *index));
+                }
+            }
+        }
+        for key in KEYS {
+            let value = engine.get(id, key).unwrap();
+            assert_eq!(value.as_ref(), region.keys.get(key));
+        }
+    }
+    unread
+}
+
+/// What came of stops.
+#[derive(Default)]
+struct Counts {
+    opened: AtomicU64,
+    refused: AtomicU64,
+    unread: AtomicU64,
+}
+
+/// Stops the machine in a history, and opens what is left.
+fn stop_everywhere(history: &History, counts: &Counts) {
+    let asks = history.files.asks();
+    let places = written(&asks, options(history.seed).version);
+    assert_eq!(places.len() + 1, history.states.len());
+    let mut draw = Draw::new(!history.seed);
+    for asked in 0..=asks.len() {
+        let sync = asks[..asked]
+            .iter()
+            .rposition(|ask| *ask == Ask::Sync(Queue::Append));
+        let synced = places.iter().filter(|place| Some(**place) < sync).count();
+        for _ in 0..4 {
+            let left = Left::draw(history, asked, &mut draw);
+            let (files, opened) = left.open(history.seed);
+            let engine = match opened {
+                Ok(engine) => engine,
+                Err(e) => {
+                    left.assert_named(&e);
+                    counts.refused.fetch_add(1, Relaxed);
+                    continue;
+                }
+            };
+            let count = engine.get(0, COUNT).unwrap();
+            let count = count.map_or(0, |count| u64::from_le_bytes(count.try_into().unwrap()));
+            assert!(
+                synced <= count as usize,
+                "{synced} batches were synced, {count} are there"
+            );
+            assert!(count as usize <= places.partition_point(|place| *place < asked));
+            let state = &history.states[count as usize];
+            let unread = check(&engine, state, synced);
+            counts.opened.fetch_add(1, Relaxed);
+            counts.unread.fetch_add(!unread.is_empty() as u64, Relaxed);
+            if draw.once_in(4) {
+                go_on(history, engine, files, state, unread);
+            }
+        }
+    }
+}
+
+/// Has records move and files go, opens what is there then, and finds the same records: what could be read can be read.
+fn go_on(
+    history: &History,
+    engine: Engine<MemoryFiles>,
+    files: MemoryFiles,
+    state: &State,
+    unread: Vec<(u64, u64)>,
+) {
+    let is_done = [
+        engine.purge().map(drop),
+        engine.rewrite(u64::MAX),
+        engine.rewrite_again(),
+    ];
+    for e in is_done.into_iter().filter_map(Result::err) {
+        let named = (e.region.unwrap(), e.index.unwrap());
+        assert!(unread.contains(&named), "{e}");
+    }
+    let synced = history.states.len();
+    let known = |found: Vec<(u64, u64)>| assert!(found.iter().all(|it| unread.contains(it)));
+    let any = if unread.is_empty() { synced } else { 0 };
+    known(check(&engine, state, any));
+    drop(engine);
+    let [append, rewrite] = QUEUES.map(|queue| files.files(queue));
+    let found = MemoryFiles::found(append, rewrite);
+    let engine = Engine::with_files(found, options(history.seed)).unwrap();
+    known(check(&engine, state, any));
+}
+
+/// A number that a variable names, or another one where it isn't set.
+fn number(variable: &str, otherwise: u64) -> u64 {
+    env::var(variable).map_or(otherwise, |text| text.parse().unwrap())
+}
+
+#[test]
+fn nothing_that_was_synced_is_lost_on_a_disk_that_writes_pages_in_any_order() {
+    let (first, histories) = (number("SEED", 1), number("HISTORIES", 100));
+    let (next, counts) = (AtomicU64::new(first), Counts::default());
+    let threads = thread::available_parallelism().map_or(1, usize::from);
+    thread::scope(|scope| {
+        for _ in 0..threads {
+            scope.spawn(|| {
+                while let Some(seed) = Some(next.fetch_add(1, Relaxed))
+                    && seed < first + histories
+                {
+                    let told = Told(seed);
+                    stop_everywhere(&History::new(seed), &counts);
+                    std::mem::forget(told);
+                }
+            });
+        }
+    });
+    let [opened, refused, unread] =
+        [counts.opened, counts.refused, counts.unread].map(AtomicU64::into_inner);
+    println!(
+        "{histories} histories from seed {first} on, {} stops: {opened} opened, {refused} refused by place, 0 different; in {unread} an \
+         entry that wasn't synced can't be read",
+        opened + refused
+    );
+    assert!(opened > refused && refused > unread.min(1));
+}
+
+/// Tells the seed of a history that fails.
+struct Told(u64);
+
+impl Drop for Told {
+    fn drop(&mut self) {
+        eprintln!("the history of seed {} failed", self.0);
+    }
+}

@@ -400,7 +400,7 @@ fn number(variable: &str, otherwise: u64) -> u64 {
 
 #[test]
 fn nothing_that_was_synced_is_lost_on_a_disk_that_writes_pages_in_any_order() {
-    let (first, histories) = (number("SEED", 1), number("HISTORIES", 100));
+    let (first, histories) = (number("SEED", 1), number("HISTORIES", 40));
     let (next, counts) = (AtomicU64::new(first), Counts::default());
     let threads = thread::available_parallelism().map_or(1, usize::from);
     thread::scope(|scope| {

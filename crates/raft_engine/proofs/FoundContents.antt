@@ -65,28 +65,28 @@ told_stands stay Rewrite version number told (item ∷ items) asked seq offset l
     let put : Act = Put (bytes_for (record { id = record { queue = Rewrite; seq = number }; version = version }) told) in
     stay (put ∷ acts_on Rewrite asked) Sync seq offset len block tt (stay (acts_on Rewrite asked) put seq offset len block tt stands)
 
-module _ (ready : FoundFilesAreReady) (stay : BytesStay) (version : Version) (append rewrite : List NumberedBytes) (engine : KeptEngine) (o : IsOpened version append rewrite engine) where
-  abbrev asked : List Ask
+module _ (ready : FoundFilesAreReady) (version : Version) (append rewrite : List NumberedBytes) (engine : KeptEngine) (o : IsOpened version append rewrite engine) where
+  abbrev pub asked : List Ask
   asked = o.read.are_wanted.rewrite_missing ++ (o.read.are_wanted.append_missing ++ found_asks append rewrite)
 
   are_ready : AreReady version append rewrite o.read.are_wanted.append_left o.read.are_wanted.rewrite_left asked
   are_ready =
       let w = o.read.are_wanted in both_ready version append rewrite w.append_left w.rewrite_left w.append_missing w.rewrite_missing w.append_ready w.rewrite_ready
 
-  made : AreMadeReady version append rewrite o.read.are_wanted.append_left o.read.are_wanted.rewrite_left asked o.read.are_wanted.recovered.appended o.read.are_wanted.recovered.rewritten
+  pub made : AreMadeReady version append rewrite o.read.are_wanted.append_left o.read.are_wanted.rewrite_left asked o.read.are_wanted.recovered.appended o.read.are_wanted.recovered.rewritten
   made =
       let w = o.read.are_wanted in
       ready version asked append rewrite w.append_left w.rewrite_left w.recovered.appended w.recovered.rewritten are_ready w.recovered.append_held w.recovered.rewrite_held
 
-  all_asked : engine.asks ≡ asks_that_tell version o.read.are_wanted.seq o.read.are_wanted.told o.read.are_wanted.told.items ++ asked
+  pub all_asked : engine.asks ≡ asks_that_tell version o.read.are_wanted.seq o.read.are_wanted.told o.read.are_wanted.told.items ++ asked
   all_asked =
       let w = o.read.are_wanted in
       o.read.asked ∙ ap (λ (l : List Ask). l ++ found_asks append rewrite) w.are ∙ opening_split version w.append_missing w.rewrite_missing w.seq w.told (found_asks append rewrite)
 
-  stays_in : (queue : LogQueue) (files left : List NumberedBytes) (missing : List Ask) → IsReady queue version [] (missing ++ []) files left → begun (acts_on queue asked) ≡ left
+  stays_in : BytesStay → (queue : LogQueue) (files left : List NumberedBytes) (missing : List Ask) → IsReady queue version [] (missing ++ []) files left → begun (acts_on queue asked) ≡ left
       → (cut : List NumberedBytes) → AreCut queue version files cut → (seq offset len : ℕ) (block : List ℕ) → bytes_at cut seq offset len ≡ Some block
       → bytes_at (begun (acts_on queue engine.asks)) seq offset len ≡ Some block
-  stays_in queue files left missing r are cut c seq offset len block stands =
+  stays_in stay queue files left missing r are cut c seq offset len block stands =
       let w = o.read.are_wanted in
       let there = stands_ready queue version files [] (missing ++ []) left cut r c seq offset len block stands in
       subst (λ (l : List Ask). bytes_at (begun (acts_on queue l)) seq offset len ≡ Some block) (sym all_asked)
@@ -95,13 +95,13 @@ module _ (ready : FoundFilesAreReady) (stay : BytesStay) (version : Version) (ap
 pub contents_stay : FoundFilesAreReady → BytesStay → FoundContentsStay
 contents_stay ready stay content version base asks lasting told append rewrite append_left rewrite_left engine o other other_told e (inl s) =
     let w = o.read.are_wanted in
-    let m = made ready stay version append rewrite engine o in
-    let stands = stays_in ready stay version append rewrite engine o Append append w.append_left w.append_missing (w.append_ready []) m.append_files s.cut s.are_cut s.place.id.seq s.place.offset s.place.len s.block s.stands in
+    let m = made ready version append rewrite engine o in
+    let stands = stays_in ready version append rewrite engine o stay Append append w.append_left w.append_missing (w.append_ready []) m.append_files s.cut s.are_cut s.place.id.seq s.place.offset s.place.len s.block s.stands in
     other_told.0.0 s.place s.block s.of_queue stands e s.placed s.inside
     ∙ sym (lasting.told Append told.0 append s.cut append_left s.are_cut s.place s.block s.of_queue s.stands e s.placed s.inside)
 contents_stay ready stay content version base asks lasting told append rewrite append_left rewrite_left engine o other other_told e (inr s) =
     let w = o.read.are_wanted in
-    let m = made ready stay version append rewrite engine o in
-    let stands = stays_in ready stay version append rewrite engine o Rewrite rewrite w.rewrite_left w.rewrite_missing (w.rewrite_ready []) m.rewrite_files s.cut s.are_cut s.place.id.seq s.place.offset s.place.len s.block s.stands in
+    let m = made ready version append rewrite engine o in
+    let stands = stays_in ready version append rewrite engine o stay Rewrite rewrite w.rewrite_left w.rewrite_missing (w.rewrite_ready []) m.rewrite_files s.cut s.are_cut s.place.id.seq s.place.offset s.place.len s.block s.stands in
     other_told.1.0 s.place s.block s.of_queue stands e s.placed s.inside
     ∙ sym (lasting.told Rewrite told.1 rewrite s.cut rewrite_left s.are_cut s.place s.block s.of_queue s.stands e s.placed s.inside)

@@ -28,7 +28,7 @@ use Rattle.raft_engine_laws.specs.Groups.{HasNoMarker}
 use Rattle.raft_engine_laws.specs.GroupsInRows.{AreGroupsInRows}
 use Rattle.raft_engine_laws.specs.Records.{HaveRecords, Records, live}
 use Rattle.raft_engine_laws.specs.Stops as queue_deeds
-use Rattle.raft_engine_laws.specs.Stops.{Deed, Stop, Write, IsNextIn, IsSafe, LoseNothing, written}
+use Rattle.raft_engine_laws.specs.Stops.{Deed, Stop, Write, IsLeft, IsNextIn, IsSafe, LoseNothing, written}
 use Rattle.raft_engine_laws.specs.MarksTold.{IsToldNowOrLater}
 use Rattle.raft_engine_laws.specs.Telling.{TakeAway}
 use Rattle.raft_engine_fronts.specs.Done.{AreDone, HoldLeft, LastFileIsNext}
@@ -36,6 +36,7 @@ use Rattle.raft_engine_fronts.specs.Fronts.{ArePut}
 use Rattle.raft_engine.specs.BatchBytes.{bytes_for, place_at, placed_at}
 use Rattle.raft_engine.specs.FoundFiles.{IsReady}
 use Rattle.raft_engine.specs.FoundRecords.{FoundRecordsLast, HaveEverRecords}
+use Rattle.raft_engine.specs.JoinedFiles.{BatchesJoin, FoundFilesJoin}
 use Rattle.raft_engine.specs.Lasting.{AreFoundIn, HaveBothBegun, IsBegunOrFound, IsLastingAfter}
 use Rattle.raft_engine.specs.Opening.{AreRecovered}
 use Rattle.raft_engine.specs.OpeningAsks.{asks_that_tell}
@@ -45,7 +46,9 @@ use Rattle.raft_engine.specs.WellPut.{AreWellPut}
 use Rattle.raft_engine_fronts.specs.Contents.{AreBothTold, KeepsBytes}
 use Rattle.raft_engine.specs.StoredFound.{AreMadeReady, AreReady, AreStoredBeside, FoundFilesAreReady, FoundFilesAreStored, found_asks, told_asks}
 use Rattle.raft_engine.proofs.FoundDoneLemmas.{AreReadyDone, one_ask}
+use Rattle.raft_engine.proofs.JoinedLemmas.{joined_told}
 use Rattle.raft_engine_laws.proofs.InRows.{rows_alone, rows_left}
+use Rattle.raft_engine_laws.proofs.SafeOpenings.{left_of_stop}
 use Rattle.raft_engine.proofs.StoredLemmas.{first_on, goes_on}
 use Rattle.raft_engine.proofs.UntoldLemmas.{placed_away, placed_steps}
 use Rattle.raft_engine.proofs.WellPutLemmas.{both_well}
@@ -117,10 +120,14 @@ module _ (ready : ReadyIsDone) (version : Version) (asked : List Ask) (append re
   append_all = subst (λ (l : List Act). AreAllDone Append version l (Stop h 0 ∷ [])) (sym append_same) a.after
 
   -- the files were found first
+  since_between : (since : List Ask) × (r.between ≡ since ++ first)
+  since_between = since_more Append first r.between first step_append ([], refl)
+
+  since_asked : (since : List Ask) × (asked ≡ since ++ first)
+  since_asked = since_more Rewrite r.between asked first step_rewrite since_between
+
   found_first : IsBegunOrFound asked
-  found_first =
-      let since = since_more Rewrite r.between asked first step_rewrite (since_more Append first r.between first step_append ([], refl)) in
-      inr (since.0, append, rewrite, since.1)
+  found_first = inr (since_asked.0, append, rewrite, since_asked.1)
 
   pub made_ready : AreMadeReady version append rewrite append_left rewrite_left asked h k
   made_ready = record {
@@ -133,10 +140,10 @@ module _ (ready : ReadyIsDone) (version : Version) (asked : List Ask) (append re
   }
 
   module _ (P : List Ask → Type 0)
-      (so : (l : List Ask) → AreDone Append version (acts_on Append l) (Stop h 0 ∷ []) → AreDone Rewrite version (acts_on Rewrite l) (Stop k 0 ∷ []) → ArePut Append version (acts_on Append l) h h
+      (so : (l : List Ask) → (since : List Ask) × (l ≡ since ++ first) → AreDone Append version (acts_on Append l) (Stop h 0 ∷ []) → AreDone Rewrite version (acts_on Rewrite l) (Stop k 0 ∷ []) → ArePut Append version (acts_on Append l) h h
       → ((queue : LogQueue) → AreWellPut queue version (acts_on queue l)) → P l) where
     at_first : WasEver P first
-    at_first [] earlier e begun = subst P e (so first a.before.done b.before.done a.before.put (both_well version first a.before.well b.before.well))
+    at_first [] earlier e begun = subst P e (so first ([], refl) a.before.done b.before.done a.before.put (both_well version first a.before.well b.before.well))
     at_first (x ∷ []) earlier e begun = absurd (begun.1 (sym (ap (λ (l : List Ask). acts_on Rewrite (tail_of l)) e)))
     at_first (x ∷ y ∷ []) earlier e begun = absurd (begun.0 (sym (ap (λ (l : List Ask). acts_on Append (tail_of (tail_of l))) e)))
     at_first (x ∷ y ∷ z ∷ later) earlier e begun = absurd (no_more z (later ++ earlier) (ap (λ (l : List Ask). tail_of (tail_of l)) e))
@@ -145,9 +152,9 @@ module _ (ready : ReadyIsDone) (version : Version) (asked : List Ask) (append re
     ever_ready =
         may_more P Rewrite r.between asked step_rewrite
         (may_more P Append first r.between step_append at_first
-        (so r.between a.after.done.done (subst (λ (l : List Act). AreDone Rewrite version l (Stop k 0 ∷ [])) (sym rewrite_same) b.before.done) a.after.put.put
+        (so r.between since_between a.after.done.done (subst (λ (l : List Act). AreDone Rewrite version l (Stop k 0 ∷ [])) (sym rewrite_same) b.before.done) a.after.put.put
         (both_well version r.between a.after.well (subst (AreWellPut Rewrite version) (sym rewrite_same) b.before.well))))
-        (so asked append_all.done.done b.after.done.done append_all.put.put (both_well version asked append_all.well b.after.well))
+        (so asked since_asked append_all.done.done b.after.done.done append_all.put.put (both_well version asked append_all.well b.after.well))
 
 pub found_ready : ReadyIsDone → FoundFilesAreReady
 found_ready ready version asked append rewrite append_left rewrite_left h k r append_held rewrite_held = made_ready ready version asked append rewrite append_left rewrite_left h k r append_held rewrite_held
@@ -242,22 +249,36 @@ module _ (ready : ReadyIsDone) (lasts : WhatIsDoneLasts) (left : LeftIsHeld)
     begun_or_found = found_first ready version asked append rewrite append_left rewrite_left h k r g.append_held g.rewrite_held
 
     ever : (P : List Ask → Type 0)
-        → ((l : List Ask) → AreDone Append version (acts_on Append l) (Stop h 0 ∷ []) → AreDone Rewrite version (acts_on Rewrite l) (Stop k 0 ∷ []) → ArePut Append version (acts_on Append l) h h
+        → ((l : List Ask) → (since : List Ask) × (l ≡ since ++ found_asks append rewrite) → AreDone Append version (acts_on Append l) (Stop h 0 ∷ [])
+        → AreDone Rewrite version (acts_on Rewrite l) (Stop k 0 ∷ []) → ArePut Append version (acts_on Append l) h h
         → ((queue : LogQueue) → AreWellPut queue version (acts_on queue l)) → P l)
         → WasEver P asked
     ever = ever_ready ready version asked append rewrite append_left rewrite_left h k r g.append_held g.rewrite_held
+
+    made : AreMadeReady version append rewrite append_left rewrite_left asked h k
+    made = made_ready ready version asked append rewrite append_left rewrite_left h k r g.append_held g.rewrite_held
+
+    -- where of the found files nothing stays in front, so it is of their batches
+    found_join : (l : List Ask) → (since : List Ask) × (l ≡ since ++ found_asks append rewrite) → FoundFilesJoin version l → BatchesJoin h k
+    found_join l since found = found since.0 append rewrite since.1 h k made.append_held made.rewrite_held
+
+    left_join : (l : List Ask) → (since : List Ask) × (l ≡ since ++ found_asks append rewrite) → FoundFilesJoin version l
+        → (standing a others w : List Event) → IsLeft (Stop h 0 ∷ []) standing a → IsLeft (Stop k 0 ∷ []) others w → BatchesJoin a w
+    left_join l since found standing a others w x y =
+        subst (λ (e : List Event). BatchesJoin e w) (sym (left_of_stop Append h standing a g.append_sound.files x))
+        (subst (λ (e : List Event). BatchesJoin h e) (sym (left_of_stop Rewrite k others w g.rewrite_sound.files y)) (found_join l since found))
 
     ever_lasting : (base : Bases) → ((content : EntryIndex → List ℕ) → LoseNothing content (base content) (Stop h 0 ∷ []) (Stop k 0 ∷ []))
         → (content : EntryIndex → List ℕ) → WasEver (λ (l : List Ask). IsLastingAfter content version (base content) l) asked
     ever_lasting base none content =
         ever (λ (l : List Ask). IsLastingAfter content version (base content) l)
-        (λ l done done' put well. (lasts content version (base content) l (Stop h 0 ∷ []) (Stop k 0 ∷ []) done done' put well g.rows (none content)).0)
+        (λ l since done done' put well. (lasts content version (base content) l (Stop h 0 ∷ []) (Stop k 0 ∷ []) done done' put well g.rows (none content) (left_join l since)).0)
 
     ever_found : (base : Bases) → ((content : EntryIndex → List ℕ) → LoseNothing content (base content) (Stop h 0 ∷ []) (Stop k 0 ∷ []))
         → (content : EntryIndex → List ℕ) → WasEver (HaveLeft content version (live content (base content) h)) asked
     ever_found base none content =
         ever (HaveLeft content version (live content (base content) h))
-        (λ l done done' put well. records_found left content version (base content) l h (Stop k 0 ∷ []) done done' g.rows (none content))
+        (λ l since done done' put well. records_found left content version (base content) l h (Stop k 0 ∷ []) done done' g.rows (none content))
 
     module _ (nothing : told.items ≡ []) where
       open_so : (base : Bases) × ((content : EntryIndex → List ℕ) → IsSafe content (base content) (Stop h 0 ∷ []) (Stop k 0 ∷ []) left_untold accessor.tables)
@@ -327,11 +348,18 @@ module _ (ready : ReadyIsDone) (lasts : WhatIsDoneLasts) (left : LeftIsHeld)
       sync_all : AreAllDone Rewrite version (acts_on Rewrite (ask Rewrite asks.Sync ∷ put_ask ∷ asked)) (queue_deeds.Sync ∷ Write e ∷ Stop k 0 ∷ [])
       sync_all = sync Rewrite version (acts_on Rewrite (put_ask ∷ asked)) (Write e ∷ Stop k 0 ∷ []) put_all
 
+      -- where of the found files nothing stays in front, nothing is told
+      nothing_put : FoundFilesJoin version (put_ask ∷ asked) → (standing a others q : List Event) → IsLeft (Stop h 0 ∷ []) standing a → IsLeft (Write e ∷ Stop k 0 ∷ []) others q → BatchesJoin a q
+      nothing_put found standing a others q x y =
+          let since = since_asked ready version asked append rewrite append_left rewrite_left h k r g.append_held g.rewrite_held in
+          let join = found_join (put_ask ∷ asked) (put_ask ∷ since.0, ap (λ (l : List Ask). put_ask ∷ l) since.1) found in
+          absurd (w.some (joined_told version append_left rewrite_left accessor told untold g join))
+
       ever_put : (content : EntryIndex → List ℕ) → WasEver (λ (l : List Ask). IsLastingAfter content version (o.0 content) l) (put_ask ∷ asked)
       ever_put content =
           one_more (λ (l : List Ask). IsLastingAfter content version (o.0 content) l) put_ask asked (ever_lasting o.0 o.3 content)
           (lasts content version (o.0 content) (put_ask ∷ asked) (Stop h 0 ∷ []) (Write e ∷ Stop k 0 ∷ []) append_done.done.done put_all.done.done append_done.put.put
-          (both_well version (put_ask ∷ asked) append_done.well put_all.well) rows_more (o.2 content)).0
+          (both_well version (put_ask ∷ asked) append_done.well put_all.well) rows_more (o.2 content) nothing_put).0
 
       once_told : AreStoredBeside version (told_asks version seq told asked) untold.items accessor.tables
       once_told = (

@@ -13,12 +13,13 @@ use Rattle.raft_engine_fronts.specs.EntryPlaces.{FilesEndWithin, FoundEndWithin}
 use Rattle.raft_engine_fronts.specs.Fronts.{ArePut, IsFrontWith}
 use Rattle.raft_engine_fronts.proofs.EndLemmas.{left_within}
 use Rattle.raft_engine_fronts.specs.TornTails.{AreUndamaged, FilesHoldTorn, FoundUndamaged}
-use Rattle.raft_engine_fronts.proofs.TornLemmas.{whole_torn}
+use Rattle.raft_engine_fronts.proofs.TornLemmas.{one_reading, whole_torn}
 use Rattle.raft_engine_fronts.proofs.UndamagedLemmas.{left_undamaged}
 use Rattle.raft_engine_fronts.specs.AnyTails.{IsUnforgedLeftOf}
 use Rattle.raft_engine_fronts.specs.Contents.{AreTold, AreToldByFiles}
 use Rattle.raft_engine_fronts.specs.Done.{AreDone, HoldLeft}
 use Rattle.raft_engine.specs.CutFiles.{AreCut}
+use Rattle.raft_engine.specs.JoinedFiles.{BatchesJoin}
 use Rattle.raft_engine.specs.Lasting.{AreSynced, before_sync}
 use Rattle.raft_engine.specs.StoredAsks.{WhatIsDoneLasts}
 use Rattle.raft_engine.proofs.LeftBytes.{left_tells}
@@ -87,7 +88,7 @@ pub done_lasts : ((queue : LogQueue) (version : Version) (asked : List Ask) (dee
     → ((queue : LogQueue) (version : Version) (asked : List Ask) (deeds : List Deed) (files : List NumberedBytes) (read : List Event)
     → AreDone queue version (acts_on queue asked) deeds → IsUnforgedLeftOf queue version asked files → FilesHoldTorn queue version files read → HoldLeft queue version deeds files)
     → WhatIsDoneLasts
-done_lasts left all any content version base asked appended rewritten append_done rewrite_done put well rows lose = (
+done_lasts left all any content version base asked appended rewritten append_done rewrite_done put well rows lose join = (
   record {
     batches = written appended;
     synced = queue_deeds.synced appended;
@@ -140,6 +141,12 @@ done_lasts left all any content version base asked appended rewritten append_don
     sealed = λ queue files l. left_sound queue version asked files (well queue).sealed l;
     undamaged = undamaged_of;
     ends = ends_of;
+    joined = λ found append rewrite left_append left_rewrite append_read rewrite_read append_held rewrite_held.
+        let a = left Append version asked appended append append_done left_append in
+        let r = left Rewrite version asked rewritten rewrite rewrite_done left_rewrite in
+        subst (λ (h : List Event). BatchesJoin h rewrite_read) (one_reading Append version append a.left append_read a.held append_held)
+        (subst (λ (h : List Event). BatchesJoin a.left h) (one_reading Rewrite version rewrite r.left rewrite_read r.held rewrite_held)
+        (join found a.standing a.left r.standing r.left a.is_left r.is_left));
     whole =
         let a = whole_of Append version asked appended append_done in
         let r = whole_of Rewrite version asked rewritten rewrite_done in

@@ -10,6 +10,7 @@ mod MarkerLemmas
 mod RowLemmas
 mod RecoveredLemmas
 mod FoundDoneLemmas
+mod JoinedLemmas
 mod FoundStoredLemmas
 mod OpenedLemmas
 mod DrainLemmas
@@ -71,4 +72,5 @@ mod MovingFaultLemmas
 mod MomentLemmas
 mod EntryLemmas
 mod LifeLemmas
+mod OwnFileLemmas
 mod WellPutLemmas

@@ -32,6 +32,7 @@ use Rattle.raft_recover.specs.Recovery.{MayReplayBoth}
 use Rattle.raft_engine_laws.specs.GroupsInRows.{AreGroupsInRows}
 use Rattle.raft_engine_laws.specs.TakenTold.{AreBothRead, AreFoundTables, DoesTakenTakeAway, IsTakenToldByMarks, IsTakenToldNowOrLater}
 use Rattle.raft_engine_laws.proofs.InRows.{rows_apart}
+use Rattle.raft_engine_laws.proofs.ToldContexts.{taken_in_steps}
 use Rattle.raft_engine.specs.FileSegments.{AreSegmentsOfFiles}
 use Rattle.raft_engine.specs.Markers.{AreOutOfRows, NoneIsInRows}
 use Rattle.raft_engine.specs.Opening.{AreInRows, AreRecovered}
@@ -155,6 +156,7 @@ module _ (version : Version) (append rewrite : List NumberedBytes) (appended rew
       told_open = opened taken.at_once _ is.at_once;
       untold_open = opened taken.later _ is.later;
       told_away = (away appended.context.regions rewritten.context.regions.tables taken is).0;
+      told_steps = taken_in_steps appended rewritten g h both_read taken is accessor.tables accessor.cleaned reading;
       untold_away = (away appended.context.regions rewritten.context.regions.tables taken is).1;
       tells = tells appended rewritten g h both_read taken is accessor.tables accessor.cleaned reading;
       says = says appended rewritten g h both_read taken is accessor.tables accessor.cleaned reading;

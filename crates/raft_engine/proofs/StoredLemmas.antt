@@ -38,6 +38,7 @@ use Rattle.raft_engine.specs.Stored.{AreAllDone, AreEverLasting, AreKeptStored, 
 use Rattle.raft_engine.specs.StoredAsks.{DeletionsAreStored, FirstFilesAreStored, IsWritableBatch, NewFilesAreStored, SyncsAreStored, ToldBatchesAreStored, WhatIsDoneLasts, WrittenBatchesAreStored}
 use Rattle.raft_engine.proofs.DoneLemmas.{deeds_synced}
 use Rattle.raft_engine_laws.proofs.InRows.{rows_alone}
+use Rattle.raft_engine_laws.proofs.OwnFronts.{own_joins}
 use Rattle.raft_engine.proofs.UntoldLemmas.{placed_away, placed_steps}
 use Rattle.raft_engine.proofs.WellPutLemmas.{both_well}
 
@@ -69,6 +70,9 @@ module _
       lasts content version (base content) asked s.appended s.rewritten s.append_done.done.done s.rewrite_done.done.done s.append_done.put.put
       (both_well version asked s.append_done.well s.rewrite_done.well) s.rows
       (lose content (base content) s.appended s.rewritten (steps_of_items untold) tables (s.safe content told))
+      (λ found standing append others rewrite a r.
+      let k = (s.safe content told).left standing append others rewrite a r in
+      λ found_tables cleaned both region. own_joins content append rewrite k.untold k.tables found_tables cleaned k.kept both region)
 
   stored_lasts : (version : Version) (asked : List Ask) (base : Bases) (untold : List Item) (tables : Tables) → AreStored version asked base untold tables
       → (content : EntryIndex → List ℕ) → AreBothTold asked content → IsLastingAfter content version (base content) asked

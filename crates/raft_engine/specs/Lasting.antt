@@ -20,6 +20,7 @@ use Rattle.raft_engine_fronts.specs.Fronts.{ArePut, IsFrontWith}
 use Rattle.raft_engine_fronts.specs.TornTails.{AreUndamaged, FilesHoldTorn, FoundUndamaged}
 use Rattle.raft_engine.specs.CutFiles.{AreCut}
 use Rattle.raft_engine.specs.FoundFiles.{IsLastOfOther}
+use Rattle.raft_engine.specs.JoinedFiles.{FilesJoin, FoundFilesJoin}
 use Rattle.raft_engine.specs.KeptEngine.{KeptEngine}
 use Rattle.raft_engine.specs.SoundBlocks.{IsLastSound}
 
@@ -78,7 +79,8 @@ AreSynced (Read place bytes ∷ earlier) = AreSynced earlier
 -- hold the records of a front of the batches, with the synced ones at least; and if nothing is lost, those of all batches.
 -- Contents that were told by what was asked of a queue are those that its files have, once they are cut where reading stops.
 -- The last file of those that are left isn't of the other version, and has sound entry blocks if it is a rewrite file; it isn't damaged,
--- where the found files aren't; and the entries of their batches end within their blocks, where those of the found files do.
+-- where the found files aren't; and the entries of their batches end within their blocks, where those of the found files do. Where of no
+-- region of the found files rewritten entries stay in front of those that are found, so it is of those that are left.
 pub record IsLastingAfter (content : EntryIndex → List ℕ) (version : Version) (base : ℕ → Records) (asks : List Ask) : Type 0 where
   pub batches : List Event
   pub synced : List Event
@@ -94,6 +96,7 @@ pub record IsLastingAfter (content : EntryIndex → List ℕ) (version : Version
   pub sealed : (queue : LogQueue) (files : List NumberedBytes) → IsLeftOf queue asks files → IsLastSound queue version files
   pub undamaged : (queue : LogQueue) → FoundUndamaged queue version (acts_on queue asks) → (files : List NumberedBytes) → IsLeftOf queue asks files → AreUndamaged queue version files
   pub ends : (queue : LogQueue) → FoundEndWithin queue version (acts_on queue asks) → (files : List NumberedBytes) → IsLeftOf queue asks files → FilesEndWithin queue version files
+  pub joined : FoundFilesJoin version asks → (append rewrite : List NumberedBytes) → IsLeftOf Append asks append → IsLeftOf Rewrite asks rewrite → FilesJoin version append rewrite
   pub whole : AreFoundIn content version (files_of Append asks) (files_of Rewrite asks) (live content base batches)
   pub all : AreSynced (acts_on Append asks) → synced ≡ batches
 

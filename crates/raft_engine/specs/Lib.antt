@@ -2,6 +2,7 @@
 pub mod KeptEngine
 -- what lasts of it
 pub mod CutFiles
+pub mod JoinedFiles
 pub mod Lasting
 -- what is stored of it, and what each ask makes of that
 pub mod Stored

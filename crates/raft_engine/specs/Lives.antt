@@ -10,6 +10,7 @@ use Rattle.raft_engine_laws.specs.Records.{Records}
 use Rattle.raft_engine_laws.specs.Stops.{in_files_from}
 use Rattle.raft_engine_fronts.specs.Contents.{AreBothTold}
 use Rattle.raft_engine_fronts.specs.Fronts.{AreFirstOf}
+use Rattle.raft_engine.specs.FoundFiles.{AreReadyBy}
 use Rattle.raft_engine.specs.KeptEngine.{KeptEngine, table_in}
 use Rattle.raft_engine.specs.Lasting.{HaveBothBegun, IsLasting, IsLastingAfter}
 use Rattle.raft_engine.specs.Moments.{FindNoFiles}
@@ -74,6 +75,28 @@ abbrev pub WrittenEntriesAreFound : Type 0
 WrittenEntriesAreFound =
     (version : Version) (life : Life version) (later : List (Life version)) → IsFirstLife version life → FollowEachOther version life later
     → AllByRecursion (EntriesAreFound version) (life ∷ later)
+
+-- an opening of found files asked for what is missing of each queue, and for nothing else: it told the rewrite queue nothing
+pub record IsNothingTold (version : Version) (append rewrite : List NumberedBytes) (asks : List Ask) : Type 0 where
+  pub append_missing : List Ask
+  pub rewrite_missing : List Ask
+  pub append_left : List NumberedBytes
+  pub rewrite_left : List NumberedBytes
+  pub append_ready : AreReadyBy Append version append_missing append append_left
+  pub rewrite_ready : AreReadyBy Rewrite version rewrite_missing rewrite rewrite_left
+  pub asked : asks ≡ rewrite_missing ++ (append_missing ++ found_asks append rewrite)
+
+-- so does each opening of what a crash may leave of a life
+abbrev pub IsLeftToldNothing : (version : Version) → Life version → Type 0
+IsLeftToldNothing version life =
+    (append rewrite : List NumberedBytes) → IsLeftOf Append life.asks append → IsLeftOf Rewrite life.asks rewrite → (engine : KeptEngine) → IsOpened version append rewrite engine
+    → IsNothingTold version append rewrite engine.asks
+
+-- and so it is over any number of restarts, where engines of this version alone wrote the files
+abbrev pub OwnFilesAreToldNothing : Type 0
+OwnFilesAreToldNothing =
+    (version : Version) (life : Life version) (later : List (Life version)) → IsFirstLife version life → FollowEachOther version life later
+    → AllByRecursion (IsLeftToldNothing version) (life ∷ later)
 
 -- what was asked of an engine, of which this lasts, is a life of it
 abbrev pub WhatLastsIsALife : Type 0

@@ -16,7 +16,7 @@ use Rattle.raft_files.specs.Asks.{NumberedBytes}
 use Rattle.raft_recover.specs.Files.{FilesHold}
 use Rattle.raft_engine_laws.specs.GroupsInRows.{AreGroupsInRows}
 use Rattle.raft_engine_laws.specs.MarksTold.{IsToldByMark, IsToldNowOrLater}
-use Rattle.raft_engine_laws.specs.Telling.{TakeAway}
+use Rattle.raft_engine_laws.specs.Telling.{AreAllSteps, TakeAway}
 
 -- batches of which each group stands in a row
 pub record AreInRows (Held : List Event → Type 0) : Type 0 where
@@ -26,7 +26,7 @@ pub record AreInRows (Held : List Event → Type 0) : Type 0 where
 
 -- What a recovery gives of the files of both queues, of which each group stands in a row: tables that are a reading of the
 -- batches that the files hold; what the rewrite queue is to be told at once, and what it may be told later, each an open batch that
--- puts nothing. Of each region they say what its mark says, and that is enough.
+-- puts nothing; each item that is told at once is a step of its region. Of each region they say what its mark says, and that is enough.
 pub record AreRecovered (version : Version) (append rewrite : List NumberedBytes) (accessor : Accessor) (told untold : Batch) : Type 0 where
   pub appended : List Event
   pub rewritten : List Event
@@ -41,6 +41,7 @@ pub record AreRecovered (version : Version) (append rewrite : List NumberedBytes
   pub told_open : told ≡ record empty_batch { items = told.items }
   pub untold_open : untold ≡ record empty_batch { items = untold.items }
   pub told_away : TakeAway told.items
+  pub told_steps : AreAllSteps told.items
   pub untold_away : TakeAway untold.items
   pub tells : (r : ℕ) → IsToldByMark (steps_of r (batches appended)) (steps_on r (steps_of_items told.items)) (steps_on r (steps_of_items untold.items))
       (table_of r (finite.get reading.appended r)) (table_of r (finite.get reading.rewritten r))

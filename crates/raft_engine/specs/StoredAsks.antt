@@ -8,6 +8,7 @@ use Rattle.raft_base.specs.declared.pipe_log.Version.{Version}
 use Rattle.raft_records.specs.Item.{Item, AreInBytes}
 use Rattle.raft_records.specs.LogBatch.{Batch, IsBatchOf, encoded_length}
 use Rattle.raft_records.specs.Range.{AreInRange}
+use Rattle.raft_history.specs.Batches.{Event}
 use Rattle.raft_history.specs.RegionSteps.{Tables}
 use Rattle.raft_accessor.specs.Writes.{Appending, after_items}
 use Rattle.raft_files.specs.Asks.{Ask, Begin, Delete, NumberedBytes, Put, Sync, acts_on, ask}
@@ -15,24 +16,27 @@ use Rattle.raft_files.specs.Disk.{begun, deletions}
 use Rattle.raft_engine_laws.specs.DeletedFiles.{AreLeastFrom}
 use Rattle.raft_engine_laws.specs.Records.{Records, no_base}
 use Rattle.raft_engine_laws.specs.GroupsInRows.{AreGroupsInRows}
-use Rattle.raft_engine_laws.specs.Stops.{Deed, LoseNothing, synced, written}
+use Rattle.raft_engine_laws.specs.Stops.{Deed, IsLeft, LoseNothing, synced, written}
 use Rattle.raft_engine_laws.specs.Telling.{TakeAway, taking_items, told_items}
 use Rattle.raft_engine_fronts.specs.Done.{AreDone}
 use Rattle.raft_engine_fronts.specs.Fronts.{ArePut}
 use Rattle.raft_engine.specs.BatchBytes.{bytes_for, placed_at}
+use Rattle.raft_engine.specs.JoinedFiles.{BatchesJoin, FoundFilesJoin}
 use Rattle.raft_engine.specs.KeptEngine.{IsLastFile}
 use Rattle.raft_engine.specs.Lasting.{AreSynced, IsLastingAfter}
 use Rattle.raft_engine.specs.Stored.{AreKeptStored, Bases}
 use Rattle.raft_engine.specs.WellPut.{AreWellPut}
 
--- where what is done to both queues loses nothing in a stop, each group of the rewrite queue stands in a row, and all is well put, the batches that were written last
+-- where what is done to both queues loses nothing in a stop, each group of the rewrite queue stands in a row, all is well put, and of what is left no rewritten entries stay in front, where of the found files none do, the batches that were written last
 abbrev pub WhatIsDoneLasts : Type 0
 WhatIsDoneLasts =
     (content : EntryIndex → List ℕ) (version : Version) (base : ℕ → Records) (asks : List Ask) (appended rewritten : List Deed)
     → AreDone Append version (acts_on Append asks) appended → AreDone Rewrite version (acts_on Rewrite asks) rewritten
     → ArePut Append version (acts_on Append asks) (synced appended) (written appended)
     → ((queue : LogQueue) → AreWellPut queue version (acts_on queue asks))
-    → AreGroupsInRows (written rewritten) → LoseNothing content base appended rewritten → (lasting : IsLastingAfter content version base asks) × (lasting.batches ≡ written appended)
+    → AreGroupsInRows (written rewritten) → LoseNothing content base appended rewritten
+    → (FoundFilesJoin version asks → (standing append others rewrite : List Event) → IsLeft appended standing append → IsLeft rewritten others rewrite → BatchesJoin append rewrite)
+    → (lasting : IsLastingAfter content version base asks) × (lasting.batches ≡ written appended)
 
 -- the first file of each queue is stored as no tables
 abbrev pub FirstFilesAreStored : Type 0

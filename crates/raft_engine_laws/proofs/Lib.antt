@@ -76,6 +76,7 @@ pub mod ToldTables
 pub mod BackLemmas
 pub mod RowJoins
 pub mod OwnFronts
+pub mod OwnTold
 pub mod StepEntries
 pub mod ToldNow
 pub mod ToldRegions

@@ -108,7 +108,7 @@ module _ (id : ℕ) (kept : List Step) (own : Option Table) (rewritten : List En
   from_first (x ∷ xs) e = all_from x.index (x ∷ xs) (left_above kept (start_of rewritten) rewritten x xs (rises rewritten run) e)
 
   -- where the own entries don't join the rewritten ones, those lie in front of them
-  lie_in_front : has_clean kept ≡ false → (o : List EntryIndex) → own_entries ≡ o → (c : Option ℕ) → least_cut kept ≡ c → is_unjoined c (end_of rewritten) o ≡ true → from (start_of o) (unspoken kept rewritten) ≡ []
+  pub lie_in_front : has_clean kept ≡ false → (o : List EntryIndex) → own_entries ≡ o → (c : Option ℕ) → least_cut kept ≡ c → is_unjoined c (end_of rewritten) o ≡ true → from (start_of o) (unspoken kept rewritten) ≡ []
   lie_in_front clean o there None c u = absurd (false≢true u)
   lie_in_front clean [] there (Some cut) c u = absurd (false≢true u)
   lie_in_front clean (e ∷ es) there (Some cut) c u = none_from e.index (unspoken kept rewritten) (each (unspoken kept rewritten) (each_left kept rewritten))

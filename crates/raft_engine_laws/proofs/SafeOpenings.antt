@@ -7,9 +7,9 @@ use Rattle.raft_base.specs.declared.pipe_log.LogQueue.TheVariants.{Append, Rewri
 use Rattle.raft_base.specs.Runs.{IsRun}
 use Rattle.raft_table.specs.KeyValues.{Stored}
 use Rattle.raft_table.specs.Overlay.{overlay, overlaid_table}
-use Rattle.raft_table.specs.Steps.{Step, Compact, AreSteps, table_of}
+use Rattle.raft_table.specs.Steps.{Step, AreSteps, table_of}
 use Rattle.raft_table.specs.Table.{Table}
-use Rattle.raft_table.specs.TableEntries.{AreTableEntries, start_of}
+use Rattle.raft_table.specs.TableEntries.{AreTableEntries}
 use Rattle.raft_table.proofs.MarkEntries.{same_some}
 use Rattle.raft_table.proofs.MarkRuns.{no_table, table_after}
 use Rattle.raft_history.specs.Batches.{Event, batches}
@@ -24,7 +24,7 @@ use Rattle.raft_engine_laws.specs.MarksTold.{IsToldNowOrLater}
 use Rattle.raft_engine_laws.specs.NextBatches.{IsRewrittenNext}
 use Rattle.raft_engine_laws.specs.Records.{Records, entries_told, after_changes, live, HasRecords, HaveRecords}
 use Rattle.raft_engine_laws.specs.Stops.{Deed, Write, Sync, Stop, written, deleted, MayStand, in_files_from, IsLeft, IsNextIn, LoseNothing, IsSafe}
-use Rattle.raft_engine_laws.specs.Telling.{AreRemovals, SayAllAtOpening, SayEnoughAtOpening}
+use Rattle.raft_engine_laws.specs.Telling.{AreRemovals, SayEnoughAtOpening}
 use Rattle.raft_engine_laws.proofs.BaseRecords as before
 use Rattle.raft_engine_laws.proofs.BothTables.{both_records}
 use Rattle.raft_engine_laws.proofs.FoundTables.{kept_found}
@@ -34,13 +34,16 @@ use Rattle.raft_engine_laws.proofs.RecordLemmas.{found_have}
 use Rattle.raft_engine_laws.proofs.Reopened.{all_steps}
 use Rattle.raft_engine_laws.proofs.SameRecords.{HasRecordsOf}
 use Rattle.raft_engine_laws.proofs.StopLemmas.{all_from}
-use Rattle.raft_engine_laws.proofs.UnspokenLemmas.{unspoken_same}
 
 -- where no file is deleted, all is left that stands
 all_left : (q : LogQueue) (deeds : List Deed) (h k : List Event) (n : ℕ) → FilesFrom q 0 h → deleted deeds ≡ 0 → n ≤ deleted deeds → k ≡ h → in_files_from n k ≡ h
 all_left q deeds h k n files none low same =
     let zero : n ≡ 0 = omega (arith, none, low) in
     ap (in_files_from n) same ∙ ap (λ i. in_files_from i h) zero ∙ all_from q 0 0 h files (omega arith)
+
+-- what is left of the batches that stood when the machine stopped, of which none are gone, are all of them
+pub left_of_stop : (q : LogQueue) (h standing k : List Event) → FilesFrom q 0 h → IsLeft (Stop h 0 ∷ []) standing k → k ≡ h
+left_of_stop q h standing k files x = x.left ∙ all_left q (Stop h 0 ∷ []) h standing x.gone files refl x.may_go.at_most x.stands
 
 module _ (append rewrite : List Event) (found : Tables) (cleaned : List ℕ) (sound_append : IsSoundIn Append append) (sound_rewrite : IsSoundIn Rewrite rewrite) (apart : Apart rewrite)
     (both : IsReadingOfBoth rewrite append found cleaned) (sound : (r : ℕ) → AreTableEntries (table_of r (finite.get found r)).entries) where
@@ -98,7 +101,7 @@ module _ (append rewrite : List Event) (found : Tables) (cleaned : List ℕ) (so
     }
 
     append_left : (standing a : List Event) → IsLeft (Stop append 0 ∷ []) standing a → a ≡ append
-    append_left standing a x = x.left ∙ all_left Append (Stop append 0 ∷ []) append standing x.gone sound_append.files refl x.may_go.at_most x.stands
+    append_left standing a x = left_of_stop Append append standing a sound_append.files x
 
     -- where all that is left of the rewrite queue goes on, nothing is lost
     loses : (deeds : List Deed) → ((others w : List Event) → IsLeft deeds others w → GoesOn append w (live content (base content) append)) → LoseNothing content (base content) (Stop append 0 ∷ []) deeds
@@ -134,7 +137,7 @@ module _ (append rewrite : List Event) (found : Tables) (cleaned : List ℕ) (so
         to a q e f = subst (λ l. AreKept content l q untold found) (sym e) (subst (λ l. AreKept content append l untold found) (sym f) h)
 
     rewrite_left : (others w : List Event) → IsLeft (Stop rewrite 0 ∷ []) others w → w ≡ rewrite
-    rewrite_left others w x = x.left ∙ all_left Rewrite (Stop rewrite 0 ∷ []) rewrite others x.gone sound_rewrite.files refl x.may_go.at_most x.stands
+    rewrite_left others w x = left_of_stop Rewrite rewrite others w sound_rewrite.files x
 
     pub at_first : LoseNothing content (base content) (Stop append 0 ∷ []) (Stop rewrite 0 ∷ [])
     at_first = loses (Stop rewrite 0 ∷ []) (λ others w x. subst (λ l. GoesOn append l (live content (base content) append)) (sym (rewrite_left others w x)) as_found)
@@ -187,10 +190,3 @@ module _ (append rewrite : List Event) (found : Tables) (cleaned : List ℕ) (so
 
         pub while_told : LoseNothing content (base content) (Stop append 0 ∷ []) (Write e ∷ Stop rewrite 0 ∷ [])
         while_told = while_as [] all_told
-
--- what says all says enough of any rewritten table
-pub says_enough : (kept told : List Step) (rewritten found : Table) → SayAllAtOpening kept told found → SayEnoughAtOpening kept told rewritten found
-says_enough kept told rewritten found h = record {
-  entries = unspoken_same told (kept ++ Compact (start_of found.entries) ∷ []) rewritten.entries h.indexes;
-  pairs = λ key. ap (λ b. cond b None (finite.get rewritten.keys key)) (h.keys key);
-}

@@ -49,7 +49,7 @@ use Rattle.raft_contexts.specs.declared.taken_away.TakenAway.{TakenAway}
 use Rattle.raft_engine_laws.specs.MarksTold.{IsToldByMark, IsToldNowOrLater}
 use Rattle.raft_engine_laws.specs.Speaking.{is_key_dropped}
 use Rattle.raft_engine_laws.specs.TakenTold.{AreBothRead, IsTakenToldByMarks, IsTakenToldNowOrLater}
-use Rattle.raft_engine_laws.specs.Telling.{TakeAway}
+use Rattle.raft_engine_laws.specs.Telling.{AreAllSteps, TakeAway}
 use Rattle.raft_engine_laws.proofs.BothTables.{both_records}
 use Rattle.raft_engine_laws.proofs.MarksTold.{deleted_drop}
 use Rattle.raft_engine_laws.proofs.QueueSteps.{IsBounded, read_bounded, read_places, steps_of_queue, steps_placed}
@@ -380,3 +380,42 @@ told_by_marks appended rewritten append rewrite read taken is found cleaned both
 
 pub told_each : IsTakenToldNowOrLater
 told_each appended rewritten append rewrite read taken is found cleaned both r = told_now_or_later appended rewritten append rewrite read found cleaned both r taken is
+
+-- ---- items that are steps
+
+step_given : (region : ℕ) (s : Step) → IsTellable s → AreAllSteps (item_of_step region s)
+step_given region (Compact i) h = ((λ e. absurd cc), tt)
+step_given region (Truncate i) h = ((λ e. absurd cc), tt)
+step_given region Clean h = ((λ e. absurd cc), tt)
+step_given region (Del key) h = ((λ e. go (is_reserved key) h e), tt)
+  where
+    go : (b : Bool) → b ≡ false → cond b None (Some (Del key)) ≡ None → ⊥
+    go true e none = false≢true (sym e)
+    go false e none = absurd cc
+step_given region (Run run) h = absurd h
+step_given region (Put key value file) h = absurd h
+step_given region (AtomicGroup a b) h = absurd h
+
+given-append : (a b : List Item) → AreAllSteps a → AreAllSteps b → AreAllSteps (a ++ b)
+given-append [] b h k = k
+given-append (item ∷ a) b h k = (h.0, given-append a b h.1 k)
+
+steps_given : (region : ℕ) (ss : List Step) → AreTellable ss → AreAllSteps (items_of_steps region ss)
+steps_given region [] h = tt
+steps_given region (s ∷ ss) h = given-append (item_of_step region s) (items_of_steps region ss) (step_given region s h.0) (steps_given region ss h.1)
+
+tables_given : (append : MarkedRegions) → ((r : ℕ) (key : List ℕ) → finset.contains (region_in append r).mark.deleted key ≡ true → is_reserved key ≡ false)
+    → (ts : List Table) → AreAllSteps (flat_map (items_of_table steps_at_once append) ts)
+tables_given append unreserved [] = tt
+tables_given append unreserved (t ∷ ts) =
+    given-append (items_of_table steps_at_once append t) (flat_map (items_of_table steps_at_once append) ts)
+    (steps_given t.region_id (steps_at_once (region_in append t.region_id).mark (first_in append t.region_id) t)
+    (at_once_tells (region_in append t.region_id).mark t (unreserved t.region_id) (first_in append t.region_id)))
+    (tables_given append unreserved ts)
+
+pub taken_in_steps : (appended rewritten : RecoverContext) (append rewrite : List Event) → AreBothRead appended rewritten append rewrite
+    → (taken : TakenAway) → IsTakenAway appended.context.regions rewritten.context.regions.tables taken
+    → (found : Tables) (cleaned : List ℕ) → IsReadingOfBoth rewrite append found cleaned → AreAllSteps taken.at_once.items
+taken_in_steps appended rewritten append rewrite read taken is found cleaned both =
+    subst (λ (b : Batch). AreAllSteps b.items) (sym is.at_once)
+    (tables_given appended.context.regions (λ r. plain appended rewritten append rewrite read found cleaned both r) is.tables)

@@ -10,12 +10,12 @@ use Rattle.raft_table.specs.Marks.{Mark, entries_within}
 use Rattle.raft_table.specs.Overlay.{IsExactMark, greatest_compaction, has_clean, is_unjoined, least_cut, overlay, rewritten_within}
 use Rattle.raft_table.specs.Steps.{Step, Compact, AreSteps, after, table_of}
 use Rattle.raft_table.specs.Table.{Table}
-use Rattle.raft_table.specs.TableEntries.{start_of}
+use Rattle.raft_table.specs.TableEntries.{from, start_of}
 use Rattle.raft_contexts.specs.TakenAway.{first_of, front_told, is_apart_at, is_front_dropped, stays_under, steps_at_once, steps_later, takes_of, told_by_mark}
 use Rattle.raft_engine_laws.specs.MarksTold.{IsToldNowOrLater, Joins, told_at_once}
 use Rattle.raft_engine_laws.specs.Speaking.{unspoken}
 use Rattle.raft_engine_laws.specs.Telling.{AreRemovals, SayEnoughAtOpening}
-use Rattle.raft_engine_laws.proofs.OpenedEntries.{all_from, from_first, told_is}
+use Rattle.raft_engine_laws.proofs.OpenedEntries.{all_from, from_first, lie_in_front, told_is}
 use Rattle.raft_engine_laws.proofs.SpokenWords.{unspoken_cleaned, unspoken_within}
 use Rattle.raft_engine_laws.proofs.TakenTables.{fewer_removals}
 use Rattle.raft_engine_laws.proofs.ToldTables.{told_later, told_now, told_removals}
@@ -31,9 +31,24 @@ none_within m (e ∷ es) h = go (stays_under m e) h (none_within m es)
     go true h rest = absurd (false≢true (sym h))
     go false h rest = rest h
 
+-- where none is within, none stays
+nothing_stays : (m : Mark) (es : List EntryIndex) → entries_within m.floor m.cut es ≡ [] → list_any (stays_under m) es ≡ false
+unfolding entries_within
+nothing_stays m [] h = refl
+nothing_stays m (e ∷ es) h = go (stays_under m e) h (nothing_stays m es)
+  where
+    go : (b : Bool) → cond b (e ∷ entries_within m.floor m.cut es) (entries_within m.floor m.cut es) ≡ [] → (entries_within m.floor m.cut es ≡ [] → list_any (stays_under m) es ≡ false)
+        → (b || list_any (stays_under m) es) ≡ false
+    go true h rest = absurd cc
+    go false h rest = rest h
+
 and_both : (a b : Bool) → (a && b) ≡ true → (a ≡ true)
 and_both true b h = refl
 and_both false b h = absurd (false≢true h)
+
+and_other : (a b : Bool) → (a && b) ≡ true → b ≡ true
+and_other true b h = h
+and_other false b h = absurd (false≢true h)
 
 and_rest : (a b : Bool) → a ≡ true → (a && b) ≡ false → b ≡ false
 and_rest true b e h = h
@@ -120,14 +135,31 @@ module _ (id : ℕ) (kept : List Step) (own : Option Table) (old found : Table) 
         go (Some first) true e h = absurd (false≢true (sym (ap (λ (b : Bool). cond b false (is_apart_at m.cut first (end_of old.entries) && list_any (stays_under m) old.entries)) e) ∙ h))
         go (Some first) false e h = e
 
+    none_cleaned : has_clean kept ≡ false
+    none_cleaned = sym exact.holds.cleaned ∙ not_cleaned
+
+    unjoined_stay : (is_unjoined (least_cut kept) (end_of old.entries) own_entries && list_any (stays_under m) old.entries) ≡ true
+    unjoined_stay = go own_entries refl dropped
+      where
+        go : (o : List EntryIndex) → own_entries ≡ o → is_front_dropped m (first_of o) old ≡ true → (is_unjoined (least_cut kept) (end_of old.entries) own_entries && list_any (stays_under m) old.entries) ≡ true
+        go [] there h = absurd (false≢true h)
+        go (e ∷ rest) there h = sym (dropped_is not_cleaned rest e there) ∙ dropped
+
+    unjoined : is_unjoined (least_cut kept) (end_of old.entries) own_entries ≡ true
+    unjoined = and_both _ _ unjoined_stay
+
     found_is : found.entries ≡ own_entries
     found_is =
-        same ∙ ap (λ (b : Bool). cond b own_entries (rewritten_within (greatest_compaction kept) (least_cut kept) own_entries old.entries ++ own_entries)) (sym exact.holds.cleaned ∙ not_cleaned)
-        ∙ ap (λ (b : Bool). cond b [] (entries_within (greatest_compaction kept) (least_cut kept) old.entries) ++ own_entries) (go own_entries refl dropped)
-      where
-        go : (o : List EntryIndex) → own_entries ≡ o → is_front_dropped m (first_of o) old ≡ true → is_unjoined (least_cut kept) (end_of old.entries) own_entries ≡ true
-        go [] there h = absurd (false≢true h)
-        go (e ∷ rest) there h = and_both (is_unjoined (least_cut kept) (end_of old.entries) own_entries) (list_any (stays_under m) old.entries) (sym (dropped_is not_cleaned rest e there) ∙ dropped)
+        same ∙ ap (λ (b : Bool). cond b own_entries (rewritten_within (greatest_compaction kept) (least_cut kept) own_entries old.entries ++ own_entries)) none_cleaned
+        ∙ ap (λ (b : Bool). cond b [] (entries_within (greatest_compaction kept) (least_cut kept) old.entries) ++ own_entries) unjoined
+
+    -- what stays lies in front of what was found
+    not_joined : Joins kept old found → ⊥
+    not_joined joins =
+        let none : left ≡ [] =
+        sym joins ∙ told_is id kept own old.entries good is run (start_of found.entries) ∙ ap (λ (l : List EntryIndex). from (start_of l) left) found_is
+        ∙ lie_in_front id kept own old.entries good is run none_cleaned own_entries refl (least_cut kept) refl unjoined in
+        false≢true (sym (nothing_stays m old.entries (within none_cleaned ∙ none)) ∙ and_other _ _ unjoined_stay)
 
     front_is : front_told (first_of own_entries) old ≡ filter (takes_of old) (Compact (start_of found.entries) ∷ [])
     front_is = go own_entries refl dropped ∙ ap (λ (l : List EntryIndex). filter (takes_of old) (Compact (start_of l) ∷ [])) (sym found_is)
@@ -154,3 +186,11 @@ module _ (id : ℕ) (kept : List Step) (own : Option Table) (old found : Table) 
         none = refl;
       })
       go false e = inr (refl, told_later m old kept exact found (joins e))
+
+  -- where none is left in front of what was found, nothing is told at once
+  pub none_at_once : Joins kept old found → steps_at_once m (first_of own_entries) old ≡ []
+  none_at_once joined = go (is_front_dropped m (first_of own_entries) old) refl
+    where
+      go : (b : Bool) → is_front_dropped m (first_of own_entries) old ≡ b → cond b (told_by_mark m old ++ front_told (first_of own_entries) old) [] ≡ []
+      go true e = absurd (not_joined e joined)
+      go false e = refl

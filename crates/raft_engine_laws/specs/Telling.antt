@@ -1,5 +1,5 @@
 -- What the rewrite queue is told: steps that take away what untold steps take away, and put nothing.
-use Rattle.std.specs.Prelude.{◌≡◌, ℕ, Bool, true, false, List, [], ◌∷◌, ◌++◌, filter, flat_map, None, nat_lt}
+use Rattle.std.specs.Prelude.{◌≡◌, ◌≢◌, ℕ, Bool, true, false, List, [], ◌∷◌, ◌++◌, filter, flat_map, None, nat_lt}
 use Rattle.std.specs.FinMap as finite
 use Rattle.std.specs.List.{AllByRecursion}
 use Rattle.raft_base.specs.declared.entry_index.EntryIndex.{EntryIndex}
@@ -11,7 +11,7 @@ use Rattle.raft_base.specs.Runs.{end_of}
 use Rattle.raft_table.specs.Steps.{Step, Run, Compact, Truncate, Put, Del, AtomicGroup, Clean, table_of}
 use Rattle.raft_table.specs.Table.{Table}
 use Rattle.raft_table.specs.TableEntries.{start_of}
-use Rattle.raft_history.specs.RegionSteps.{RegionStep, Tables}
+use Rattle.raft_history.specs.RegionSteps.{RegionStep, Tables, content_step}
 use Rattle.raft_engine_laws.specs.Speaking.{is_index_spoken, unspoken, AreCovered, is_key_dropped, pair_left}
 
 -- a step that takes away and puts nothing
@@ -36,11 +36,6 @@ pub record SayEnough (untold fewer : List Step) (es : List EntryIndex) : Type 0 
   pub covers : AreCovered fewer untold
   pub entries : unspoken fewer es ≡ unspoken untold es
   pub keys : (key : List ℕ) → is_key_dropped fewer key ≡ is_key_dropped untold key
-
--- what is told when files are opened: what the append files' steps on a region take away, and, as a compaction, what lies in front of the entries that were found
-pub record SayAllAtOpening (kept told : List Step) (found : Table) : Type 0 where
-  pub indexes : (i : ℕ) → is_index_spoken told i ≡ is_index_spoken (kept ++ Compact (start_of found.entries) ∷ []) i
-  pub keys : (key : List ℕ) → is_key_dropped told key ≡ is_key_dropped kept key
 
 -- what is told says enough of the rewritten table that was read alone: of its entries and pairs it takes away what the append files' steps on the region do, and what lies in front of the entries that were found
 pub record SayEnoughAtOpening (kept told : List Step) (rewritten found : Table) : Type 0 where
@@ -112,3 +107,7 @@ TakesAway (pair p) = p.op_type ≡ operations.Del
 -- each item is such a one
 abbrev pub TakeAway : List Item → Type 0
 TakeAway items = AllByRecursion (λ (item : Item). TakesAway item.content) items
+
+-- each item is a step of its region
+abbrev pub AreAllSteps : List Item → Type 0
+AreAllSteps items = AllByRecursion (λ (item : Item). content_step item.content ≢ None) items

@@ -6,6 +6,7 @@ ghost use Rattle.raft_base.specs.declared.pipe_log.LogQueue.TheVariants.{Append,
 ghost use Rattle.raft_history.specs.Batches.{Event, batches};
 ghost use Rattle.raft_history.specs.BothQueues.{IsReadingOfBoth};
 ghost use Rattle.raft_base.specs.declared.entry_index.EntryIndex.{EntryIndex};
+ghost use Rattle.raft_records.specs.Item.{Item};
 ghost use Rattle.raft_contexts.specs.RecoverContext.{HasRead, RecoverContext};
 ghost use Rattle.raft_history.specs.Contexts.{Suits};
 ghost use Rattle.raft_history.specs.MarkedRegions.{region_in};
@@ -21,11 +22,11 @@ ghost use Rattle.raft_table.specs.Steps.{Step, Run, Compact, Truncate, table_of}
 ghost use Rattle.raft_table.specs.Table.{Table};
 ghost use Rattle.raft_engine_laws.specs.KeptTables.{AreKept};
 ghost use Rattle.raft_contexts.specs.TakenAway.{told_by_mark};
-ghost use Rattle.raft_engine_laws.specs.MarksTold.{Joins, MayBeToldLater, told_at_once};
+ghost use Rattle.raft_engine_laws.specs.MarksTold.{IsToldByMark, Joins, MayBeToldLater, told_at_once};
 ghost use Rattle.raft_engine_laws.specs.GroupsInRows.{AreGroupsInRows};
 ghost use Rattle.raft_engine_laws.specs.RowSummaries.{Summary, FirstMayStand, IsSummaryOf, AreJoined};
 ghost use Rattle.raft_engine_laws.specs.TakenTold.{AreFoundTables, DoesTakenTakeAway, IsTakenToldByMarks, IsTakenToldNowOrLater};
-ghost use Rattle.raft_engine_laws.specs.Telling.{AreRemovals, SayEnoughAtOpening};
+ghost use Rattle.raft_engine_laws.specs.Telling.{AreAllSteps, AreRemovals, SayEnoughAtOpening};
 
 /// States that once the rewrite queue was told what an opening tells, the next opening of the same append files has nothing to tell.
 pub fn a_second_opening_needs_to_tell_nothing()
@@ -73,12 +74,20 @@ pub fn row_summaries_are_joined()
     ensures whole { (s : Summary) (h : List Event) → IsSummaryOf s h → (FirstMayStand s.first None × (s.inner ≡ true)) ↔ AreGroupsInRows h }
 {}
 
-/// States that of files that keep tables, as those of an engine, nothing was dropped in front of what is found: so all may be told later.
+/// States that of files that keep tables, as those of an engine, nothing was dropped in front of what is found: so all may be told later,
+/// and of files of which nothing was, whoever wrote them, nothing is told at once.
 pub fn own_files_may_be_told_later()
-    ensures { (content : EntryIndex → List ℕ) (append rewrite : List Event) (untold : List RegionStep) (tables found : Tables) (cleaned : List ℕ)
+    ensures joins { (content : EntryIndex → List ℕ) (append rewrite : List Event) (untold : List RegionStep) (tables found : Tables) (cleaned : List ℕ)
         → AreKept content append rewrite untold tables
         → (both : IsReadingOfBoth rewrite append found cleaned) → (r : ℕ)
         → Joins (steps_of r (batches append)) (table_of r (finite.get both.rewritten r)) (table_of r (finite.get found r)) }
+    ensures at_once { (append rewrite : List Event) (found : Tables) (cleaned : List ℕ)
+        → IsSoundIn Append append → IsSoundIn Rewrite rewrite
+        → (both : IsReadingOfBoth rewrite append found cleaned)
+        → ((r : ℕ) → Joins (steps_of r (batches append)) (table_of r (finite.get both.rewritten r)) (table_of r (finite.get found r)))
+        → (items : List Item) → AreAllSteps items → (untold : ℕ → List Step)
+        → ((r : ℕ) → IsToldByMark (steps_of r (batches append)) (steps_on r (steps_of_items items)) (untold r) (table_of r (finite.get both.appended r)) (table_of r (finite.get both.rewritten r)))
+        → items ≡ [] }
 {}
 
 /// States that what a context of the append queue takes away of the tables of one of the rewrite queue is told of each region as its

@@ -19,7 +19,7 @@ ghost use Rattle.raft_engine_laws.specs.MarksTold.{IsToldNowOrLater};
 ghost use Rattle.raft_engine_laws.specs.Moving.{AreRecordsMoved, IsMovingBatch, MoveAgain};
 ghost use Rattle.raft_engine_laws.specs.Records.{Records, no_base, live, HaveRecords};
 ghost use Rattle.raft_engine_laws.specs.Stops.{Deed, Write, Sync, Delete, Stop, written, synced, MayStand, MayBeGone, in_files_from, AreInFileOf, FilesEndNoOlderGroup, IsSynced, IsLeft, IsNextIn, LoseNothing, IsSafe};
-ghost use Rattle.raft_engine_laws.specs.Telling.{AreRemovals, SayAllAtOpening, SayEnough, SayEnoughAtOpening, SayTheSame, taking_steps};
+ghost use Rattle.raft_engine_laws.specs.Telling.{AreRemovals, SayEnough, SayEnoughAtOpening, SayTheSame, taking_steps};
 
 /// States what is found whenever the machine stops: whatever is left of both queues, each by itself, can be read, and
 /// the reading of both has the records of the batches that stand of the append queue. These are all that were synced
@@ -184,28 +184,6 @@ pub fn restarting_is_safe()
 pub fn opening_is_safe()
     ensures told { (append rewrite : List Event) (found : Tables) (cleaned : List ℕ) (e : Event)
         → IsSoundIn Append append → IsSoundIn Rewrite rewrite → Apart rewrite
-        → IsReadingOfBoth rewrite append found cleaned
-        → ((r : ℕ) → AreTableEntries (table_of r (finite.get found r)).entries)
-        → IsNextIn Rewrite (Stop rewrite 0 ∷ []) e → HasNoMarker e
-        → ((r : ℕ) → AreRemovals (steps_on r (steps_of_items e.items)))
-        → ((r : ℕ) → SayAllAtOpening (steps_of r (batches append)) (steps_on r (steps_of_items e.items)) (table_of r (finite.get found r)))
-        → (base : (EntryIndex → List ℕ) → ℕ → Records)
-        × ((content : EntryIndex → List ℕ)
-        → IsSafe content (base content) (Stop append 0 ∷ []) (Sync ∷ Write e ∷ Stop rewrite 0 ∷ []) [] found)
-        × ((content : EntryIndex → List ℕ)
-        → LoseNothing content (base content) (Stop append 0 ∷ []) (Write e ∷ Stop rewrite 0 ∷ []))
-        × ((content : EntryIndex → List ℕ)
-        → LoseNothing content (base content) (Stop append 0 ∷ []) (Stop rewrite 0 ∷ [])) }
-    ensures nothing { (append rewrite : List Event) (found : Tables) (cleaned : List ℕ)
-        → IsSoundIn Append append → IsSoundIn Rewrite rewrite → Apart rewrite
-        → IsReadingOfBoth rewrite append found cleaned
-        → ((r : ℕ) → AreTableEntries (table_of r (finite.get found r)).entries)
-        → ((r : ℕ) → SayAllAtOpening (steps_of r (batches append)) [] (table_of r (finite.get found r)))
-        → (base : (EntryIndex → List ℕ) → ℕ → Records)
-        × ((content : EntryIndex → List ℕ)
-        → IsSafe content (base content) (Stop append 0 ∷ []) (Stop rewrite 0 ∷ []) [] found) }
-    ensures told_enough { (append rewrite : List Event) (found : Tables) (cleaned : List ℕ) (e : Event)
-        → IsSoundIn Append append → IsSoundIn Rewrite rewrite → Apart rewrite
         → (both : IsReadingOfBoth rewrite append found cleaned)
         → ((r : ℕ) → AreTableEntries (table_of r (finite.get found r)).entries)
         → IsNextIn Rewrite (Stop rewrite 0 ∷ []) e → HasNoMarker e
@@ -218,7 +196,7 @@ pub fn opening_is_safe()
         → LoseNothing content (base content) (Stop append 0 ∷ []) (Write e ∷ Stop rewrite 0 ∷ []))
         × ((content : EntryIndex → List ℕ)
         → LoseNothing content (base content) (Stop append 0 ∷ []) (Stop rewrite 0 ∷ [])) }
-    ensures nothing_needed { (append rewrite : List Event) (found : Tables) (cleaned : List ℕ)
+    ensures nothing { (append rewrite : List Event) (found : Tables) (cleaned : List ℕ)
         → IsSoundIn Append append → IsSoundIn Rewrite rewrite → Apart rewrite
         → (both : IsReadingOfBoth rewrite append found cleaned)
         → ((r : ℕ) → AreTableEntries (table_of r (finite.get found r)).entries)

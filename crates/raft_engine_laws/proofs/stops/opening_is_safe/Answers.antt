@@ -4,33 +4,19 @@ use Rattle.raft_table.specs.Steps.{table_of}
 use Rattle.raft_history.specs.Batches.{batches}
 use Rattle.raft_history.specs.Effects.{steps_of}
 use Rattle.raft_history.specs.RegionSteps.{steps_on, steps_of_items}
-use Rattle.raft_engine_laws.proofs.SafeOpenings.{base, safe_told, while_told, at_first, safe_at_once, safe_later, safe_mixed, while_mixed, says_enough}
+use Rattle.raft_engine_laws.proofs.SafeOpenings.{base, safe_told, while_told, at_first, safe_at_once, safe_later, safe_mixed, while_mixed}
 use Rattle.raft_engine_laws.proofs.stops.opening_is_safe.Goals as goal
 
 pub returns-clause-told : goal.returns-clause-told
 returns-clause-told c = λ append rewrite found cleaned e sound_append sound_rewrite apart both sound next plain removals told. (
-  base append rewrite found cleaned sound_append sound_rewrite apart both sound,
-  λ content. safe_told append rewrite found cleaned sound_append sound_rewrite apart both sound content e next plain removals (λ r. says_enough (steps_of r (batches append)) (steps_on r (steps_of_items e.items)) (table_of r (finite.get both.rewritten r)) (table_of r (finite.get found r)) (told r)),
-  λ content. while_told append rewrite found cleaned sound_append sound_rewrite apart both sound content e next plain removals (λ r. says_enough (steps_of r (batches append)) (steps_on r (steps_of_items e.items)) (table_of r (finite.get both.rewritten r)) (table_of r (finite.get found r)) (told r)),
-  λ content. at_first append rewrite found cleaned sound_append sound_rewrite apart both sound content,
-)
-
-pub returns-clause-nothing : goal.returns-clause-nothing
-returns-clause-nothing c = λ append rewrite found cleaned sound_append sound_rewrite apart both sound none. (
-  base append rewrite found cleaned sound_append sound_rewrite apart both sound,
-  λ content. safe_at_once append rewrite found cleaned sound_append sound_rewrite apart both sound content (λ r. says_enough (steps_of r (batches append)) [] (table_of r (finite.get both.rewritten r)) (table_of r (finite.get found r)) (none r)),
-)
-
-pub returns-clause-told_enough : goal.returns-clause-told_enough
-returns-clause-told_enough c = λ append rewrite found cleaned e sound_append sound_rewrite apart both sound next plain removals told. (
   base append rewrite found cleaned sound_append sound_rewrite apart both sound,
   λ content. safe_told append rewrite found cleaned sound_append sound_rewrite apart both sound content e next plain removals told,
   λ content. while_told append rewrite found cleaned sound_append sound_rewrite apart both sound content e next plain removals told,
   λ content. at_first append rewrite found cleaned sound_append sound_rewrite apart both sound content,
 )
 
-pub returns-clause-nothing_needed : goal.returns-clause-nothing_needed
-returns-clause-nothing_needed c = λ append rewrite found cleaned sound_append sound_rewrite apart both sound none. (
+pub returns-clause-nothing : goal.returns-clause-nothing
+returns-clause-nothing c = λ append rewrite found cleaned sound_append sound_rewrite apart both sound none. (
   base append rewrite found cleaned sound_append sound_rewrite apart both sound,
   λ content. safe_at_once append rewrite found cleaned sound_append sound_rewrite apart both sound content none,
 )

@@ -1,9 +1,9 @@
 #!/usr/bin/env bash
 # The full check: `rt ci`, then what it can't look at: words that aren't UTF-8, `recover --plain`, a scan of a sound file, the frames of
 # `raftlog` on the stack, runs with little stack, crashes of more histories, writes of `raft_example` that fail half way, where there is a C
-# compiler some rows with memory refused, and where there is cargo the tests of rust/; first of all whether docs/BELIEVE.md and
-# docs/CALLS.md are what the definitions and the sources say, the declarations of the Rust crate what the exports are, and whether
-# each wrong body can be applied. The last line is that of `rt ci`, 'N passed, M failed'.
+# compiler the rows of `raft_refusals` with memory and starts of threads refused, and where there is cargo the tests of rust/; first of all
+# whether docs/BELIEVE.md and docs/CALLS.md are what the definitions and the sources say, the declarations of the Rust crate what the
+# exports are, and whether each wrong body can be applied. The last line is that of `rt ci`, 'N passed, M failed'.
 set -euo pipefail
 cd "$(dirname "$0")/.."
 program=crates/raftlog/out/raftlog
@@ -69,7 +69,7 @@ step "failed writes"
 tools/short_writes.py
 step "refused memory"
 if command -v cc > "$room/compiler"; then
-  tools/refused_memory.py --rows-alone --every 5 --row batches --row tables --row contexts --row take --row shared --row shared-take
+  tools/refused_memory.py --rows-alone --every 5
 fi
 step "the archive of raft_ffi, and the tests of rust/"
 if cargo --version > "$room/cargo" 2>&1; then

@@ -1,11 +1,6 @@
 -- How many records of plain regions are live, and where the least file is.
-use Rattle.std.proofs.Common.{◌≡◌, ◌≤◌, ◌+◌, Bool, true, false, cond, List, [], ◌∷◌, ℕ, Option, Some, None, refl, sym, ap, ◌∙◌, map, filter, length, arith}
-use Rattle.std.specs.BTreeMap.{BTreeMap, IsOrdered}
-use Rattle.std.specs.Cmp.Lexicographic.{slice_cmp}
+use Rattle.std.proofs.Common.{◌≡◌, ◌+◌, Bool, true, false, cond, List, [], ◌∷◌, ℕ, Option, Some, None, refl, ap, ◌∙◌, map, filter, length, arith}
 use Rattle.std.specs.FinMap as finite
-use Rattle.std.specs.Ordering.{nat_cmp}
-use Rattle.std.specs.declared.alloc.Global.{Global}
-use Rattle.std.specs.declared.vec.Vec.{Vec}
 use Rattle.raft_base.specs.declared.pipe_log.LogQueue.{LogQueue}
 use Rattle.raft_accessor.proofs.TotalSums.{added, live-added}
 use Rattle.raft_accessor.specs.Accessor.{live_in_all}

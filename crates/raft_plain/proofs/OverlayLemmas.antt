@@ -1,16 +1,12 @@
 -- The records of the append queue over those of the rewrite queue, region by region.
-use Rattle.std.proofs.Common.{◌≡◌, ◌≢◌, ◌⊎◌, inl, inr, Bool, true, false, cond, not, ◌||◌, List, [], ◌∷◌, ◌++◌, ℕ, Option, Some, None, refl, sym, ap, subst, ◌∙◌, map, append-nil}
-use Rattle.std.proofs.lemmas.Map.Keys.{sorted_head, sorted_tail}
-use Rattle.std.specs.Cmp.{nat_cmp_total}
+use Rattle.std.proofs.Common.{◌≡◌, ◌⊎◌, inl, inr, Bool, true, false, cond, not, ◌||◌, List, [], ◌∷◌, ◌++◌, ℕ, Option, Some, None, refl, sym, ap, subst, ◌∙◌, append-nil}
 use Rattle.std.specs.Cmp.Lexicographic.{nat_list_cmp_total, slice_cmp}
 use Rattle.std.specs.FinMap as finite
 use Rattle.std.specs.FinSet as finset
-use Rattle.std.specs.Map.{lookup}
 use Rattle.std.specs.Option.{option_map}
 use Rattle.std.specs.Ordering.{eq_by_cmp, nat_cmp}
 use Rattle.std.specs.Prelude.{is_some}
 use Rattle.raft_base.specs.declared.entry_index.EntryIndex.{EntryIndex}
-use Rattle.raft_base.specs.Runs.{end_of}
 use Rattle.raft_table.proofs.KeyValueReads.{pairs_over-empty}
 use Rattle.raft_table.proofs.MarkExact.{union_assoc, union_empty, union_one}
 use Rattle.raft_table.proofs.MarkTables.{get-without, same_keys}
@@ -20,7 +16,7 @@ use Rattle.raft_table.specs.KeySets.{KeySet, without}
 use Rattle.raft_table.specs.KeyValues.{Keys, pairs_over}
 use Rattle.raft_table.specs.KeyValues as table
 use Rattle.raft_table.specs.Overlay.{deleted_of, greatest_compaction, has_clean, kept_if, least_cut, overlaid_table, overlay, rewritten_within}
-use Rattle.raft_table.specs.Steps.{Step, Run, Compact, Truncate, Put, Del, AtomicGroup, Clean, table_of, after}
+use Rattle.raft_table.specs.Steps.{Step, Run, Compact, Truncate, Put, Del, AtomicGroup, Clean, table_of}
 use Rattle.raft_table.specs.Table.{Table, empty_table}
 use Rattle.raft_history.proofs.MapLemmas.{IsOther, by_region, get_gone, get_left, with_own, with_other}
 use Rattle.raft_history.proofs.OptionLemmas.{no_both}

@@ -1,5 +1,5 @@
 -- Where the reading of a part stopped.
-use Rattle.std.proofs.Common.{List, [], ◌∷◌, ◌++◌, inl, inr, ◌⊎◌, refl, sym, ap, subst, ◌∙◌, ◌≡◌, ◌≢◌, ◌+◌, ◌<◌, ◌≤◌, ℕ, length, arith}
+use Rattle.std.proofs.Common.{List, [], ◌∷◌, ◌++◌, inl, inr, ◌⊎◌, refl, sym, ap, subst, ◌∙◌, ◌≡◌, ◌≢◌, ◌+◌, ◌<◌, ℕ, length, arith}
 use Rattle.raft_base.specs.declared.errors.Error.{Error}
 use Rattle.raft_base.specs.declared.errors.Error.TheVariants as errors
 use Rattle.raft_base.specs.declared.pipe_log.LogQueue.{LogQueue}
@@ -11,7 +11,6 @@ use Rattle.raft_history.specs.Histories.{IsSmall, Sound}
 use Rattle.raft_history.specs.ReplayMachine.{event}
 use Rattle.raft_history.proofs.StretchOfHistory.{small_front}
 use Rattle.raft_replay.specs.Replays.{HasReplayed}
-use Rattle.raft_replay.specs.Segments.{HoldsFrom}
 use Rattle.raft_replay.specs.Stops.{history_in, GoneOn, IsUnreadableAt, CannotFollowAt, StopsIn, StopsAmong, IsNothing, IsPlaced}
 use Rattle.raft_replay.proofs.ReplayedLemmas.{none_replayed, replayed_more, replayed_as}
 use Rattle.raft_replay.proofs.StopLemmas.{IsFront, longer_front, front_held, stops_after}

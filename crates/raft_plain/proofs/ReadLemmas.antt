@@ -1,13 +1,13 @@
 -- A reading goes on with a batch, or can't.
-use Rattle.std.proofs.Common.{List, [], ◌∷◌, ◌++◌, Option, Some, None, refl, sym, ap, subst, ◌∙◌, ◌≡◌, ◌≤◌, ◌<◌, ℕ, append-nil, arith, map}
+use Rattle.std.proofs.Common.{List, [], ◌∷◌, ◌++◌, Some, None, refl, sym, ap, subst, ◌∙◌, ◌≡◌, ◌≤◌, ◌<◌, ℕ, append-nil, arith, map}
 use Rattle.std.proofs.lemmas.List.Concat.{flat_map-append}
-use Rattle.std.specs.List.{AllByRecursion, flat_map}
+use Rattle.std.specs.List.{AllByRecursion}
 use Rattle.std.specs.Option.{option_and_then}
 use Rattle.std.specs.Ordering.{nat_cmp}
 use Rattle.std.specs.FinMap as finite
 use Rattle.raft_base.specs.declared.pipe_log.FileId.{FileId}
 use Rattle.raft_base.specs.declared.pipe_log.LogQueue.{LogQueue}
-use Rattle.raft_base.specs.declared.pipe_log.LogQueue.TheVariants.{Append, Rewrite}
+use Rattle.raft_base.specs.declared.pipe_log.LogQueue.TheVariants.{Append}
 use Rattle.raft_records.specs.DecodedIn.{AreDecodedIn}
 use Rattle.raft_records.specs.Item.{Item}
 use Rattle.raft_table.proofs.MarkLaws.{after-append}
@@ -18,7 +18,7 @@ use Rattle.raft_history.proofs.ReadItemLemmas.{items_in_file}
 use Rattle.raft_history.proofs.ReadingLemmas.{reading_by_region, reading_refused}
 use Rattle.raft_history.proofs.StepListLemmas.{own-append}
 use Rattle.raft_history.proofs.SoundLemmas.{batches-append, cleaned-append, files-append, files-back, in_files-append, status-append}
-use Rattle.raft_history.specs.Batches.{Event, BatchSteps, GroupMarker, batches, marker_in}
+use Rattle.raft_history.specs.Batches.{Event, BatchSteps, batches, marker_in}
 unfoldable use Rattle.raft_history.specs.Effects.{effects_behind, markers_of, open_stretch}
 use Rattle.raft_history.specs.Effects.{steps_of}
 use Rattle.raft_history.specs.Histories.{HaveStatus, IsSoundIn, Sound, cleaned_in, last_from}

@@ -17,7 +17,7 @@ use Rattle.raft_history.specs.Batches.{Event, batches}
 use Rattle.raft_history.specs.Effects.{is_named, steps_of}
 use Rattle.raft_history.specs.Histories.{IsOneReading, cleaned_in}
 use Rattle.raft_history.specs.RegionStepShown.{region_step_shown}
-use Rattle.raft_history.specs.RegionSteps.{Tables, cleaned_by_steps, steps_on}
+use Rattle.raft_history.specs.RegionSteps.{Tables, cleaned_by_steps}
 use Rattle.raft_accessor.specs.Accessor.{live_in_all}
 use Rattle.raft_recover.specs.Recovery.{AreBothRecovered, IsRecovered}
 use Rattle.raft_plain.specs.declared.reading.Reading.{Reading}

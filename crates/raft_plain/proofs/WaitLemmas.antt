@@ -1,5 +1,5 @@
 -- Stretches that wait, and regions, one taken out and put back.
-use Rattle.std.proofs.Common.{Bool, true, false, cond, List, Option, Some, None, refl, sym, ap, ◌∙◌, ◌≡◌, ℕ}
+use Rattle.std.proofs.Common.{Bool, true, false, cond, Option, Some, None, refl, sym, ap, ◌∙◌, ◌≡◌, ℕ}
 use Rattle.std.specs.BTreeMap.{BTreeMap, IsOrdered, insert_entry, is_at}
 use Rattle.std.specs.Cmp.{nat_cmp_total}
 use Rattle.std.specs.FinMap as finite

@@ -2,6 +2,7 @@
 pub use Rattle.std.specs.BTreeMap.{IsOrdered}
 pub use Rattle.std.specs.Io.KnownBytes.{Keeps}
 pub use Rattle.std.specs.Ordering.{nat_cmp}
+pub use Rattle.raft_base.specs.Errors.{IsInvalidArgument}
 pub use Rattle.raft_base.specs.Runs.{end_of}
 pub use Rattle.raft_base.specs.declared.pipe_log.LogQueue.TheVariants.{Append, Rewrite}
 pub use Rattle.raft_records.specs.Group.{first_marker}
@@ -35,5 +36,6 @@ pub use Rattle.raft_reading.specs.QueueRead.{whole_file}
 pub use Rattle.raft_recover.specs.Recovery.{AreBothRecovered, IsRecovered}
 pub use Rattle.raft_recover.specs.TableLines.{IsTextOfTables, PrintsTables, PrintsFrontOfTables, cleaned_line, live_line, range_text, seq_text, table_line}
 pub use Rattle.raft_plain.specs.Overlaid.{AreOverlaid, all_tables, recovered_shown}
+pub use Rattle.raft_plain.specs.Parts.{ArePartsOf}
 pub use Rattle.raft_plain.specs.Plain.{keys_shown, table_shown, tables_shown}
 pub use Rattle.raft_plain.specs.Readings.{HasRead, IsReadOf}

@@ -3,8 +3,6 @@ use Rattle.std.specs.Prelude.{◌≡◌, ℕ, List, map}
 use Rattle.std.specs.BTreeMap.{BTreeMap}
 use Rattle.std.specs.FinMap as finite
 use Rattle.raft_table.specs.Overlay.{overlaid_table}
-use Rattle.raft_table.specs.StepShown.{step_shown}
-use Rattle.raft_table.specs.Steps.{Step}
 use Rattle.raft_table.specs.Table.{Table}
 use Rattle.raft_history.specs.RegionSteps.{RegionStep, Tables, steps_on}
 use Rattle.raft_accessor.specs.Accessor.{Accessor}

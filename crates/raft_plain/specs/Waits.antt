@@ -1,5 +1,5 @@
 -- Waiting stretches as the map that they are.
-use Rattle.std.specs.Prelude.{ℕ, List, map}
+use Rattle.std.specs.Prelude.{ℕ, map}
 use Rattle.std.specs.BTreeMap.{BTreeMap}
 use Rattle.std.specs.FinMap as finite
 use Rattle.raft_history.specs.RegionStepShown.{region_step_shown}

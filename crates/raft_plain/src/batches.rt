@@ -4,8 +4,8 @@ ghost use Rattle.std.specs.Prelude.{◌≡◌, ◌≢◌, ◌++◌, ◌∷◌, [
 ghost use Rattle.raft_plain.specs.Common.{nat_cmp, IsOrdered, AreDecodedIn, event, Event, Sound, HasRead, tables_shown, tables_after, region_step_shown, steps_of_items};
 
 use crate::Reading;
-use crate::groups::{joined, marker_in, taken_in};
-use crate::region::{Regions, after_step, or_new, parted_off, put};
+use crate::groups::{after_marker, join_steps, marker_in};
+use crate::region::{Regions, after_step, or_new, take_region, with_region};
 use raft_base::{AllocResult, Error, FileId, LogQueue, Result};
 use raft_history::RegionStep;
 use raft_records::LogItemBatch;
@@ -31,9 +31,9 @@ pub(crate) fn with_batch(
     }
     let marker = marker_in(alloc, queue, batch.as_slice())?;
     let own = steps_of(alloc, batch)?;
-    let (waiting, effect) = taken_in(alloc, reading.waiting, marker, own, file.seq)?;
+    let (waiting, effect) = after_marker(alloc, reading.waiting, marker, own, file.seq)?;
     let regions = with_steps(alloc, queue, reading.regions, effect.as_slice())?;
-    let steps = joined(reading.steps, effect)?;
+    let steps = join_steps(reading.steps, effect)?;
     let last = file.seq;
     Ok(Reading {
         regions,
@@ -83,7 +83,7 @@ fn with_step(alloc: Global, queue: LogQueue, regions: Regions, step: &RegionStep
     ensures refused { IfErr result (λ e. e ≢ Error.Memory → tables_after queue
         (tables_shown regions) (region_step_shown step.now ∷ []) ≡ None) }
 {
-    let (own, others) = parted_off(regions, step.region);
+    let (own, others) = take_region(regions, step.region);
     let new = after_step(alloc, queue, or_new(alloc, own), &step.step)?;
-    Ok(put(others, step.region, new)?)
+    Ok(with_region(others, step.region, new)?)
 }

@@ -60,7 +60,7 @@ fn first_marker(alloc: Global, items: &[LogItem]) -> Result<Option<(u64, AtomicG
 }
 
 /// Returns the stretches that wait after a batch with this marker, and the steps that take effect with it.
-pub(crate) fn taken_in(
+pub(crate) fn after_marker(
     alloc: Global,
     waiting: Stretches,
     marker: Option<(u64, AtomicGroupStatus)>,
@@ -79,7 +79,7 @@ pub(crate) fn taken_in(
     let Some((group, status)) = marker else {
         return Ok((waiting, steps));
     };
-    let (own, mut others) = group_off(waiting, group);
+    let (own, mut others) = take_stretch(waiting, group);
     match status {
         AtomicGroupStatus::Begin => {
             let first_seq = seq;
@@ -89,7 +89,7 @@ pub(crate) fn taken_in(
         AtomicGroupStatus::Middle => match own {
             Some(stretch) => {
                 let first_seq = stretch.first_seq;
-                let steps = joined(stretch.steps, steps)?;
+                let steps = join_steps(stretch.steps, steps)?;
                 others.insert(group, Stretch { first_seq, steps })?;
                 Ok((others, Vec::new(alloc)))
             }
@@ -98,7 +98,7 @@ pub(crate) fn taken_in(
         AtomicGroupStatus::End => match own {
             Some(stretch) => {
                 let first_seq = stretch.first_seq;
-                let steps = joined(stretch.steps, steps)?;
+                let steps = join_steps(stretch.steps, steps)?;
                 let whole = whole_steps(alloc, steps, first_seq, seq)?;
                 Ok((others, whole))
             }
@@ -108,7 +108,7 @@ pub(crate) fn taken_in(
 }
 
 /// Takes a group's stretch out of others.
-fn group_off(mut waiting: Stretches, group: u64) -> (Option<Stretch>, Stretches)
+fn take_stretch(mut waiting: Stretches, group: u64) -> (Option<Stretch>, Stretches)
     requires { IsOrdered nat_cmp waiting }
     ensures ordered { IsOrdered nat_cmp result.1 }
     ensures own { option_map stretch_shown result.0 ≡ finite.get (stretches_shown waiting) group }
@@ -133,11 +133,11 @@ fn whole_steps(alloc: Global, steps: Steps, first_seq: u64, last_seq: u64) -> Al
             },
         })?;
     }
-    joined(steps, marks)
+    join_steps(steps, marks)
 }
 
 /// Returns steps, and more behind them.
-pub(crate) fn joined(mut steps: Steps, mut more: Steps) -> AllocResult<Steps>
+pub(crate) fn join_steps(mut steps: Steps, mut more: Steps) -> AllocResult<Steps>
     ensures { IfOk result (λ all. map region_step_shown all.items
         ≡ map region_step_shown steps.items ++ map region_step_shown more.items) }
 {

@@ -7,19 +7,19 @@ use crate::region::{Keys, Regions};
 use raft_base::{EntryIndex, LogQueue};
 
 /// Counts the entries and key values of all regions whose place or file is in a queue.
-pub fn live(queue: LogQueue, regions: &Regions) -> u128
+pub fn count_live(queue: LogQueue, regions: &Regions) -> u128
     ensures { result ≡ live_in_all queue (tables_shown regions.now) }
 {
     let mut count: u128 = 0;
     for region in regions.values() {
-        count += live_entries(queue, region.entries.as_slice()) as u128;
-        count += live_keys(queue, &region.keys) as u128;
+        count += count_entries(queue, region.entries.as_slice()) as u128;
+        count += count_keys(queue, &region.keys) as u128;
     }
     count
 }
 
 #[tactic(auto, unfolding(raft_table::specs::TableEntries::placed_in))]
-fn live_entries(queue: LogQueue, entries: &[EntryIndex]) -> usize
+fn count_entries(queue: LogQueue, entries: &[EntryIndex]) -> usize
     ensures { result ≡ entry_count queue entries.now }
 {
     let mut count = 0;
@@ -38,7 +38,7 @@ pub(crate) fn is_placed_in(queue: LogQueue, entry: &EntryIndex) -> bool
     entry.entries.is_some_and(|place| place.id.queue == queue)
 }
 
-fn live_keys(queue: LogQueue, keys: &Keys) -> usize
+fn count_keys(queue: LogQueue, keys: &Keys) -> usize
     ensures { result ≡ pair_count queue (keys_shown keys.now) }
 {
     let mut count = 0;

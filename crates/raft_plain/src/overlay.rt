@@ -4,7 +4,9 @@ ghost use Rattle.std.specs.Prelude.{◌≡◌, ◌∷◌, ℕ, List, false, map,
 ghost use Rattle.std.specs.FinSet as finset;
 ghost use Rattle.raft_plain.specs.Common.{nat_cmp, IsOrdered, step_shown, region_step_shown, steps_on, has_clean, greatest_compaction, least_cut, lesser, is_unjoined, rewritten_within, overlaid_table, overlay, is_under, entries_within, end_of, keys_shown, table_shown, tables_shown, pairs_over, without, deleted_of, AreOverlaid};
 
-use crate::region::{Entries, Keys, Region, Regions, end_of, or_new, parted_off, put, without_key};
+use crate::region::{
+    Entries, Keys, Region, Regions, end_of, or_new, take_region, with_region, without_key,
+};
 use raft_base::{AllocResult, EntryIndex};
 use raft_history::RegionStep;
 use raft_table::Step;
@@ -12,7 +14,7 @@ use std::alloc::Global;
 use std::collections::BTreeMap;
 
 /// Puts the records of the append queue, which these steps made, over those of the rewrite queue.
-pub(crate) fn overlaid(
+pub(crate) fn overlay_all(
     alloc: Global,
     mut appended: Regions,
     rewritten: Regions,
@@ -24,20 +26,20 @@ pub(crate) fn overlaid(
 {
     let mut both = BTreeMap::new(alloc);
     for (id, older) in rewritten {
-        let (newer, others) = parted_off(appended, id);
+        let (newer, others) = take_region(appended, id);
         appended = others;
-        let region = overlaid_region(alloc, id, steps, newer, Some(older))?;
-        both = put(both, id, region)?;
+        let region = overlay_region(alloc, id, steps, newer, Some(older))?;
+        both = with_region(both, id, region)?;
     }
     for (id, newer) in appended {
-        let region = overlaid_region(alloc, id, steps, Some(newer), None)?;
-        both = put(both, id, region)?;
+        let region = overlay_region(alloc, id, steps, Some(newer), None)?;
+        both = with_region(both, id, region)?;
     }
     Ok(both)
 }
 
 /// Puts the appended records of a region over its rewritten ones. Where the append queue cleaned it, its own stay alone.
-fn overlaid_region(
+fn overlay_region(
     alloc: Global,
     id: u64,
     steps: &[RegionStep],
@@ -112,11 +114,11 @@ fn rewritten_within(alloc: Global, steps: &[&Step], older: Entries, newer: &[Ent
     if is_unjoined(cut, older.as_slice(), newer) {
         return Vec::new(alloc);
     }
-    within(floor, cut, older)
+    entries_within(floor, cut, older)
 }
 
 /// Returns the entries from one index on and below another, if there is one.
-fn within(floor: u64, cut: Option<u64>, mut entries: Entries) -> Entries
+fn entries_within(floor: u64, cut: Option<u64>, mut entries: Entries) -> Entries
     ensures { result.items ≡ entries_within floor cut entries.items }
 {
     entries.retain(|entry| floor <= entry.index && is_under(cut, entry.index));

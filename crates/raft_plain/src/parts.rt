@@ -1,7 +1,7 @@
 //! Parts of files, read one after the other.
 
-ghost use Rattle.std.specs.Prelude.{◌≡◌, ◌≢◌, ◌+◌, ◌≤◌, List, All, IfOk, IfErr};
-ghost use Rattle.raft_plain.specs.Common.{HasReplayed, CannotFollow, HasRead, HoldsFrom, EachHolds, IsPlaced, StopsIn, StopsAmong, IsNothing, Sound, IsReadOf};
+ghost use Rattle.std.specs.Prelude.{◌≡◌, ◌≢◌, ◌+◌, ◌≤◌, ◌↔◌, List, IsTrue, IfOk, IfErr, OnOk, OnErr};
+ghost use Rattle.raft_plain.specs.Common.{ArePartsOf, HasReplayed, CannotFollow, HasRead, HoldsFrom, EachHolds, IsInvalidArgument, IsPlaced, StopsIn, StopsAmong, IsNothing, Sound, IsReadOf};
 
 use crate::Reading;
 use crate::batches::with_batch;
@@ -10,20 +10,43 @@ use raft_records::{FilePart, next_batch};
 use raft_replay::segment::corruption_at;
 use std::alloc::Global;
 
+/// Tests whether all parts are of a queue.
+///
+/// # Errors
+///
+/// `InvalidArgument` if one isn't; `Memory` for the text.
+pub(crate) fn check_parts(alloc: Global, queue: LogQueue, parts: &[FilePart]) -> Result<()>
+    ensures ok { OnOk result (ArePartsOf queue parts.entry.now) }
+    ensures err { OnErr result (¬ (ArePartsOf queue parts.entry.now)) }
+    ensures fault { IfErr result (λ e. e ≢ Error.Memory → IsInvalidArgument e) }
+{
+    if are_of(queue, parts) {
+        return Ok(());
+    }
+    Err(Error::invalid_argument(alloc, "a part of another queue"))
+}
+
+fn are_of(queue: LogQueue, parts: &[FilePart]) -> bool
+    ensures { IsTrue result ↔ ArePartsOf queue parts.now }
+{
+    parts.iter().all(|part| part.id().queue == queue)
+}
+
 /// Reads the batches of parts of a queue's files, in order.
+///
+/// # Errors
+///
+/// `Memory`. Any other comes only where a part isn't a sequence of readable batches, or where the batches in order can't be read; a
+/// `Corruption` names file and offset of the batch that was refused.
 pub fn read_parts(alloc: Global, queue: LogQueue, parts: &[FilePart]) -> Result<Reading>
+    requires { ArePartsOf queue parts.now }
     ensures ok { IfOk result (IsReadOf queue (EachHolds (λ part. HoldsFrom part 0) parts.entry.now)) }
-    ensures place { All (λ part. part.id.queue ≡ queue) parts.entry.now
-        → IfErr result (λ e. e ≢ Error.Memory → StopsAmong IsNothing Sound parts.entry.now e) }
-    ensures refused { All (λ part. part.id.queue ≡ queue) parts.entry.now
-        → IfErr result (λ e. e ≢ Error.Memory
+    ensures place { IfErr result (λ e. e ≢ Error.Memory → StopsAmong IsNothing Sound parts.entry.now e) }
+    ensures refused { IfErr result (λ e. e ≢ Error.Memory
         → CannotFollow (EachHolds (λ part. HoldsFrom part 0) parts.entry.now) IsNothing) }
 {
     let mut reading = Reading::new(alloc);
     for part in parts {
-        if part.id().queue != queue {
-            return Err(Error::InvalidArgument(String::from_str(alloc, "a part of another queue")?));
-        }
         reading = with_part(alloc, queue, reading, part)?;
     }
     Ok(reading)
@@ -48,20 +71,20 @@ fn with_part(
                 match with_batch(alloc, queue, reading, batch, part.id()) {
                     Ok(read) => reading = read,
                     Err(error) => {
-                        return Err(placed(alloc, error, part.id(), part.offset() + at as u64));
+                        return Err(with_place(alloc, error, part.id(), part.offset() + at as u64));
                     }
                 }
                 at = next;
             }
             Ok(None) => return Ok(reading),
             Err(error) => {
-                return Err(placed(alloc, error, part.id(), part.offset() + at as u64));
+                return Err(with_place(alloc, error, part.id(), part.offset() + at as u64));
             }
         }
     }
 }
 
-fn placed(alloc: Global, error: Error, id: FileId, offset: u64) -> Error
+fn with_place(alloc: Global, error: Error, id: FileId, offset: u64) -> Error
     ensures placed { IsPlaced id offset result }
     ensures memory { result ≢ Error.Memory → error ≢ Error.Memory }
 {

@@ -1,11 +1,11 @@
 //! What recovery gives, of one queue and of both.
 
-ghost use Rattle.std.specs.Prelude.{◌≡◌, ◌≢◌, All, map, IfOk, IfErr};
-ghost use Rattle.raft_plain.specs.Common.{Append, Rewrite, IsRecovered, AreBothRecovered, CannotFollow, HoldsFrom, EachHolds, StopsAmong, IsNothing, Sound, recovered_shown, cleaned_by_steps, region_step_shown, live_in_all, tables_shown};
+ghost use Rattle.std.specs.Prelude.{◌≡◌, ◌≢◌, ◌⊎◌, map, IfOk, IfErr, OnOk};
+ghost use Rattle.raft_plain.specs.Common.{Append, ArePartsOf, Rewrite, IsInvalidArgument, IsRecovered, AreBothRecovered, CannotFollow, HoldsFrom, EachHolds, StopsAmong, IsNothing, Sound, recovered_shown, cleaned_by_steps, region_step_shown, live_in_all, tables_shown};
 
-use crate::live::live;
-use crate::overlay::overlaid;
-use crate::parts::read_parts;
+use crate::live::count_live;
+use crate::overlay::overlay_all;
+use crate::parts::{check_parts, read_parts};
 use crate::region::Regions;
 use raft_base::{AllocResult, Error, LogQueue, Result};
 use raft_history::RegionStep;
@@ -23,32 +23,56 @@ pub struct Recovered {
 }
 
 /// Recovers the parts of a queue's files: reads their batches in order.
+///
+/// # Errors
+///
+/// `InvalidArgument` for a part of another queue, and those of [`read_parts`].
 pub fn recover_plainly(alloc: Global, queue: LogQueue, parts: &[FilePart]) -> Result<Recovered>
     ensures ok { IfOk result (λ r. IsRecovered queue (EachHolds (λ part. HoldsFrom part 0) parts.entry.now) (recovered_shown r)) }
-    ensures place { All (λ part. part.id.queue ≡ queue) parts.entry.now
+    ensures accepted { OnOk result (ArePartsOf queue parts.entry.now) }
+    ensures place { ArePartsOf queue parts.entry.now
         → IfErr result (λ e. e ≢ Error.Memory → StopsAmong IsNothing Sound parts.entry.now e) }
-    ensures refused { All (λ part. part.id.queue ≡ queue) parts.entry.now
-        → IfErr result (λ e. e ≢ Error.Memory
+    ensures refused { ArePartsOf queue parts.entry.now → IfErr result (λ e. e ≢ Error.Memory
         → CannotFollow (EachHolds (λ part. HoldsFrom part 0) parts.entry.now) IsNothing) }
+    ensures fault { ¬ (ArePartsOf queue parts.entry.now)
+        → IfErr result (λ e. e ≢ Error.Memory → IsInvalidArgument e) }
 {
+    check_parts(alloc, queue, parts)?;
     let reading = read_parts(alloc, queue, parts)?;
     let cleaned = cleaned_regions(alloc, queue, reading.steps.as_slice())?;
-    Ok(counted(reading.regions, cleaned))
+    Ok(with_counts(reading.regions, cleaned))
 }
 
 /// Recovers the parts of both queues: reads each in order, and puts the records of the append queue over the others.
+///
+/// # Errors
+///
+/// `InvalidArgument` for a part of another queue, and those of [`read_parts`] for the parts of either queue.
 pub fn recover_both_plainly(
     alloc: Global,
     rewrite: &[FilePart],
     append: &[FilePart],
 ) -> Result<Recovered>
     ensures ok { IfOk result (λ r. AreBothRecovered (EachHolds (λ part. HoldsFrom part 0) rewrite.entry.now) (EachHolds (λ part. HoldsFrom part 0) append.entry.now) (recovered_shown r)) }
+    ensures accepted { OnOk result (ArePartsOf Rewrite rewrite.entry.now × ArePartsOf Append append.entry.now) }
+    ensures place { ArePartsOf Rewrite rewrite.entry.now × ArePartsOf Append append.entry.now
+        → IfErr result (λ e. e ≢ Error.Memory
+        → StopsAmong IsNothing Sound rewrite.entry.now e
+        ⊎ StopsAmong IsNothing Sound append.entry.now e) }
+    ensures refused { ArePartsOf Rewrite rewrite.entry.now × ArePartsOf Append append.entry.now
+        → IfErr result (λ e. e ≢ Error.Memory
+        → CannotFollow (EachHolds (λ part. HoldsFrom part 0) rewrite.entry.now) IsNothing
+        ⊎ CannotFollow (EachHolds (λ part. HoldsFrom part 0) append.entry.now) IsNothing) }
+    ensures fault { ¬ (ArePartsOf Rewrite rewrite.entry.now × ArePartsOf Append append.entry.now)
+        → IfErr result (λ e. e ≢ Error.Memory → IsInvalidArgument e) }
 {
+    check_parts(alloc, LogQueue::Rewrite, rewrite)?;
+    check_parts(alloc, LogQueue::Append, append)?;
     let older = read_parts(alloc, LogQueue::Rewrite, rewrite)?;
     let newer = read_parts(alloc, LogQueue::Append, append)?;
-    let regions = overlaid(alloc, newer.regions, older.regions, newer.steps.as_slice())?;
+    let regions = overlay_all(alloc, newer.regions, older.regions, newer.steps.as_slice())?;
     let cleaned = cleaned_regions(alloc, LogQueue::Append, newer.steps.as_slice())?;
-    Ok(counted(regions, cleaned))
+    Ok(with_counts(regions, cleaned))
 }
 
 /// Returns the regions that the append queue cleaned, in order; none of the rewrite queue.
@@ -68,14 +92,14 @@ fn cleaned_regions(alloc: Global, queue: LogQueue, steps: &[RegionStep]) -> Allo
     Ok(cleaned)
 }
 
-fn counted(regions: Regions, cleaned: Vec<u64>) -> Recovered
+fn with_counts(regions: Regions, cleaned: Vec<u64>) -> Recovered
     ensures regions { result.regions ≡ regions }
     ensures cleaned { result.cleaned ≡ cleaned }
     ensures append { result.append ≡ live_in_all Append (tables_shown regions) }
     ensures rewrite { result.rewrite ≡ live_in_all Rewrite (tables_shown regions) }
 {
-    let append = live(LogQueue::Append, &regions);
-    let rewrite = live(LogQueue::Rewrite, &regions);
+    let append = count_live(LogQueue::Append, &regions);
+    let rewrite = count_live(LogQueue::Rewrite, &regions);
     Recovered {
         regions,
         cleaned,

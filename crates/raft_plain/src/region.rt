@@ -175,8 +175,13 @@ pub(crate) fn or_new(alloc: Global, region: Option<Region>) -> Region
         },
     }
 }
+
 /// Puts a region in the place of its old one, or takes it away.
-pub(crate) fn put(mut regions: Regions, id: u64, region: Option<Region>) -> AllocResult<Regions>
+pub(crate) fn with_region(
+    mut regions: Regions,
+    id: u64,
+    region: Option<Region>,
+) -> AllocResult<Regions>
     requires { IsOrdered nat_cmp regions }
     ensures ordered { IfOk result (IsOrdered nat_cmp) }
     ensures ok { IfOk result (λ new. tables_shown new
@@ -195,7 +200,7 @@ pub(crate) fn put(mut regions: Regions, id: u64, region: Option<Region>) -> Allo
 }
 
 /// Takes a region out of others.
-pub(crate) fn parted_off(mut regions: Regions, id: u64) -> (Option<Region>, Regions)
+pub(crate) fn take_region(mut regions: Regions, id: u64) -> (Option<Region>, Regions)
     requires { IsOrdered nat_cmp regions }
     ensures ordered { IsOrdered nat_cmp result.1 }
     ensures own { option_map (table_shown id) result.0 ≡ finite.get (tables_shown regions) id }

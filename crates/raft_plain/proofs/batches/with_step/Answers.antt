@@ -6,11 +6,11 @@ use Rattle.raft_plain.proofs.batches.with_step.Goals as goal
 
 pub returns-clause-ok : goal.returns-clause-ok
 returns-clause-ok c =
-    step_done c.args.queue (tables_shown c.args.regions) (region_step_shown c.args.step.now) c.or_new.result c.parted_off-own.result.0 (c.or_new.ensures c.args.step.now.region) c.parted_off-own.ensures.own
-    (tables_shown c.parted_off-own.result.1) _ c.in_ok-new.new c.parted_off-own.ensures.others (c.in_ok-new.ensures.ok c.args.step.now.region) c.in_ok-put.ensures.ok
+    step_done c.args.queue (tables_shown c.args.regions) (region_step_shown c.args.step.now) c.or_new.result c.take_region-own.result.0 (c.or_new.ensures c.args.step.now.region) c.take_region-own.ensures.own
+    (tables_shown c.take_region-own.result.1) _ c.in_ok-new.new c.take_region-own.ensures.others (c.in_ok-new.ensures.ok c.args.step.now.region) c.in_ok-with_region.ensures.ok
 
 pub returns-in_err-new-clause-refused : goal.returns-in_err-new-clause-refused
 returns-in_err-new-clause-refused c =
     on_passed _ _ c.from_residual.ensures.1
-    (λ not_memory. step_refused c.args.queue (tables_shown c.args.regions) (region_step_shown c.args.step.now) c.or_new.result c.parted_off-own.result.0 (c.or_new.ensures c.args.step.now.region) c.parted_off-own.ensures.own
+    (λ not_memory. step_refused c.args.queue (tables_shown c.args.regions) (region_step_shown c.args.step.now) c.or_new.result c.take_region-own.result.0 (c.or_new.ensures c.args.step.now.region) c.take_region-own.ensures.own
     (c.in_err-new.ensures.refused not_memory c.args.step.now.region))

@@ -1,14 +1,17 @@
-use Rattle.std.proofs.Common.{◌≡◌, ◌<◌, refl, length, arith, take, drop, ◌+◌}
+use Rattle.std.proofs.Common.{◌<◌, ◌≤◌, List, refl, subst, length, arith, take, drop, ◌+◌}
+use Rattle.std.proofs.lemmas.List.{take_all}
 use Rattle.raft_replay.proofs.MachineOrderLemmas.{each_more}
 use Rattle.raft_replay.proofs.Passed.{on_passed}
 use Rattle.raft_replay.proofs.ReplayedLemmas.{none_replayed, replayed_more}
 use Rattle.raft_replay.proofs.SegmentLemmas.{item_taken, item_between}
 use Rattle.raft_replay.proofs.StopLemmas.{parts_refused}
-use Rattle.raft_replay.proofs.Words.{PartHolds}
+use Rattle.raft_records.specs.FilePart.{Part}
+use Rattle.raft_replay.proofs.Words.{PartHolds, PartsHold}
+use Rattle.raft_replay.specs.Replays.{HasReplayed}
 use Rattle.raft_replay.specs.Stops.{IsNothing}
 use Rattle.raft_history.specs.Histories.{Sound}
 use Rattle.raft_plain.specs.Readings.{HasRead}
-use Rattle.raft_plain.proofs.PartLemmas.{stopped_among}
+use Rattle.raft_plain.proofs.PartLemmas.{parts_read, stopped_among}
 use Rattle.raft_plain.proofs.parts.read_parts.Goals as goal
 
 pub loop-part-init : goal.loop-part-init
@@ -30,18 +33,26 @@ loop-part-preserved c =
     }
 
 pub returns-in_err-reading-clause-place : goal.returns-in_err-reading-clause-place
-returns-in_err-reading-clause-place c all =
+returns-in_err-reading-clause-place c =
     let inside : c.loop-part.part-index < length c.args.parts.now = let t = c.loop-part-test.true in omega arith in
-    on_passed _ _ c.from_residual-in_err-reading.ensures.1
+    on_passed _ _ c.from_residual.ensures.1
     (λ not_memory. stopped_among c.args.queue c.new-reading.result c.loop-part.reading c.loop-part.invariant.begins c.args.parts.now
     (take c.loop-part.part-index c.args.parts.now) (drop (c.loop-part.part-index + 1) c.args.parts.now) c.part-item.result c.in_err-reading.field-0.0
     (item_between refl inside c.part-item.is) c.loop-part.invariant.read c.in_err-reading.ensures.place)
 
 pub returns-in_err-reading-clause-refused : goal.returns-in_err-reading-clause-refused
-returns-in_err-reading-clause-refused c all =
+returns-in_err-reading-clause-refused c =
     let inside : c.loop-part.part-index < length c.args.parts.now = let t = c.loop-part-test.true in omega arith in
-    on_passed _ _ c.from_residual-in_err-reading.ensures.1
+    on_passed _ _ c.from_residual.ensures.1
     (λ not_memory. parts_refused IsNothing Sound c.args.parts.now c.in_err-reading.field-0.0
     (stopped_among c.args.queue c.new-reading.result c.loop-part.reading c.loop-part.invariant.begins c.args.parts.now
     (take c.loop-part.part-index c.args.parts.now) (drop (c.loop-part.part-index + 1) c.args.parts.now) c.part-item.result c.in_err-reading.field-0.0
     (item_between refl inside c.part-item.is) c.loop-part.invariant.read c.in_err-reading.ensures.place) not_memory)
+
+pub returns-clause-ok : goal.returns-clause-ok
+returns-clause-ok c =
+    let q = c.args.queue in
+    let whole : length c.args.parts.now ≤ c.loop-part.part-index = let t = c.loop-part-test.false in omega arith in
+    parts_read q c.new-reading.result c.loop-part.reading c.loop-part.invariant.begins c.args.parts.now
+    (subst (λ (parts : List Part). HasReplayed (PartsHold parts) (HasRead q) (HasRead q) c.new-reading.result c.loop-part.reading)
+    (take_all c.loop-part.part-index c.args.parts.now whole) c.loop-part.invariant.read)

@@ -1,10 +1,10 @@
-use Rattle.std.proofs.Common.{◌≡◌, ◌≤◌, ◌+◌, ◌++◌, ◌∷◌, [], length, subst, sym, arith}
+use Rattle.std.proofs.Common.{◌+◌, ◌++◌, ◌∷◌, [], subst, arith}
 use Rattle.raft_records.proofs.PartLemmas.{batch_inside}
 use Rattle.raft_history.specs.Histories.{Sound}
 use Rattle.raft_history.specs.ReplayMachine.{event}
 use Rattle.raft_replay.specs.Stops.{IsPlaced}
 use Rattle.raft_plain.specs.Readings.{HasRead}
-use Rattle.raft_plain.proofs.PartLemmas.{IsReadTo, read_begins, read_more, read_whole, stopped_unreadable, stopped_refused}
+use Rattle.raft_plain.proofs.PartLemmas.{read_more, read_whole, stopped_unreadable, stopped_refused}
 use Rattle.raft_plain.proofs.parts.with_part.Goals as goal
 
 pub loop-batch-preserved : goal.loop-batch-preserved
@@ -28,15 +28,15 @@ returns-in-Ok-None-clause-ok c =
 
 pub returns-in-Err-clause-place : goal.returns-in-Err-clause-place
 returns-in-Err-clause-place c =
-    stopped_unreadable c.args.queue c.args.part.now c.args.reading c.loop-batch.at c.loop-batch.reading c.loop-batch.invariant.read c.placed-in-Err.result
-    (subst (λ id. IsPlaced id (c.args.part.now.offset + c.loop-batch.at) c.placed-in-Err.result) c.id-in-Err.ensures
-    (subst (λ o. IsPlaced c.id-in-Err.result (o + c.loop-batch.at) c.placed-in-Err.result) c.offset-in-Err.ensures.value c.placed-in-Err.ensures.placed))
-    c.in-Err.ensures.some (λ not_memory. c.in-Err.ensures.refused (c.placed-in-Err.ensures.memory not_memory))
+    stopped_unreadable c.args.queue c.args.part.now c.args.reading c.loop-batch.at c.loop-batch.reading c.loop-batch.invariant.read c.with_place-in-Err.result
+    (subst (λ id. IsPlaced id (c.args.part.now.offset + c.loop-batch.at) c.with_place-in-Err.result) c.id-in-Err.ensures
+    (subst (λ o. IsPlaced c.id-in-Err.result (o + c.loop-batch.at) c.with_place-in-Err.result) c.offset-in-Err.ensures.value c.with_place-in-Err.ensures.placed))
+    c.in-Err.ensures.some (λ not_memory. c.in-Err.ensures.refused (c.with_place-in-Err.ensures.memory not_memory))
 
 pub returns-in-Err-with_batch-clause-place : goal.returns-in-Err-with_batch-clause-place
 returns-in-Err-with_batch-clause-place c =
-    stopped_refused c.args.queue c.args.part.now c.args.reading c.loop-batch.at c.loop-batch.reading c.loop-batch.invariant.read c.placed.result
-    (subst (λ id. IsPlaced id (c.args.part.now.offset + c.loop-batch.at) c.placed.result) c.id-in-Err-with_batch.ensures
-    (subst (λ o. IsPlaced c.id-in-Err-with_batch.result (o + c.loop-batch.at) c.placed.result) c.offset.ensures.value c.placed.ensures.placed))
+    stopped_refused c.args.queue c.args.part.now c.args.reading c.loop-batch.at c.loop-batch.reading c.loop-batch.invariant.read c.with_place.result
+    (subst (λ id. IsPlaced id (c.args.part.now.offset + c.loop-batch.at) c.with_place.result) c.id-in-Err-with_batch.ensures
+    (subst (λ o. IsPlaced c.id-in-Err-with_batch.result (o + c.loop-batch.at) c.with_place.result) c.offset.ensures.value c.with_place.ensures.placed))
     _ c.in-Ok-Some.next (rw c.in-Ok-Some.field-0-is at c.in-Ok-Some.ensures.ok)
-    (λ not_memory h read. subst (λ id. ¬ (Sound (h ++ event c.in-Ok-Some.batch id ∷ []))) c.id.ensures (c.in-Err-with_batch.ensures.refused (c.placed.ensures.memory not_memory) h read))
+    (λ not_memory h read. subst (λ id. ¬ (Sound (h ++ event c.in-Ok-Some.batch id ∷ []))) c.id.ensures (c.in-Err-with_batch.ensures.refused (c.with_place.ensures.memory not_memory) h read))

@@ -9,6 +9,6 @@ use Rattle.raft_plain.proofs.recovery.recover_plainly.Goals as goal
 
 pub returns-clause-ok : goal.returns-clause-ok
 returns-clause-ok c =
-    recovered c.args.queue _ c.in_ok-reading.reading c.counted.result c.in_ok-reading.ensures.ok c.counted.ensures.regions
-    (ap (λ v. v.items) c.counted.ensures.cleaned ∙ c.in_ok-cleaned.ensures ∙ ap (λ l. cleaned_by_steps c.args.queue (map region_step_shown l)) c.as_slice.ensures.value)
-    (c.counted.ensures.append ∙ ap (λ m. live_in_all Append (tables_shown m)) (sym c.counted.ensures.regions), c.counted.ensures.rewrite ∙ ap (λ m. live_in_all Rewrite (tables_shown m)) (sym c.counted.ensures.regions))
+    recovered c.args.queue _ c.in_ok-reading.reading c.with_counts.result c.in_ok-reading.ensures.ok c.with_counts.ensures.regions
+    (ap (λ v. v.items) c.with_counts.ensures.cleaned ∙ c.in_ok-cleaned.ensures ∙ ap (λ l. cleaned_by_steps c.args.queue (map region_step_shown l)) c.as_slice.ensures.value)
+    (c.with_counts.ensures.append ∙ ap (λ m. live_in_all Append (tables_shown m)) (sym c.with_counts.ensures.regions), c.with_counts.ensures.rewrite ∙ ap (λ m. live_in_all Rewrite (tables_shown m)) (sym c.with_counts.ensures.regions))

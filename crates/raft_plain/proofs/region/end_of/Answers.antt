@@ -1,6 +1,6 @@
 use Rattle.raft_base.specs.NoEntry.{no_entry}
 use Rattle.std.proofs.Common.{slice_index_or}
-use Rattle.std.proofs.Common.{◌≡◌, ◌<◌, ◌∙◌, refl, sym, length, arith}
+use Rattle.std.proofs.Common.{◌<◌, ◌∙◌, sym, length, arith}
 use Rattle.std.proofs.Math.ListN.{drop_of_length-le}
 use Rattle.raft_plain.proofs.StepLemmas.{end_next, end_last}
 use Rattle.std.proofs.lemmas.List.{drop_more}

@@ -1,14 +1,14 @@
-use Rattle.std.proofs.Common.{◌≡◌, List, [], ℕ, Some, None, refl, sym, ap, subst, ◌∙◌, map}
+use Rattle.std.proofs.Common.{List, [], ℕ, Some, sym, ap, subst, ◌∙◌, map}
 use Rattle.std.specs.FinMap as finite
 use Rattle.raft_table.specs.Overlay.{overlaid_table}
 use Rattle.raft_history.specs.RegionStepShown.{region_step_shown}
-use Rattle.raft_history.specs.RegionSteps.{RegionStep, steps_on}
+use Rattle.raft_history.specs.RegionSteps.{steps_on}
 use Rattle.raft_plain.specs.declared.region.Region.{Region}
 use Rattle.raft_plain.specs.Plain.{table_shown, tables_in, tables_shown}
 use Rattle.raft_plain.proofs.KeyedLemmas.{Rises, none-of, rest_rises}
-use Rattle.raft_plain.proofs.overlay.overlaid.Invariants.{wanted}
+use Rattle.raft_plain.proofs.overlay.overlay_all.Invariants.{wanted}
 use Rattle.raft_plain.proofs.OverlayLemmas.{AreOverlaidSoFar, overlay_begins, rewritten_next, appended_next, appended_ends}
-use Rattle.raft_plain.proofs.overlay.overlaid.Goals as goal
+use Rattle.raft_plain.proofs.overlay.overlay_all.Goals as goal
 
 pub loop-id-init : goal.loop-id-init
 loop-id-init c =
@@ -27,11 +27,11 @@ loop-id-preserved c =
     let next = c.in-Some.ensures.steps in
     record {
       rises = rest_rises table_shown _ _ _ next c.loop-id.invariant.rises;
-      ordered = c.parted_off-newer.ensures.ordered;
+      ordered = c.take_region-newer.ensures.ordered;
       both_ordered = c.in_ok-both.ensures.ordered;
-      far = rewritten_next (map region_step_shown c.args.steps.now) _ (c.in-Some.id, c.in-Some.older) _ _ (tables_shown c.loop-id.appended) (tables_shown c.parted_off-newer.result.1)
-          (tables_shown c.loop-id.both) _ _ c.loop-id.invariant.rises next c.parted_off-newer.ensures.others
-          (c.in_ok-region.ensures ∙ ap (λ o. overlaid_table c.in-Some.id (steps_on c.in-Some.id (map region_step_shown c.args.steps.now)) o (Some (table_shown c.in-Some.id c.in-Some.older))) c.parted_off-newer.ensures.own)
+      far = rewritten_next (map region_step_shown c.args.steps.now) _ (c.in-Some.id, c.in-Some.older) _ _ (tables_shown c.loop-id.appended) (tables_shown c.take_region-newer.result.1)
+          (tables_shown c.loop-id.both) _ _ c.loop-id.invariant.rises next c.take_region-newer.ensures.others
+          (c.in_ok-region.ensures ∙ ap (λ o. overlaid_table c.in-Some.id (steps_on c.in-Some.id (map region_step_shown c.args.steps.now)) o (Some (table_shown c.in-Some.id c.in-Some.older))) c.take_region-newer.ensures.own)
           c.in_ok-both.ensures.ok c.loop-id.invariant.far;
     }
 

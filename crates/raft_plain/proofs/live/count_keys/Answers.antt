@@ -1,6 +1,6 @@
 use Rattle.std.proofs.Common.{ap, ◌∙◌, length, arith}
 use Rattle.raft_plain.proofs.LiveLemmas.{in_queue, stored-count}
-use Rattle.raft_plain.proofs.live.live_keys.Goals as goal
+use Rattle.raft_plain.proofs.live.count_keys.Goals as goal
 
 pub returns : goal.returns
 returns c =

@@ -1,4 +1,4 @@
-use Rattle.std.proofs.Common.{◌≡◌, [], ℕ, List, map, Option}
+use Rattle.std.proofs.Common.{[], ℕ, List, map, Option}
 use Rattle.std.specs.BTreeMap.{IsOrdered}
 use Rattle.std.specs.FinMap as finite
 use Rattle.std.specs.Ordering.{nat_cmp}
@@ -9,7 +9,7 @@ use Rattle.raft_history.specs.RegionSteps.{RegionStep, Tables, steps_on}
 use Rattle.raft_plain.specs.Plain.{table_shown, tables_in, tables_shown}
 use Rattle.raft_plain.proofs.KeyedLemmas.{Rises}
 use Rattle.raft_plain.proofs.OverlayLemmas.{AreOverlaidSoFar}
-use Rattle.raft_plain.proofs.overlay.overlaid.Given as goal
+use Rattle.raft_plain.proofs.overlay.overlay_all.Given as goal
 
 -- what each region is to have
 abbrev pub wanted : List RegionStep → Tables → Tables → ℕ → Option Table

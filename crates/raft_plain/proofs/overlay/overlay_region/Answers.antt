@@ -4,7 +4,7 @@ use Rattle.raft_table.specs.Overlay.{has_clean, overlaid_table, overlay}
 use Rattle.raft_table.specs.StepShown.{step_shown}
 use Rattle.raft_plain.specs.Plain.{table_shown}
 use Rattle.raft_plain.proofs.OverlayLemmas.{both_overlaid}
-use Rattle.raft_plain.proofs.overlay.overlaid_region.Goals as goal
+use Rattle.raft_plain.proofs.overlay.overlay_region.Goals as goal
 
 pub returns-in-Some : goal.returns-in-Some
 returns-in-Some c =

@@ -3,7 +3,7 @@ use Rattle.std.proofs.lemmas.Fn.{filter_same}
 use Rattle.std.specs.Prelude.{nat_le}
 unfoldable use Rattle.raft_table.specs.Marks.{entries_within}
 use Rattle.raft_table.specs.Marks.{is_under}
-use Rattle.raft_plain.proofs.overlay.within.Goals as goal
+use Rattle.raft_plain.proofs.overlay.entries_within.Goals as goal
 
 pub returns : goal.returns
 unfolding entries_within

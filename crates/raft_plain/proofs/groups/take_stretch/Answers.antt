@@ -1,5 +1,5 @@
 use Rattle.raft_plain.proofs.WaitLemmas.{wait_found, wait_gone}
-use Rattle.raft_plain.proofs.groups.group_off.Goals as goal
+use Rattle.raft_plain.proofs.groups.take_stretch.Goals as goal
 
 pub returns-clause-own : goal.returns-clause-own
 returns-clause-own c = wait_found c.args.waiting c.args.group c.remove-own.result c.requires c.remove-own.ensures.value

@@ -1,6 +1,6 @@
 use Rattle.std.proofs.Common.{◌≡◌, ◌+◌, ◌≤◌, length}
 use Rattle.raft_plain.proofs.LiveLemmas.{in_queue}
-use Rattle.raft_plain.proofs.live.live_keys.Given as goal
+use Rattle.raft_plain.proofs.live.count_keys.Given as goal
 
 abbrev pub invariant-loop-stored : goal.invariant-loop-stored
 invariant-loop-stored l = record {

@@ -1,5 +1,5 @@
 use Rattle.raft_plain.proofs.WaitLemmas.{region_put, region_gone}
-use Rattle.raft_plain.proofs.region.put.Goals as goal
+use Rattle.raft_plain.proofs.region.with_region.Goals as goal
 
 pub returns-in_ok-insert-in-Some-clause-ok : goal.returns-in_ok-insert-in-Some-clause-ok
 returns-in_ok-insert-in-Some-clause-ok c = rw c.in-Some.is (region_put c.args.regions c.insert.new.self c.args.id c.in-Some.region c.requires c.insert.ensures.ordered c.in_ok-insert-in-Some.ensures.entries)

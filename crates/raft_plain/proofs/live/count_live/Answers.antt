@@ -1,7 +1,7 @@
 use Rattle.std.proofs.Common.{ap, ◌∙◌, length, arith}
 use Rattle.raft_table.specs.TableEntries.{entry_count}
 use Rattle.raft_plain.proofs.LiveLemmas.{live_regions, live-regions}
-use Rattle.raft_plain.proofs.live.live.Goals as goal
+use Rattle.raft_plain.proofs.live.count_live.Goals as goal
 
 pub returns : goal.returns
 returns c =
@@ -13,10 +13,10 @@ pub loop-region-preserved : goal.loop-region-preserved
 loop-region-preserved c =
     let q = c.args.queue in
     let step = c.in-Some.ensures.steps in
-    let entries = c.live_entries.ensures ∙ ap (entry_count q) c.as_slice.ensures.value in
-    let keys = c.live_keys.ensures in
+    let entries = c.count_entries.ensures ∙ ap (entry_count q) c.as_slice.ensures.value in
+    let keys = c.count_keys.ensures in
     let left = ap (live_regions q) step in
     record {
       counted = omega (arith, c.loop-region.invariant.counted, entries, keys, left);
-      bounded = omega (arith, c.loop-region.invariant.bounded, ap length step, c.live_entries.type_inv, c.live_keys.type_inv);
+      bounded = omega (arith, c.loop-region.invariant.bounded, ap length step, c.count_entries.type_inv, c.count_keys.type_inv);
     }

@@ -1,6 +1,6 @@
 use Rattle.std.proofs.Common.{◌≡◌, ◌+◌, ◌*◌, ◌^◌, ◌≤◌, length}
 use Rattle.raft_plain.proofs.LiveLemmas.{live_regions}
-use Rattle.raft_plain.proofs.live.live.Given as goal
+use Rattle.raft_plain.proofs.live.count_live.Given as goal
 
 abbrev pub invariant-loop-region : goal.invariant-loop-region
 invariant-loop-region l = record {

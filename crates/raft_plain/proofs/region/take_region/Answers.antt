@@ -1,5 +1,5 @@
 use Rattle.raft_plain.proofs.WaitLemmas.{region_found, region_gone}
-use Rattle.raft_plain.proofs.region.parted_off.Goals as goal
+use Rattle.raft_plain.proofs.region.take_region.Goals as goal
 
 pub returns-clause-own : goal.returns-clause-own
 returns-clause-own c = region_found c.args.regions c.args.id c.remove-own.result c.requires c.remove-own.ensures.value

@@ -1,4 +1,4 @@
-use Rattle.std.proofs.Common.{◌≡◌, List, ◌++◌, Option, Some, refl, sym, ap, ◌∙◌}
+use Rattle.std.proofs.Common.{◌≡◌, List, Option, Some, sym, ap, ◌∙◌}
 use Rattle.std.specs.Prelude.{map, option_map}
 use Rattle.std.specs.FinMap as finite
 use Rattle.raft_history.specs.RegionStepShown.{region_step_shown}
@@ -7,20 +7,20 @@ use Rattle.raft_history.specs.WaitingGroup.{OpenStretch, carried_stretch}
 use Rattle.raft_plain.specs.Groups.{with_stretch}
 use Rattle.raft_plain.specs.Waits.{stretch_shown, stretches_shown}
 use Rattle.raft_plain.proofs.WaitLemmas.{wait_put}
-use Rattle.raft_plain.proofs.groups.taken_in.Goals as goal
+use Rattle.raft_plain.proofs.groups.after_marker.Goals as goal
 
 pub returns-in_ok-insert-in-Begin-clause-waiting : goal.returns-in_ok-insert-in-Begin-clause-waiting
 returns-in_ok-insert-in-Begin-clause-waiting c =
     rw (c.in-Some.is, c.in-Begin.is)
-    (wait_put (stretches_shown c.args.waiting) c.group_off-own.result.1 c.insert.new.self c.in-Some.group (record { first_seq = c.args.seq; steps = c.args.steps })
-    c.group_off-own.ensures.ordered c.insert.ensures.ordered c.group_off-own.ensures.others c.in_ok-insert-in-Begin.ensures.entries)
+    (wait_put (stretches_shown c.args.waiting) c.take_stretch-own.result.1 c.insert.new.self c.in-Some.group (record { first_seq = c.args.seq; steps = c.args.steps })
+    c.take_stretch-own.ensures.ordered c.insert.ensures.ordered c.take_stretch-own.ensures.others c.in_ok-insert-in-Begin.ensures.entries)
 
 pub returns-in_ok-insert-in-Some-own-clause-waiting : goal.returns-in_ok-insert-in-Some-own-clause-waiting
 returns-in_ok-insert-in-Some-own-clause-waiting c =
     let m = stretches_shown c.args.waiting in
-    let old : finite.get m c.in-Some.group ≡ Some (stretch_shown c.in-Some-own.stretch) = sym c.group_off-own.ensures.own ∙ ap (option_map stretch_shown) c.in-Some-own.is in
+    let old : finite.get m c.in-Some.group ≡ Some (stretch_shown c.in-Some-own.stretch) = sym c.take_stretch-own.ensures.own ∙ ap (option_map stretch_shown) c.in-Some-own.is in
     rw (c.in-Some.is, c.in-Middle.is)
-    (wait_put m c.group_off-own.result.1 c.insert-in-Some-own.new.self c.in-Some.group (record { first_seq = c.in-Some-own.stretch.first_seq; steps = c.in_ok-steps-in-Some-own.steps })
-    c.group_off-own.ensures.ordered c.insert-in-Some-own.ensures.ordered c.group_off-own.ensures.others c.in_ok-insert-in-Some-own.ensures.entries
+    (wait_put m c.take_stretch-own.result.1 c.insert-in-Some-own.new.self c.in-Some.group (record { first_seq = c.in-Some-own.stretch.first_seq; steps = c.in_ok-steps-in-Some-own.steps })
+    c.take_stretch-own.ensures.ordered c.insert-in-Some-own.ensures.ordered c.take_stretch-own.ensures.others c.in_ok-insert-in-Some-own.ensures.entries
     ∙ ap (λ (l : List RegionStep). finite.insert m c.in-Some.group (record { first_seq = c.in-Some-own.stretch.first_seq; steps = l })) c.in_ok-steps-in-Some-own.ensures
     ∙ ap (λ (x : Option OpenStretch). with_stretch m c.in-Some.group (carried_stretch x (map region_step_shown c.args.steps.items))) (sym old))

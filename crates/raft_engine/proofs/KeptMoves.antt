@@ -2,6 +2,7 @@
 use Rattle.std.proofs.Common.{◌≡◌, ◌≢◌, ◌⊎◌, inl, inr, ℕ, ◌+◌, ◌^◌, ◌≤◌, Bool, true, false, List, [], ◌∷◌, ◌++◌, length, Option, Some, refl, sym, ap, ◌∙◌, subst, append-nil}
 use Rattle.std.specs.FinMap as finite
 use Rattle.raft_base.specs.Signature.{signature_in}
+use Rattle.raft_base.specs.declared.entry_index.EntryIndex.{EntryIndex}
 use Rattle.raft_base.specs.declared.errors.Error.{Error}
 use Rattle.raft_base.specs.declared.errors.Error.TheVariants as errors
 use Rattle.raft_base.specs.declared.pipe_log.FileBlockHandle.{FileBlockHandle}
@@ -24,7 +25,7 @@ use Rattle.raft_engine.specs.BatchBytes.{bytes_for, placed_at}
 use Rattle.raft_engine.specs.KeptEngine.{IsLastFile, KeptEngine}
 use Rattle.raft_engine.specs.KeptEngineView.{AreFilesOf, IsKeptBy}
 use Rattle.raft_engine.specs.Lasting.{AreSynced}
-use Rattle.raft_engine.specs.Moved.{IsMoving, IsOnlyRead, IsRegionHalfMoved, IsRegionMoved, IsRegionUnmoved}
+use Rattle.raft_engine.specs.Moved.{IsBatchHalfMoved, IsBatchMoved, IsBatchUnmoved, IsMoving, IsOnlyRead}
 use Rattle.raft_engine.specs.MovedAsks.{MovedBatchesAreStored, PutBatchesAreStored, ReadsAreStored}
 use Rattle.raft_engine.specs.Purged.{asks_of_items, put_asks}
 use Rattle.raft_engine.specs.ReadBack.{IsReadBack, IsReadBackAlone, MovedBatchesAreReadBack, NoneFound}
@@ -129,26 +130,26 @@ module _ (read : ReadsAreStored) (version : Version) (asks : List Ask) (append r
   -- ---- where the region isn't moved
 
   -- there is no batch of its records
-  pub batch_refused : (gate : Option ℕ) (region : ℕ) (t : Table) → finite.get accessor.tables region ≡ Some t → (new : List Ask) (e : Error) → AreOnlyRead asks new
-      → (e ≢ errors.Memory → IsBatchRefused gate t asks new e) → IsRegionUnmoved gate region engine (record engine { asks = new }) e
-  batch_refused gate region t there new e r refused = inl (only_read new r, λ some. inr (inl (t, there, refused some)))
+  pub batch_refused : (gate : Option ℕ) (left : List EntryIndex) (region : ℕ) (t : Table) → finite.get accessor.tables region ≡ Some t → (new : List Ask) (e : Error) → AreOnlyRead asks new
+      → (e ≢ errors.Memory → IsBatchRefused gate left t asks new e) → IsBatchUnmoved gate left region engine (record engine { asks = new }) e
+  batch_refused gate left region t there new e r refused = inl (only_read new r, λ some. inr (inl (t, there, refused some)))
 
   -- the last rewrite file has too many bytes
-  pub file_refused : (gate : Option ℕ) (region : ℕ) → IsLastFull Rewrite asks → IsRegionUnmoved gate region engine engine errors.Full
-  file_refused gate region full = inl (only_read asks (none_read asks asks refl), λ some. inl (refl, refl, full))
+  pub file_refused : (gate : Option ℕ) (left : List EntryIndex) (region : ℕ) → IsLastFull Rewrite asks → IsBatchUnmoved gate left region engine engine errors.Full
+  file_refused gate left region full = inl (only_read asks (none_read asks asks refl), λ some. inl (refl, refl, full))
 
   module _ (moved : MovedBatchesAreStored) (is_intact : intact ≡ true) (synced : AreSynced (acts_on Append asks)) (none : untold.items ≡ [])
-      (gate : Option ℕ) (region : ℕ) (t : Table) (there : finite.get accessor.tables region ≡ Some t) (own : t.region_id ≡ region) (sound : AreTableEntries t.entries)
-      (between : List Ask) (batch : Batch) (m : IsBatchMoving gate t asks between batch) where
+      (gate : Option ℕ) (left : List EntryIndex) (region : ℕ) (t : Table) (there : finite.get accessor.tables region ≡ Some t) (own : t.region_id ≡ region) (sound : AreTableEntries t.entries)
+      (between : List Ask) (batch : Batch) (m : IsBatchMoving gate left t asks between batch) where
     pub reads : AreOnlyRead asks between
     reads = read_only _ m.strings asks between m.read
 
-    pub is_moving : IsMoving gate region engine between batch
+    pub is_moving : IsMoving gate left region engine between batch
     is_moving = record { table = t; there = there; moving = m }
 
     -- the batch has too many bytes
     pub bytes_refused : (e : Error) → (e ≢ errors.Memory → (e ≡ errors.Full) × (2 ^ 56 ≤ encoded_length batch.items batch.entry_bytes))
-        → IsRegionUnmoved gate region engine (record engine { asks = between }) e
+        → IsBatchUnmoved gate left region engine (record engine { asks = between }) e
     bytes_refused e long = inl (only_read between reads, λ some. inr (inr (batch, is_moving, (long some).0, (long some).1)))
 
     its_last : IsLastFile Rewrite asks rewrite.seq (k.whole is_intact).rewrite_files.bytes
@@ -170,7 +171,7 @@ module _ (read : ReadsAreStored) (version : Version) (asks : List Ask) (append r
     found = ap (λ r. finite.get accessor.tables r) own ∙ there
 
     -- the region has nothing to move
-    pub none_moved : batch.items ≡ [] → IsRegionMoved gate region engine (record engine { asks = between })
+    pub none_moved : batch.items ≡ [] → IsBatchMoved gate left region engine (record engine { asks = between })
     none_moved e = record {
       between = between;
       batch = batch;
@@ -207,14 +208,14 @@ module _ (read : ReadsAreStored) (version : Version) (asks : List Ask) (append r
       stored_put : (new : Tables) → after_items (Rewriting gate rewrite.seq) accessor.tables (placed_at file.id (length its_bytes) batch) ≡ Some new
           → AreKeptStored version (ask Rewrite (Put (bytes_for file batch)) ∷ between) k.base [] new
       stored_put new e =
-          moved version asks between k.base accessor.tables new rewrite.seq its_bytes gate t batch (read_synced asks between reads synced)
+          moved version asks between k.base accessor.tables new rewrite.seq its_bytes gate left t batch (read_synced asks between reads synced)
           (read_last asks between rewrite.seq its_bytes reads its_last) w found m e stored_between
 
       -- the batch is put, and the engine isn't intact any more
       pub put_broken : PutBatchesAreStored → (new : List Ask) (append' rewrite' : QueueFiles) (untold' : Batch) (accessor' : Accessor) → new ≡ ask Rewrite (Put (bytes_for file batch)) ∷ between
           → IsKeptBy version new append' rewrite' untold' accessor' false
       put_broken put new append' rewrite' untold' accessor' e =
-          let stored = put version asks between k.base accessor.tables rewrite.seq its_bytes gate t batch (read_synced asks between reads synced)
+          let stored = put version asks between k.base accessor.tables rewrite.seq its_bytes gate left t batch (read_synced asks between reads synced)
           (read_last asks between rewrite.seq its_bytes reads its_last) w found sound m stored_between in record {
             base = k.base;
             untold = [];
@@ -238,7 +239,7 @@ module _ (read : ReadsAreStored) (version : Version) (asks : List Ask) (append r
       pub half_moved : (new : List Ask) (accessor' : Accessor)
           → ((new ≡ between) × (accessor' ≡ accessor))
           ⊎ ((new ≡ ask Rewrite (Put (bytes_for file batch)) ∷ between) × AreFirstWritten (Rewriting gate rewrite.seq) (placed_at file.id (length its_bytes) batch) accessor accessor')
-          → IsRegionHalfMoved gate region engine (record engine { asks = new; accessor = accessor'; intact = false })
+          → IsBatchHalfMoved gate left region engine (record engine { asks = new; accessor = accessor'; intact = false })
       half_moved new accessor' half = record {
         between = between;
         batch = batch;
@@ -273,12 +274,12 @@ module _ (read : ReadsAreStored) (version : Version) (asks : List Ask) (append r
             read_back = λ none.
                 let back = (between_kept.whole is_intact).read_back (none_before Rewrite version (ask Rewrite (Put (bytes_for file batch)) ∷ []) between (subst (NoneFound Rewrite version) is_new none)) in
                 subst (λ (l : List Ask). IsReadBack version l accessor') (sym is_new)
-                (moved_back version asks between accessor accessor' rewrite.seq its_bytes gate t batch (queue_deeds.written stored_between.now.rewritten) (read_last asks between rewrite.seq its_bytes reads its_last)
+                (moved_back version asks between accessor accessor' rewrite.seq its_bytes gate left t batch (queue_deeds.written stored_between.now.rewritten) (read_last asks between rewrite.seq its_bytes reads its_last)
                 stored_between.now.rewrite_done.put.whole w m applied back);
           };
         }
 
-        pub region_moved : IsRegionMoved gate region engine (record engine { asks = new; accessor = accessor'; intact = true })
+        pub region_moved : IsBatchMoved gate left region engine (record engine { asks = new; accessor = accessor'; intact = true })
         region_moved = record {
           between = between;
           batch = batch;
@@ -306,7 +307,7 @@ module _ (read : ReadsAreStored) (version : Version) (asks : List Ask) (append r
         made_broken put new append' rewrite' untold' accessor' h = may_broken put new append' rewrite' untold' accessor' (subst (λ (a : Ask). MayBeAsked a between new) same_ask h)
 
         pub made_half : (new : List Ask) → MayBeAsked (ask context.id.queue (Put (bytes_for context made))) between new
-            → IsRegionHalfMoved gate region engine (record engine { asks = new; intact = false })
+            → IsBatchHalfMoved gate left region engine (record engine { asks = new; intact = false })
         made_half new (inl e) = half_moved new accessor (inl (e, refl))
         made_half new (inr e) = half_moved new accessor (inr (e ∙ ap (λ (a : Ask). a ∷ between) same_ask, none_first (Rewriting gate rewrite.seq) (placed_at file.id (length its_bytes) batch) accessor))
 

@@ -30,6 +30,7 @@ mod DoneLemmas
 mod UntoldLemmas
 mod StoredLemmas
 mod FilesLemmas
+mod PartLengths
 mod PartLemmas
 mod WrittenBoth
 mod GroupPutLemmas
@@ -48,7 +49,9 @@ mod MovesAgain
 mod MovedLemmas
 mod GroupPuts
 mod GroupMoves
+mod NextParts
 mod TakenMoves
+mod LeftEntries
 mod KeptMoves
 mod GroupReadBack
 mod KeptGroups

@@ -12,7 +12,8 @@ use Rattle.raft_base.specs.declared.pipe_log.LogQueue.TheVariants.{Append, Rewri
 use Rattle.raft_base.specs.declared.pipe_log.Version.{Version}
 use Rattle.raft_records.specs.Group.{first_marker, is_reserved, marker_byte, marker_byte_in, status_of}
 use Rattle.raft_records.specs.Item.{Item}
-use Rattle.raft_records.specs.ItemBatch.{placed_item}
+use Rattle.raft_records.specs.Entries.{with_lengths}
+use Rattle.raft_records.specs.ItemBatch.{placed_item, with_offsets_from}
 use Rattle.raft_records.specs.LogBatch.{Batch, entry_place}
 use Rattle.raft_records.specs.declared.key_value.OpType.TheVariants as operations
 use Rattle.raft_history.specs.Batches.{Event, marker_in}
@@ -21,7 +22,7 @@ use Rattle.raft_history.specs.Histories.{HaveStatus}
 use Rattle.raft_history.specs.RegionSteps.{RegionStep, Tables}
 use Rattle.raft_table.specs.Steps.{table_of}
 use Rattle.raft_table.specs.Table.{Table}
-use Rattle.raft_table.specs.TableEntries.{AreTableEntries}
+use Rattle.raft_table.specs.TableEntries.{AreTableEntries, placed_in}
 use Rattle.raft_accessor.specs.Writes.{Rewriting, after_items}
 use Rattle.raft_accessor.proofs.MapLemmas.{none_some}
 use Rattle.raft_files.specs.Asks.{Act, Ask, NumberedBytes, Put, Read, acts_on, ask}
@@ -32,7 +33,7 @@ use Rattle.raft_engine_laws.specs.Groups.{HasNoMarker}
 use Rattle.raft_engine_laws.specs.Moving.{AreOrdinary, IsMovingBatch, MoveAgain, moving_items, put_items}
 use Rattle.raft_engine_laws.specs.Records.{Records}
 use Rattle.raft_engine_laws.specs.Stops.{Deed, Write, IsNextIn, IsSafe, IsSynced, LoseNothing, written}
-use Rattle.raft_engine_fronts.specs.Contents.{AddedEntriesAreTold, AreBothTold, KeepsBytes, ReadEntryIsTold}
+use Rattle.raft_engine_fronts.specs.Contents.{AddedEntriesAreTold, AreBothTold, HaveContents, KeepsBytes, ReadEntryIsTold, placed_entries}
 use Rattle.raft_engine_fronts.specs.Done.{AreDoneWhole, LastFileIsNext}
 use Rattle.raft_engine.specs.BatchBytes.{bytes_for, place_at, placed_at}
 use Rattle.raft_engine.specs.KeptEngine.{IsLastFile}
@@ -43,7 +44,7 @@ use Rattle.raft_engine.specs.Stored.{AreAllDone, AreKeptStored, AreStored, Bases
 use Rattle.raft_engine.specs.StoredAsks.{IsWritableBatch, WhatIsDoneLasts}
 use Rattle.raft_engine.proofs.DoneLemmas.{deeds_synced}
 use Rattle.raft_engine.proofs.LowPairs.{safe_low}
-use Rattle.raft_engine.proofs.MovesAgain.{again_batch_taken, move_again}
+use Rattle.raft_engine.proofs.MovesAgain.{again_batch_taken, all_in_part, all_moving, move_again}
 use Rattle.raft_engine.proofs.MovingPuts.{batch_taken, contents_told, is_moving, placed_moving}
 use Rattle.raft_engine_laws.proofs.InRows.{rows_alone}
 use Rattle.raft_engine.proofs.WellPutLemmas.{read_well}
@@ -67,8 +68,8 @@ moving_unmarked : (id : ℕ) (file : FileId) (es : List EntryIndex) (ps : List (
 moving_unmarked id file [] ps h = puts_unmarked id file ps h
 moving_unmarked id file (e ∷ es) ps h = (refl, puts_unmarked id file ps h)
 
-batch_unmarked : (gate : Option ℕ) (t : Table) (old asks : List Ask) (batch : Batch) (seq offset : ℕ) → IsBatchMoving gate t old asks batch → Unmarked (placed_at (record { queue = Rewrite; seq = seq }) offset batch)
-batch_unmarked gate t old asks batch seq offset m =
+batch_unmarked : (gate : Option ℕ) (left : List EntryIndex) (t : Table) (old asks : List Ask) (batch : Batch) (seq offset : ℕ) → IsBatchMoving gate left t old asks batch → Unmarked (placed_at (record { queue = Rewrite; seq = seq }) offset batch)
+batch_unmarked gate left t old asks batch seq offset m =
     let place : FileBlockHandle = entry_place (place_at (record { queue = Rewrite; seq = seq }) offset batch) batch.entry_bytes in
     subst Unmarked (sym (ap (λ (b : Batch). map (placed_item place compressions.None) b.items) m.is ∙ placed_moving place t.region_id _ m.strings _ m.read.reads m.read.have))
     (moving_unmarked t.region_id place.id _ _ m.ordinary)
@@ -145,9 +146,9 @@ module _
       → HasNoMarker e → MoveAgain content tables e.file e.items
       → after_items (Rewriting None e.file.seq) tables e.items ≡ Some new
       → IsSafe content base appended (Write e ∷ rewritten) [] new)
-      (version : Version) (old asked : List Ask) (base : Bases) (tables : Tables) (seq : ℕ) (bytes : List ℕ) (gate : Option ℕ) (t : Table) (batch : Batch)
+      (version : Version) (old asked : List Ask) (base : Bases) (tables : Tables) (seq : ℕ) (bytes : List ℕ) (gate : Option ℕ) (left : List EntryIndex) (t : Table) (batch : Batch)
       (synced : AreSynced (acts_on Append asked)) (last : IsLastFile Rewrite asked seq bytes) (w : IsWritableBatch batch)
-      (found : finite.get tables t.region_id ≡ Some t) (m : IsBatchMoving gate t old asked batch) (k : AreKeptStored version asked base [] tables) where
+      (found : finite.get tables t.region_id ≡ Some t) (m : IsBatchMoving gate left t old asked batch) (k : AreKeptStored version asked base [] tables) where
     abbrev s : AreStored version asked base [] tables
     s = k.now
 
@@ -167,7 +168,7 @@ module _
     a = ask Rewrite (Put (bytes_for (record { id = id; version = version }) batch))
 
     unmarked : Unmarked items
-    unmarked = batch_unmarked gate t old asked batch seq (length bytes) m
+    unmarked = batch_unmarked gate left t old asked batch seq (length bytes) m
 
     plain : HasNoMarker e
     plain = no_marker id items refl unmarked
@@ -191,18 +192,23 @@ module _
       rows = rows_alone (written s.rewritten) e plain s.rows;
     })
 
-    safe_so : (gate : Option ℕ) → IsBatchMoving gate t old asked batch → (new : Tables) → after_items (Rewriting gate seq) tables items ≡ Some new
+    safe_so : (gate : Option ℕ) → IsBatchMoving gate left t old asked batch → (new : Tables) → after_items (Rewriting gate seq) tables items ≡ Some new
         → (content : EntryIndex → List ℕ) → AreBothTold (a ∷ asked) content → IsSafe content (base content) s.appended (Write e ∷ s.rewritten) [] new
     safe_so (Some n) m new taken content told =
-        let have = contents_told keep added read version old asked seq s.rewrite_done.done.done.first bytes (Some n) t batch last s.rewrite_done.done.done.rising w.some m content told in
+        let have = contents_told keep added read version old asked seq s.rewrite_done.done.done.first bytes (Some n) left t batch last s.rewrite_done.done.done.rising w.some m content told in
         past content (base content) s.appended s.rewritten tables new e (safe_before content told) is_next
         (deeds_synced Append version (acts_on Append asked) s.appended s.append_done synced) plain
-        n t.region_id t found (is_moving content n t old asked batch m seq (length bytes) have.0 have.1) taken
+        n t.region_id t found (is_moving content n left t old asked batch m seq (length bytes) have.0 have.1) taken
     safe_so None m new taken content told =
-        let have = contents_told keep added read version old asked seq s.rewrite_done.done.done.first bytes None t batch last s.rewrite_done.done.done.rising w.some m content told in
+        let have = contents_told keep added read version old asked seq s.rewrite_done.done.done.first bytes None left t batch last s.rewrite_done.done.done.rising w.some m content told in
+        let all = all_moving left t old asked batch m in
+        let part = all_in_part left t old asked batch m in
         again content (base content) s.appended s.rewritten tables new e (safe_before content told) is_next
         (deeds_synced Append version (acts_on Append asked) s.appended s.append_done synced) plain
-        (move_again content tables t found old asked batch m seq (length bytes) have.0 have.1) taken
+        (move_again content tables t found old asked batch all.0 seq (length bytes)
+        (subst (λ (s : List (List ℕ)). HaveContents content (placed_in Rewrite t.entries) s) (sym all.1) (subst (λ (l : List EntryIndex). HaveContents content l m.strings) part have.0))
+        (subst (λ (s : List (List ℕ)). HaveContents content (placed_entries (entry_place handle batch.entry_bytes) (with_offsets_from 0 (with_lengths (placed_in Rewrite t.entries) s))) s) (sym all.1)
+        (subst (λ (l : List EntryIndex). HaveContents content (placed_entries (entry_place handle batch.entry_bytes) (with_offsets_from 0 (with_lengths l m.strings))) m.strings) part have.1))) taken
 
     pub move_stored : (new : Tables) → after_items (Rewriting gate seq) tables items ≡ Some new → AreKeptStored version (a ∷ asked) base [] new
     move_stored new taken = stored_as new (safe_so gate m new taken)
@@ -211,7 +217,7 @@ module _
     pub put_stored : AreTableEntries t.entries → (new : Tables) × AreKeptStored version (a ∷ asked) base [] new
     put_stored sound = by gate m
       where
-        tried : (m : IsBatchMoving None t old asked batch) → (o : Option Tables) → after_items (Rewriting None seq) tables items ≡ o → (new : Tables) × AreKeptStored version (a ∷ asked) base [] new
+        tried : (m : IsBatchMoving None left t old asked batch) → (o : Option Tables) → after_items (Rewriting None seq) tables items ≡ o → (new : Tables) × AreKeptStored version (a ∷ asked) base [] new
         tried m (Some new) taken = (new, stored_as new (safe_so None m new taken))
         tried m None refused = (tables, stored_as tables (λ content told. absurd (never content told)))
           where
@@ -219,11 +225,11 @@ module _
             never content told =
                 let low = safe_low content (base content) s.appended s.rewritten tables seq (safe_before content told) is_next.follows in
                 let taken = again_batch_taken tables t old asked batch seq (length bytes) found sound
-                (λ key x there queue. low t.region_id key x (ap (λ (o : Option Table). finite.get (table_of t.region_id o).keys key) found ∙ there) queue) m in
+                (λ key x there queue. low t.region_id key x (ap (λ (o : Option Table). finite.get (table_of t.region_id o).keys key) found ∙ there) queue) (all_moving left t old asked batch m).0 in
                 none_some (sym refused ∙ taken.1)
 
-        by : (gate : Option ℕ) → IsBatchMoving gate t old asked batch → (new : Tables) × AreKeptStored version (a ∷ asked) base [] new
+        by : (gate : Option ℕ) → IsBatchMoving gate left t old asked batch → (new : Tables) × AreKeptStored version (a ∷ asked) base [] new
         by None m = tried m (after_items (Rewriting None seq) tables items) refl
         by (Some n) m =
-            let taken = batch_taken n tables t old asked batch seq (length bytes) found sound m in
+            let taken = batch_taken n left tables t old asked batch seq (length bytes) found sound m in
             (taken.0, stored_as taken.0 (safe_so (Some n) m taken.0 taken.1))

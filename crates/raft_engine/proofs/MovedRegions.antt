@@ -1,14 +1,15 @@
 -- Regions whose rewritten records move, one after another, in a batch or in a group each.
 use Rattle.std.proofs.Common.{◌≡◌, ◌⊎◌, inl, inr, ℕ, ◌+◌, ◌<◌, ◌≤◌, List, [], ◌∷◌, ◌++◌, get_or, length, take, drop, Option, Some, None, refl, sym, ap, ◌∙◌, subst, arith}
 use Rattle.std.proofs.lemmas.Bool.{cases_lt}
-use Rattle.std.proofs.lemmas.List.{drop_more, length-take, take-append-drop, take_all, take_more}
+use Rattle.std.proofs.lemmas.List.{drop_more, take-append-drop, take_all, take_more}
 use Rattle.std.specs.FinMap as finite
 use Rattle.raft_base.specs.declared.entry_index.EntryIndex.{EntryIndex}
 use Rattle.raft_base.specs.declared.errors.Error.{Error}
+use Rattle.raft_table.specs.Fetches.{block_count}
 use Rattle.raft_table.specs.Steps.{table_of}
 use Rattle.raft_table.specs.Table.{Table}
 use Rattle.raft_table.specs.TableEntries.{placed_in}
-use Rattle.raft_engine.specs.GroupParts.{AreOnePart, IsFirstPart, bytes_of_entries}
+use Rattle.raft_engine.specs.Parts.{AreOnePart, IsFirstPart, bytes_of_entries}
 use Rattle.raft_engine.specs.KeptEngine.{KeptEngine}
 use Rattle.raft_engine.specs.Lasting.{AreSynced}
 use Rattle.raft_engine.specs.Moved.{IsReady}
@@ -16,7 +17,9 @@ use Rattle.raft_engine.specs.MovedGroups.{AreRegionsMovedAgain, AreSomeRegionsMo
 use Rattle.raft_engine.specs.Rewriting.{moving_entries}
 use Rattle.raft_engine.proofs.GroupReadBack.{puts_append}
 use Rattle.raft_engine.proofs.KeptMoves.{read_synced}
-use Rattle.raft_engine.proofs.PartLemmas.{bytes_append, parts_only}
+use Rattle.raft_engine.proofs.BlockCounts.{front_count}
+use Rattle.raft_engine.proofs.PartLemmas.{parts_only}
+use Rattle.raft_engine.proofs.PartLengths.{bytes_append}
 use Rattle.raft_engine.proofs.RewrittenRegions.{rewritten_ready}
 
 -- ---- entries that are one part
@@ -25,18 +28,21 @@ all_one : (es : List EntryIndex) (n : ℕ) → AreOnePart es → AreOnePart (tak
 all_one es n (inl few) =
     let sum = ap bytes_of_entries (sym (take-append-drop n es)) ∙ bytes_append (take n es) (drop n es) in
     inl (omega (arith, sum, few))
-all_one es n (inr one) = let long = length-take n es in inr (omega (arith, long, one))
+all_one es n (inr one) =
+    let fewer = front_count (take n es) (drop n es) in
+    let all = ap block_count (take-append-drop n es) in
+    inr (omega (arith, fewer, all, one))
 
 pub one_if : (es : List EntryIndex) (n : ℕ) → IsFirstPart es n → n ≡ length es → AreOnePart es
 one_if es n f e = subst AreOnePart (take_all n es (omega (arith, e))) f.part
 
 pub only_if : (es : List EntryIndex) (n : ℕ) → IsFirstPart es n → AreOnePart es → length es ≤ n
 only_if es n f one = elim (cases_lt n (length es)) [
-  | inl less ↦ absurd (f.longest less (all_one es (n + 1) one))
+  | inl less ↦ let next = f.longest less in absurd (next.3 (all_one es next.0 one))
   | inr most ↦ most
 ]
 
-none_low : 0 ≤ 131072
+none_low : 0 ≤ 8192
 none_low = omega arith
 
 pub one_in_none : (region : ℕ) (o : Option Table) → o ≡ None

@@ -26,7 +26,8 @@ use Rattle.raft_files.specs.Asks.{Ask}
 use Rattle.raft_engine_fronts.specs.Contents.{HaveContents, placed_entries}
 use Rattle.raft_engine_laws.specs.Moving.{AreCopies, AreOrdinary, MoveAgain, MovesAgain, entries_on, moving_items, put_items, run_of}
 use Rattle.raft_engine.specs.BatchBytes.{place_at, placed_at}
-use Rattle.raft_engine.specs.Rewriting.{IsBatchMoving}
+use Rattle.raft_engine.specs.Reads.{AreReadByBlocks}
+use Rattle.raft_engine.specs.Rewriting.{IsBatchMoving, batch_of, pairs_with}
 use Rattle.raft_engine.proofs.FetchedLemmas.{IsRewrittenPair, all_rewritten}
 use Rattle.raft_engine.proofs.MovingPuts.{are_copies, placed_moving, same_copies}
 use Rattle.raft_engine.proofs.TakenMoves.{AreLow, again_taken}
@@ -100,11 +101,36 @@ module _ (tables : Tables) (id : ℕ) (t : Table) (found : finite.get tables id 
 
 -- ---- the batch
 
+-- without a gate a batch has all that moves
+pub record IsAllMoving (t : Table) (old asks : List Ask) (batch : Batch) : Type 0 where
+  pub strings : List (List ℕ)
+  pub read : AreReadByBlocks (placed_in Rewrite t.entries) strings old asks
+  pub ordinary : AreOrdinary (pairs_up_to Rewrite None t.keys)
+  pub is : batch ≡ batch_of t.region_id (placed_in Rewrite t.entries) strings (pairs_up_to Rewrite None t.keys)
+
+pub all_in_part : (left : List EntryIndex) (t : Table) (old asks : List Ask) (batch : Batch) (m : IsBatchMoving None left t old asks batch) → m.part ≡ placed_in Rewrite t.entries
+all_in_part left t old asks batch m = sym (m.next.split ∙ ap (λ (l : List EntryIndex). m.part ++ l) m.next.first ∙ append-nil m.part)
+
+pub all_moving : (left : List EntryIndex) (t : Table) (old asks : List Ask) (batch : Batch) (m : IsBatchMoving None left t old asks batch)
+    → (w : IsAllMoving t old asks batch) × (w.strings ≡ m.strings)
+all_moving left t old asks batch m =
+    let part : m.part ≡ placed_in Rewrite t.entries = all_in_part left t old asks batch m in
+    let pairs : pairs_with left (pairs_up_to Rewrite None t.keys) ≡ pairs_up_to Rewrite None t.keys = ap (λ (l : List EntryIndex). pairs_with l (pairs_up_to Rewrite None t.keys)) m.next.first in (
+      record {
+        strings = m.strings;
+        read = subst (λ (l : List EntryIndex). AreReadByBlocks l m.strings old asks) part m.read;
+        ordinary = subst AreOrdinary pairs m.ordinary;
+        is = m.is ∙ ap (λ (l : List EntryIndex). batch_of t.region_id l m.strings (pairs_with left (pairs_up_to Rewrite None t.keys))) part
+            ∙ ap (λ (ps : List (List ℕ × List ℕ)). batch_of t.region_id (placed_in Rewrite t.entries) m.strings ps) pairs;
+      },
+      refl,
+    )
+
 abbrev its_copies : Table → (old asks : List Ask) (batch : Batch) → (seq offset : ℕ) → List (List ℕ) → List EntryIndex
 its_copies t old asks batch seq offset strings =
     placed_entries (entry_place (place_at (record { queue = Rewrite; seq = seq }) offset batch) batch.entry_bytes) (with_offsets_from 0 (with_lengths (placed_in Rewrite t.entries) strings))
 
-module _ (tables : Tables) (t : Table) (found : finite.get tables t.region_id ≡ Some t) (old asks : List Ask) (batch : Batch) (m : IsBatchMoving None t old asks batch) (seq offset : ℕ) where
+module _ (tables : Tables) (t : Table) (found : finite.get tables t.region_id ≡ Some t) (old asks : List Ask) (batch : Batch) (m : IsAllMoving t old asks batch) (seq offset : ℕ) where
   abbrev to : FileId
   to = record { queue = Rewrite; seq = seq }
 
@@ -114,7 +140,7 @@ module _ (tables : Tables) (t : Table) (found : finite.get tables t.region_id �
       ap (λ (b : Batch). map (placed_item place compressions.None) b.items) m.is ∙ placed_moving place t.region_id (placed_in Rewrite t.entries) m.strings (pairs_up_to Rewrite None t.keys) m.read.reads m.read.have
 
 -- it moves records of the table for every content by which both its entries and those that were read have the bytes that were read
-pub move_again : (content : EntryIndex → List ℕ) (tables : Tables) (t : Table) → finite.get tables t.region_id ≡ Some t → (old asks : List Ask) (batch : Batch) (m : IsBatchMoving None t old asks batch) (seq offset : ℕ)
+pub move_again : (content : EntryIndex → List ℕ) (tables : Tables) (t : Table) → finite.get tables t.region_id ≡ Some t → (old asks : List Ask) (batch : Batch) (m : IsAllMoving t old asks batch) (seq offset : ℕ)
     → HaveContents content (placed_in Rewrite t.entries) m.strings → HaveContents content (its_copies t old asks batch seq offset m.strings) m.strings
     → MoveAgain content tables (record { queue = Rewrite; seq = seq }) (placed_at (record { queue = Rewrite; seq = seq }) offset batch)
 move_again content tables t found old asks batch m seq offset have put =
@@ -128,7 +154,7 @@ move_again content tables t found old asks batch m seq offset have put =
     })
 
 -- the tables take it, whatever the contents, if their rewritten pairs are in files up to this one
-pub again_batch_taken : (tables : Tables) (t : Table) (old asks : List Ask) (batch : Batch) (seq offset : ℕ) → finite.get tables t.region_id ≡ Some t → AreTableEntries t.entries → AreLow seq t.keys → IsBatchMoving None t old asks batch
+pub again_batch_taken : (tables : Tables) (t : Table) (old asks : List Ask) (batch : Batch) (seq offset : ℕ) → finite.get tables t.region_id ≡ Some t → AreTableEntries t.entries → AreLow seq t.keys → IsAllMoving t old asks batch
     → (new : Tables) × (after_items (Rewriting None seq) tables (placed_at (record { queue = Rewrite; seq = seq }) offset batch) ≡ Some new)
 again_batch_taken tables t old asks batch seq offset found sound low m =
     let place : FileBlockHandle = entry_place (place_at (record { queue = Rewrite; seq = seq }) offset batch) batch.entry_bytes in

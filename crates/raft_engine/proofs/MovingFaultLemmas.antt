@@ -37,11 +37,12 @@ use Rattle.raft_engine.specs.MovedAgain.{IsRewriteRotated}
 use Rattle.raft_engine.specs.MovedGroups.{AreRegionsMovedAgain}
 use Rattle.raft_engine.specs.MovingFaults.{AreTaken, AreUntaken, IsFaultOfRegions, IsFaultOfRegionsAgain, IsRegionFault, IsRegionFaultAgain}
 use Rattle.raft_engine.specs.OpeningAsks.{Failures}
-use Rattle.raft_engine.specs.Rewriting.{IsBatchMoving, moving_entries, moving_pairs}
+use Rattle.raft_engine.specs.Rewriting.{IsBatchMoving, moving_entries, moving_pairs, pairs_with}
 use Rattle.raft_engine.specs.WrittenBatch.{IsNextRefused, LacksRoom}
 use Rattle.raft_engine.proofs.DrainLemmas.{parted}
 use Rattle.raft_engine.proofs.FetchedLemmas.{fetched_consecutive}
 use Rattle.raft_engine.proofs.MovingPuts.{batch_taken, placed_moving, same_copies}
+use Rattle.raft_engine.proofs.PartLemmas.{part_consecutive}
 
 -- ---- tables that don't take a batch
 
@@ -138,19 +139,19 @@ moving_for : (gate : Option ℕ) (seq id : ℕ) (file : FileId) (es : List Entry
 moving_for gate seq id file [] ps run = puts_for gate seq id file ps
 moving_for gate seq id file (e ∷ es) ps run = (run, puts_for gate seq id file ps)
 
-pub batch_is_taken : (gate : ℕ) (tables : Tables) (t : Table) (old asks : List Ask) (batch : Batch) (seq offset : ℕ) → finite.get tables t.region_id ≡ Some t → AreTableEntries t.entries → IsBatchMoving (Some gate) t old asks batch
+pub batch_is_taken : (gate : ℕ) (left : List EntryIndex) (tables : Tables) (t : Table) (old asks : List Ask) (batch : Batch) (seq offset : ℕ) → finite.get tables t.region_id ≡ Some t → AreTableEntries t.entries → IsBatchMoving (Some gate) left t old asks batch
     → AreTaken (Some gate) seq tables (placed_at (record { queue = Rewrite; seq = seq }) offset batch)
-batch_is_taken gate tables t old asks batch seq offset there sound m =
+batch_is_taken gate left tables t old asks batch seq offset there sound m =
     let file : FileId = record { queue = Rewrite; seq = seq } in
-    let es : List EntryIndex = moving_entries (Some gate) t.entries in
-    let ps : List (List ℕ × List ℕ) = moving_pairs (Some gate) t.keys in
+    let es : List EntryIndex = m.part in
+    let ps : List (List ℕ × List ℕ) = pairs_with left (moving_pairs (Some gate) t.keys) in
     let place : FileBlockHandle = entry_place (place_at file offset batch) batch.entry_bytes in
     let copies : List EntryIndex = placed_entries place (with_offsets_from 0 (with_lengths es m.strings)) in
     let are : AreCopies (λ e. []) copies es = same_copies place 0 es m.strings m.read.reads refl m.read.have in
-    let whole : IsConsecutive es = fetched_consecutive (Some gate) t.entries [] es sound refl refl in
+    let whole : IsConsecutive es = part_consecutive es left (subst IsConsecutive m.next.split (fetched_consecutive (Some gate) t.entries [] (moving_entries (Some gate) t.entries) sound refl refl)) in
     let items : placed_at file offset batch ≡ moving_items t.region_id file copies ps =
     ap (λ (b : Batch). map (placed_item place compressions.None) b.items) m.is ∙ placed_moving place t.region_id es m.strings ps m.read.reads m.read.have in
-    let taken = batch_taken gate tables t old asks batch seq offset there sound m in
+    let taken = batch_taken gate left tables t old asks batch seq offset there sound m in
     record {
       each = subst (AllByRecursion (λ (item : Item). IsFor (Rewriting (Some gate) seq) item.content)) (sym items)
           (moving_for (Some gate) seq t.region_id file copies ps (record {
@@ -162,13 +163,13 @@ batch_is_taken gate tables t old asks batch seq offset there sound m =
     }
 
 -- the refusal of one of its items, by the gate
-pub untaken : (gate : Option ℕ) (t : Table) (asks between : List Ask) (batch : Batch) (seq offset : ℕ) (old new : Accessor) (e : Error)
-    → finite.get old.tables t.region_id ≡ Some t → AreTableEntries t.entries → IsBatchMoving gate t asks between batch
+pub untaken : (gate : Option ℕ) (left : List EntryIndex) (t : Table) (asks between : List Ask) (batch : Batch) (seq offset : ℕ) (old new : Accessor) (e : Error)
+    → finite.get old.tables t.region_id ≡ Some t → AreTableEntries t.entries → IsBatchMoving gate left t asks between batch
     → (AreTaken gate seq old.tables (placed_at (record { queue = Rewrite; seq = seq }) offset batch) → LacksRoom e)
     → IsNextRefused (Rewriting gate seq) (placed_at (record { queue = Rewrite; seq = seq }) offset batch) old new e
     → AreUntaken gate seq (placed_at (record { queue = Rewrite; seq = seq }) offset batch) old new e
-untaken None t asks between batch seq offset old new e there sound m room refused = refused
-untaken (Some gate) t asks between batch seq offset old new e there sound m room refused = (room (batch_is_taken gate old.tables t asks between batch seq offset there sound m), refused)
+untaken None left t asks between batch seq offset old new e there sound m room refused = refused
+untaken (Some gate) left t asks between batch seq offset old new e there sound m room refused = (room (batch_is_taken gate left old.tables t asks between batch seq offset there sound m), refused)
 
 -- ---- all regions
 

@@ -29,8 +29,8 @@ use Rattle.raft_engine_laws.specs.Moving.{AreCopies, IsMovingBatch, moving_items
 use Rattle.raft_engine.specs.BatchBytes.{bytes_for, event_at, place_at, placed_at}
 use Rattle.raft_engine.specs.KeptEngine.{IsLastFile}
 use Rattle.raft_engine.specs.Reads.{IsReadAmong}
-use Rattle.raft_engine.specs.Rewriting.{IsBatchMoving, batch_of, moving_entries, moving_pairs, puts_of}
-use Rattle.raft_engine.proofs.FetchedLemmas.{all_fetched, all_may_move}
+use Rattle.raft_engine.specs.Rewriting.{IsBatchMoving, batch_of, moving_entries, moving_pairs, pairs_with, puts_of}
+use Rattle.raft_engine.proofs.NextParts.{back_of, left_before, part_may_move, parted, with_fetched}
 use Rattle.raft_engine.proofs.TakenMoves.{moving_taken}
 use Rattle.raft_engine.proofs.ToldReads.{entries_have}
 
@@ -62,27 +62,25 @@ placed_moving place id (e ∷ es) (bytes ∷ strings) ps reads h =
 placed_moving place id (e ∷ es) [] ps reads h = absurd h
 
 -- the batch moves records of the table for every content by which both its entries and those that were read have the bytes that were read
-pub is_moving : (content : EntryIndex → List ℕ) (gate : ℕ) (t : Table) (old asks : List Ask) (batch : Batch) (m : IsBatchMoving (Some gate) t old asks batch) (seq offset : ℕ)
-    → HaveContents content (appended_before gate t.entries) m.strings
-    → HaveContents content (placed_entries (entry_place (place_at (record { queue = Rewrite; seq = seq }) offset batch) batch.entry_bytes) (with_offsets_from 0 (with_lengths (appended_before gate t.entries) m.strings))) m.strings
+pub is_moving : (content : EntryIndex → List ℕ) (gate : ℕ) (left : List EntryIndex) (t : Table) (old asks : List Ask) (batch : Batch) (m : IsBatchMoving (Some gate) left t old asks batch) (seq offset : ℕ)
+    → HaveContents content m.part m.strings
+    → HaveContents content (placed_entries (entry_place (place_at (record { queue = Rewrite; seq = seq }) offset batch) batch.entry_bytes) (with_offsets_from 0 (with_lengths m.part m.strings))) m.strings
     → IsMovingBatch content gate t.region_id t (event_at (record { queue = Rewrite; seq = seq }) offset batch)
-is_moving content gate t old asks batch m seq offset h k =
-    let es : List EntryIndex = appended_before gate t.entries in
-    let ps : List (List ℕ × List ℕ) = pairs_up_to Append (Some gate) t.keys in
+is_moving content gate left t old asks batch m seq offset h k =
+    let ps : List (List ℕ × List ℕ) = pairs_with left (pairs_up_to Append (Some gate) t.keys) in
     let id : FileId = record { queue = Rewrite; seq = seq } in
     let place : FileBlockHandle = entry_place (place_at id offset batch) batch.entry_bytes in
-    let n : ℕ = prefix_len (is_placed_before gate) (placed_in Append t.entries) in
     record {
-      middle = es;
-      back = drop n (placed_in Append t.entries);
-      split = sym (take-append-drop n (placed_in Append t.entries));
-      gated = all_may_move gate t.entries;
-      copies = placed_entries place (with_offsets_from 0 (with_lengths es m.strings));
-      copied = are_copies content place 0 es m.strings refl h k;
+      middle = m.part;
+      back = back_of gate left t.entries;
+      split = parted gate m.part left t.entries m.next.split;
+      gated = part_may_move gate m.part left t.entries m.next.split;
+      copies = placed_entries place (with_offsets_from 0 (with_lengths m.part m.strings));
+      copied = are_copies content place 0 m.part m.strings refl h k;
       pairs = ps;
-      fetched = all_fetched gate t.keys;
+      fetched = with_fetched gate left t.keys;
       ordinary = m.ordinary;
-      items = ap (λ (b : Batch). map (placed_item place compressions.None) b.items) m.is ∙ placed_moving place t.region_id es m.strings ps m.read.reads m.read.have;
+      items = ap (λ (b : Batch). map (placed_item place compressions.None) b.items) m.is ∙ placed_moving place t.region_id m.part m.strings ps m.read.reads m.read.have;
     }
 
 -- ---- by what was asked
@@ -115,16 +113,16 @@ module _
       (e ∷ es) strings [] [] (ap (λ (b : Batch). b.entry_bytes) is ∙ sym (append-nil (concat strings)))
 
   -- so both its entries and those that were read have the bytes that were read, by every content that is told once it is put
-  pub contents_told : (version : Version) (old asks : List Ask) (seq first : ℕ) (bytes : List ℕ) (gate : Option ℕ) (t : Table) (batch : Batch)
-      → IsLastFile Rewrite asks seq bytes → AreRisingFrom first (numbers (begun (acts_on Rewrite asks))) → batch.items ≢ [] → (m : IsBatchMoving gate t old asks batch)
+  pub contents_told : (version : Version) (old asks : List Ask) (seq first : ℕ) (bytes : List ℕ) (gate : Option ℕ) (left : List EntryIndex) (t : Table) (batch : Batch)
+      → IsLastFile Rewrite asks seq bytes → AreRisingFrom first (numbers (begun (acts_on Rewrite asks))) → batch.items ≢ [] → (m : IsBatchMoving gate left t old asks batch)
       → (content : EntryIndex → List ℕ) → AreBothTold (ask Rewrite (Put (bytes_for (record { id = record { queue = Rewrite; seq = seq }; version = version }) batch)) ∷ asks) content
-      → HaveContents content (moving_entries gate t.entries) m.strings
-      × HaveContents content (placed_entries (entry_place (place_at (record { queue = Rewrite; seq = seq }) (length bytes) batch) batch.entry_bytes) (with_offsets_from 0 (with_lengths (moving_entries gate t.entries) m.strings))) m.strings
-  contents_told version old asks seq first bytes gate t batch last rising some m content told =
-      let es : List EntryIndex = moving_entries gate t.entries in
+      → HaveContents content m.part m.strings
+      × HaveContents content (placed_entries (entry_place (place_at (record { queue = Rewrite; seq = seq }) (length bytes) batch) batch.entry_bytes) (with_offsets_from 0 (with_lengths m.part m.strings))) m.strings
+  contents_told version old asks seq first bytes gate left t batch last rising some m content told =
+      let es : List EntryIndex = m.part in
       let before : AreBothTold asks content = keep asks (ask Rewrite (Put (bytes_for (record { id = record { queue = Rewrite; seq = seq }; version = version }) batch))) content tt told in
       let have : HaveContents content es m.strings = entries_have read m.read.reads old asks m.read.asked content before es m.strings m.read.have in
-      (have, put_told version asks seq first bytes batch content t.region_id es m.strings (moving_pairs gate t.keys) last rising some m.is have told)
+      (have, put_told version asks seq first bytes batch content t.region_id es m.strings (pairs_with left (moving_pairs gate t.keys)) last rising some m.is have told)
 
 -- ---- whatever the contents
 
@@ -139,15 +137,24 @@ same_copies place s (e ∷ es) (bytes ∷ strings) reads q h = (
 same_copies place s (e ∷ es) [] reads q h = absurd h
 
 -- the tables take the batch
-pub batch_taken : (gate : ℕ) (tables : Tables) (t : Table) (old asks : List Ask) (batch : Batch) (seq offset : ℕ) → finite.get tables t.region_id ≡ Some t → AreTableEntries t.entries → IsBatchMoving (Some gate) t old asks batch
+pub batch_taken : (gate : ℕ) (left : List EntryIndex) (tables : Tables) (t : Table) (old asks : List Ask) (batch : Batch) (seq offset : ℕ) → finite.get tables t.region_id ≡ Some t → AreTableEntries t.entries → IsBatchMoving (Some gate) left t old asks batch
     → (new : Tables) × (after_items (Rewriting (Some gate) seq) tables (placed_at (record { queue = Rewrite; seq = seq }) offset batch) ≡ Some new)
-batch_taken gate tables t old asks batch seq offset there sound m =
-    let es : List EntryIndex = appended_before gate t.entries in
-    let ps : List (List ℕ × List ℕ) = pairs_up_to Append (Some gate) t.keys in
+    × (u : Table) × (finite.get new t.region_id ≡ Some u) × (left ≡ appended_before gate u.entries)
+batch_taken gate left tables t old asks batch seq offset there sound m =
+    let es : List EntryIndex = m.part in
+    let ps : List (List ℕ × List ℕ) = pairs_with left (pairs_up_to Append (Some gate) t.keys) in
     let place : FileBlockHandle = entry_place (place_at (record { queue = Rewrite; seq = seq }) offset batch) batch.entry_bytes in
-    let n : ℕ = prefix_len (is_placed_before gate) (placed_in Append t.entries) in
-    let taken = moving_taken gate seq t.region_id tables t there sound ps m.ordinary (all_fetched gate t.keys) (placed_entries place (with_offsets_from 0 (with_lengths es m.strings))) es (drop n (placed_in Append t.entries))
-    (sym (take-append-drop n (placed_in Append t.entries))) (all_may_move gate t.entries) (same_copies place 0 es m.strings m.read.reads refl m.read.have) in
-    let items : placed_at (record { queue = Rewrite; seq = seq }) offset batch ≡ moving_items t.region_id (record { queue = Rewrite; seq = seq }) (placed_entries place (with_offsets_from 0 (with_lengths es m.strings))) ps =
-    ap (λ (b : Batch). map (placed_item place compressions.None) b.items) m.is ∙ placed_moving place t.region_id es m.strings ps m.read.reads m.read.have in
-    (taken.0, ap (after_items (Rewriting (Some gate) seq) tables) items ∙ taken.1)
+    let copies : List EntryIndex = placed_entries place (with_offsets_from 0 (with_lengths es m.strings)) in
+    let back : List EntryIndex = back_of gate left t.entries in
+    let split = parted gate es left t.entries m.next.split in
+    let are = same_copies place 0 es m.strings m.read.reads refl m.read.have in
+    let taken = moving_taken gate seq t.region_id tables t there sound ps m.ordinary (with_fetched gate left t.keys) copies es back
+    split (part_may_move gate es left t.entries m.next.split) are in
+    let items : placed_at (record { queue = Rewrite; seq = seq }) offset batch ≡ moving_items t.region_id (record { queue = Rewrite; seq = seq }) copies ps =
+    ap (λ (b : Batch). map (placed_item place compressions.None) b.items) m.is ∙ placed_moving place t.region_id es m.strings ps m.read.reads m.read.have in (
+      taken.0,
+      ap (after_items (Rewriting (Some gate) seq) tables) items ∙ taken.1,
+      taken.2,
+      taken.3,
+      left_before gate es left t.entries copies taken.2.entries are m.next.split taken.4,
+    )

@@ -12,106 +12,14 @@ use Rattle.raft_table.specs.Table.{Table}
 use Rattle.raft_files.specs.Asks.{Ask}
 use Rattle.raft_engine_laws.specs.Moving.{AreOrdinary}
 use Rattle.raft_engine.specs.GroupBatches.{ArePartsRead, EntriesPart, batches_behind, group_batches, marker_batch, part_batch}
-use Rattle.raft_engine.specs.GroupParts.{AreCutInto, AreOnePart, ArePartsAdded, ArePartsRefused, IsFirstPart, IsGroupInParts, IsGroupRefused, IsPartRead, IsPartRefused, bytes_of_entries, entries_of_parts}
+use Rattle.raft_engine.specs.GroupParts.{AreCutInto, ArePartsAdded, ArePartsRefused, IsGroupInParts, IsGroupRefused, IsPartRead, IsPartRefused, entries_of_parts}
+use Rattle.raft_engine.specs.Parts.{AreOnePart, IsFirstPart, bytes_of_entries}
 use Rattle.raft_engine.specs.Reads.{AreOnlyRead, AreReadByBlocks, AreReads}
 use Rattle.raft_engine.specs.Rewriting.{moving_entries, moving_pairs, with_puts}
 use Rattle.raft_engine.specs.Unmoved.{AreKeysRefused}
 use Rattle.raft_engine.proofs.ReadKept.{read_only, unread_only}
 
 -- ---- the first part
-
-pub bytes_append : (a b : List EntryIndex) → bytes_of_entries (a ++ b) ≡ bytes_of_entries a + bytes_of_entries b
-bytes_append [] b = omega arith
-bytes_append (e ∷ a) b = let rest = bytes_append a b in omega (arith, rest)
-
--- so many entries are counted, which have so many bytes
-pub record AreCounted (es : List EntryIndex) (i count bytes : ℕ) : Type 0 where
-  pub counted : count ≡ i
-  pub sum : bytes ≡ bytes_of_entries (take i es)
-  pub part : (bytes ≤ 131072) ⊎ (count ≤ 1)
-  pub low : bytes < 2 ^ 33
-
-pub none_counted : (es : List EntryIndex) → AreCounted es 0 0 0
-none_counted es = record { counted = refl; sum = refl; part = inr (omega arith); low = omega arith }
-
-module _ (es : List EntryIndex) (i count bytes more : ℕ) (d : EntryIndex) (less : i < length es) (len : ℕ) (is_len : len ≡ (get_or es i d).entry_len)
-    (is_more : more ≡ bytes + len) (h : AreCounted es i count bytes) where
-  sum_more : more ≡ bytes_of_entries (take (i + 1) es)
-  sum_more =
-      let all = ap bytes_of_entries (take_more es i d less) ∙ bytes_append (take i es) (get_or es i d ∷ []) in
-      let sum = h.sum in
-      omega (arith, all, sum, is_more, is_len)
-
-  pub one_counted : len < 2 ^ 32 → (0 < count → more ≤ 131072) → AreCounted es (i + 1) (count + 1) more
-  one_counted small fits =
-      let counted = h.counted in
-      let low = h.low in record {
-        counted = ap (λ n. n + 1) counted;
-        sum = sum_more;
-        part = part count fits;
-        low = low_more count refl fits;
-      }
-    where
-      part : (n : ℕ) → (0 < n → more ≤ 131072) → (more ≤ 131072) ⊎ (n + 1 ≤ 1)
-      part zero f = inr (omega arith)
-      part (suc n) f = inl (f (omega arith))
-
-      none : (n : ℕ) → count ≡ 0 → i ≡ 0
-      none n e = let counted = h.counted in omega (arith, counted, e)
-
-      low_more : (n : ℕ) → count ≡ n → (0 < count → more ≤ 131072) → more < 2 ^ 33
-      low_more zero e f =
-          let first : bytes ≡ 0 = h.sum ∙ ap (λ k. bytes_of_entries (take k es)) (none 0 e) in
-          omega (arith, first, is_more, small)
-      low_more (suc n) e f = let k = f (omega (arith, e)) in omega (arith, k)
-
-  pub first_part : 0 < count → 131072 < more → IsFirstPart es count
-  first_part some many =
-      let counted = h.counted in
-      let long = length-take count es in record {
-        at_most = omega (arith, counted, less);
-        some = λ e. some;
-        part = subst (λ n. AreOnePart (take n es)) (sym counted) (part h.part);
-        longest = λ l. longest;
-      }
-    where
-      part : (bytes ≤ 131072) ⊎ (count ≤ 1) → AreOnePart (take i es)
-      part (inl few) = inl (subst (λ n. n ≤ 131072) h.sum few)
-      part (inr one) =
-          let counted = h.counted in
-          let long = length-take i es in
-          inr (omega (arith, long, one, counted, less))
-
-      longest : AreOnePart (take (count + 1) es) → ⊥
-      longest (inl few) =
-          let counted = h.counted in
-          let sum = sum_more ∙ ap (λ n. bytes_of_entries (take (n + 1) es)) (sym counted) in
-          absurd (omega (arith, sum, few, many))
-      longest (inr one) =
-          let counted = h.counted in
-          let long = length-take (count + 1) es in
-          absurd (omega (arith, long, one, counted, less, some))
-
-pub whole_part : (es : List EntryIndex) (i count bytes : ℕ) → length es ≤ i → i ≤ length es
-    → AreCounted es i count bytes → IsFirstPart es count
-whole_part es i count bytes end at_most h =
-    let counted = h.counted in record {
-      at_most = omega (arith, counted, at_most);
-      some = λ some. above es some (omega (arith, counted, end));
-      part = subst (λ n. AreOnePart (take n es)) (sym counted) (part h.part);
-      longest = λ l. absurd (omega (arith, l, counted, end));
-    }
-  where
-    above : (l : List EntryIndex) → l ≢ [] → length l ≤ count → 0 < count
-    above [] some le = absurd (some refl)
-    above (e ∷ l) some le = omega (arith, le)
-
-    part : (bytes ≤ 131072) ⊎ (count ≤ 1) → AreOnePart (take i es)
-    part (inl few) = inl (subst (λ n. n ≤ 131072) h.sum few)
-    part (inr one) =
-        let counted = h.counted in
-        let long = ap length (take_all i es end) in
-        inr (omega (arith, long, one, counted, at_most))
 
 -- ---- consecutive entries in two pieces
 
@@ -144,6 +52,9 @@ pub each_more : {X : Type 0} (P : X → Type 0) (xs : List X) (x : X) → AllByR
     → AllByRecursion P (xs ++ x ∷ [])
 each_more P [] x h k = (k, tt)
 each_more P (y ∷ xs) x h k = (h.0, each_more P xs x h.1 k)
+
+pub part_consecutive : (a b : List EntryIndex) → IsConsecutive (a ++ b) → IsConsecutive a
+part_consecutive a b both = record { run = run_front a b both.run; bounded = each_front _ a b both.bounded }
 
 pub front_consecutive : (n : ℕ) (es : List EntryIndex) → IsConsecutive es → IsConsecutive (take n es)
 front_consecutive n es h =

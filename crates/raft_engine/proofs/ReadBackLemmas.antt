@@ -237,7 +237,7 @@ none_listed gate seq [] = refl
 none_listed gate seq (item ∷ items) = none_listed gate seq items
 
 pub moved_read_back : RewritingMovesPlaces → ReadingLeavesRuns → MovedBatchesAreReadBack
-moved_read_back rewriting runs version before asked old new seq bytes gate t batch rewritten last held w m applied r =
+moved_read_back rewriting runs version before asked old new seq bytes gate left t batch rewritten last held w m applied r =
     let id : FileId = record { queue = Rewrite; seq = seq } in
     let items : List Item = placed_at id (length bytes) batch in
     let same_cleaned : new.cleaned ≡ old.cleaned = applied.cleaned ∙ ap (λ (l : List ℕ). old.cleaned ++ l) (none_listed gate seq items) ∙ append-nil old.cleaned in

@@ -1,15 +1,23 @@
 -- Regions whose records move, one after another.
-use Rattle.std.proofs.Common.{◌≡◌, inl, inr, ℕ, ◌+◌, ◌<◌, true, List, [], ◌∷◌, ◌++◌, get_or, length, take, drop, Option, Result, Ok, Err, IfErr, OnErr, OnOk, refl, sym, ap, ◌∙◌, subst}
+use Rattle.std.proofs.Common.{◌≡◌, ◌≢◌, inl, inr, ℕ, ◌+◌, ◌<◌, true, List, [], ◌∷◌, ◌++◌, get_or, length, take, drop, Option, Some, Result, Ok, Err, IfErr, OnErr, OnOk, refl, sym, ap, ◌∙◌, subst}
 use Rattle.std.proofs.lemmas.List.{drop_more, take-append-drop, take_more}
+use Rattle.std.specs.FinMap as finite
+use Rattle.raft_base.specs.declared.entry_index.EntryIndex.{EntryIndex}
 use Rattle.raft_base.specs.declared.errors.Error.{Error}
+use Rattle.raft_base.specs.declared.errors.Error.TheVariants as errors
 use Rattle.raft_base.specs.declared.pipe_log.LogQueue.TheVariants.{Append}
 use Rattle.raft_files.specs.Asks.{Sync, ask}
+use Rattle.raft_table.specs.Table.{Table}
+use Rattle.raft_engine.specs.Faults.{Breaks}
 use Rattle.raft_engine.specs.KeptEngine.{KeptEngine}
 use Rattle.raft_engine.specs.Lasting.{AreSynced}
-use Rattle.raft_engine.specs.Moved.{AreRegionsRewritten, AreSomeRewritten, IsReady, IsRegionRewritten, IsRegionUnmoved, IsTold}
+use Rattle.raft_engine.specs.Moved.{AreFirstMoved, AreRegionsRewritten, AreSomeRewritten, AreToMove, IsBatchMoved, IsBatchUnmoved, IsReady, IsRegionRewritten, IsRegionUnmoved, IsTold}
+use Rattle.raft_engine.specs.MovingFaults.{IsBatchFault, IsRegionFault}
+use Rattle.raft_engine.specs.OpeningAsks.{Failures}
+use Rattle.raft_engine.specs.Rewriting.{moving_entries}
 use Rattle.raft_engine.proofs.KeptMoves.{read_synced}
 use Rattle.raft_engine.proofs.KeptPurges.{items_others}
-use Rattle.raft_engine.proofs.ReadKept.{read_only}
+use Rattle.raft_engine.proofs.ReadKept.{none_read, read_only}
 
 pub told_ready : (old new : KeptEngine) → old.intact ≡ true → IsTold old new → IsReady new
 told_ready old new intact t = subst IsReady (sym t.told) (record {
@@ -18,14 +26,69 @@ told_ready old new intact t = subst IsReady (sym t.told) (record {
   told = refl;
 })
 
-pub rewritten_ready : (gate : Option ℕ) (region : ℕ) (old new : KeptEngine) → IsReady old → IsRegionRewritten gate region old new → IsReady new
-rewritten_ready gate region old new r (inl m) = subst IsReady (sym m.1) r
-rewritten_ready gate region old new r (inr m) = subst IsReady (sym m.moved) (record {
+pub batch_ready : (gate : Option ℕ) (left : List EntryIndex) (region : ℕ) (old new : KeptEngine) → IsReady old → IsBatchMoved gate left region old new → IsReady new
+batch_ready gate left region old new r m = subst IsReady (sym m.moved) (record {
   intact = r.intact;
   synced = subst AreSynced (sym (items_others old.version m.seq m.batch m.batch.items m.between))
       (read_synced old.asks m.between (read_only _ m.moving.moving.strings old.asks m.between m.moving.moving.read) r.synced);
   told = r.told;
 })
+
+first_ready : (gate : Option ℕ) (region : ℕ) (behind : List KeptEngine) (old new : KeptEngine) → IsReady old → AreFirstMoved gate region behind old new → IsReady new
+first_ready gate region [] old new r h = subst IsReady (sym h) r
+first_ready gate region (next ∷ behind) old new r h = first_ready gate region behind next new (batch_ready gate h.0 region old next r h.2) h.3
+
+pub rewritten_ready : (gate : Option ℕ) (region : ℕ) (old new : KeptEngine) → IsReady old → IsRegionRewritten gate region old new → IsReady new
+rewritten_ready gate region old new r (inl m) = subst IsReady (sym m.1) r
+rewritten_ready gate region old new r (inr m) = batch_ready gate [] region m.between new (first_ready gate region m.behind old m.between r m.first) m.last
+
+-- ---- the batches of one region
+
+-- some batches of a region moved, each of which left entries, and these entries are to move
+pub record AreMovedSoFar (gate : Option ℕ) (region : ℕ) (old now : KeptEngine) (left : List EntryIndex) : Type 0 where
+  pub behind : List KeptEngine
+  pub first : AreFirstMoved gate region behind old now
+  pub to_move : AreToMove gate region now left
+  pub ready : IsReady now
+
+pub none_so_far : (gate : Option ℕ) (region : ℕ) (old : KeptEngine) (t : Table) (es : List EntryIndex) → finite.get old.accessor.tables region ≡ Some t → es ≡ moving_entries gate t.entries → IsReady old
+    → AreMovedSoFar gate region old old es
+none_so_far gate region old t es there are ready = record { behind = []; first = refl; to_move = record { table = t; there = there; are = are }; ready = ready }
+
+one_behind : (gate : Option ℕ) (region : ℕ) (behind : List KeptEngine) (old now new : KeptEngine) (left : List EntryIndex) → AreFirstMoved gate region behind old now → left ≢ [] → IsBatchMoved gate left region now new
+    → AreFirstMoved gate region (behind ++ new ∷ []) old new
+one_behind gate region [] old now new left h some m = (left, some, subst (λ (o : KeptEngine). IsBatchMoved gate left region o new) h m, refl)
+one_behind gate region (next ∷ behind) old now new left h some m = (h.0, h.1, h.2, one_behind gate region behind next now new left h.3 some m)
+
+pub more_so_far : (gate : Option ℕ) (region : ℕ) (old now new : KeptEngine) (es left : List EntryIndex) → AreMovedSoFar gate region old now es → left ≢ [] → IsBatchMoved gate left region now new → AreToMove gate region new left
+    → AreMovedSoFar gate region old new left
+more_so_far gate region old now new es left h some m to_move = record {
+  behind = h.behind ++ new ∷ [];
+  first = one_behind gate region h.behind old now new left h.first some m;
+  to_move = to_move;
+  ready = batch_ready gate left region now new h.ready m;
+}
+
+pub all_so_far : (gate : Option ℕ) (region : ℕ) (old now new : KeptEngine) (es left : List EntryIndex) → AreMovedSoFar gate region old now es → left ≡ [] → IsBatchMoved gate left region now new → IsRegionRewritten gate region old new
+all_so_far gate region old now new es left h none m =
+    inr (record { behind = h.behind; between = now; first = h.first; last = subst (λ (l : List EntryIndex). IsBatchMoved gate l region now new) none m })
+
+pub unmoved_so_far : (gate : Option ℕ) (region : ℕ) (old now new : KeptEngine) (es left : List EntryIndex) (e : Error) → AreMovedSoFar gate region old now es → IsBatchUnmoved gate left region now new e → IsRegionUnmoved gate region old new e
+unmoved_so_far gate region old now new es left e h u = record { behind = h.behind; between = now; first = h.first; left = left; unmoved = u }
+
+pub fault_so_far : (MayFail : Failures) (gate : Option ℕ) (region : ℕ) (old now new : KeptEngine) (es left : List EntryIndex) (e : Error) → AreMovedSoFar gate region old now es → (Breaks now new → IsBatchFault MayFail gate left region now new e)
+    → Breaks old new → IsRegionFault MayFail gate region old new e
+fault_so_far MayFail gate region old now new es left e h f broken = record { behind = h.behind; between = now; first = h.first; left = left; fault = f (h.ready.intact, broken.1) }
+
+-- there is no memory for the list of what moves
+pub unlisted : (gate : Option ℕ) (region : ℕ) (engine : KeptEngine) (e : Error) → e ≡ errors.Memory → IsRegionUnmoved gate region engine engine e
+unlisted gate region engine e memory = record {
+  behind = [];
+  between = engine;
+  first = refl;
+  left = [];
+  unmoved = inl (record { asked = none_read engine.asks engine.asks refl; others = refl }, λ some. absurd (some memory));
+}
 
 -- one region more
 more_region : (gate : Option ℕ) (region : ℕ) (regions : List ℕ) (old now new : KeptEngine) → AreRegionsRewritten gate regions old now → IsRegionRewritten gate region now new → AreRegionsRewritten gate (regions ++ region ∷ []) old new

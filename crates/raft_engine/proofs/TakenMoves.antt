@@ -29,7 +29,8 @@ use Rattle.raft_engine.proofs.FetchedLemmas.{IsRewrittenPair}
 -- pairs that move one after another
 puts_taken : (gate : Option ℕ) (seq id : ℕ) (ps : List (List ℕ × List ℕ)) (m : Tables) (t : Table) (out : Keys) → AreOrdinary ps → moved_all gate seq t.keys ps ≡ Some out → finite.get m id ≡ Some t
     → (n : Tables) × (after_items (Rewriting gate seq) m (put_items id (record { queue = Rewrite; seq = seq }) ps) ≡ Some n)
-puts_taken gate seq id [] m t out ordinary moved there = (m, refl)
+    × (u : Table) × (finite.get n id ≡ Some u) × (u.entries ≡ t.entries)
+puts_taken gate seq id [] m t out ordinary moved there = (m, refl, t, there, refl)
 puts_taken gate seq id (p ∷ ps) m t out ordinary moved there = go (rewritten_in gate seq t.keys p.0 (file_at t.keys p.0)) refl (λ k u rest e. puts_taken gate seq id ps k u out ordinary.1 rest e) moved
   where
     first : (x : Option Keys) → rewritten_in gate seq t.keys p.0 (file_at t.keys p.0) ≡ x →
@@ -41,31 +42,40 @@ puts_taken gate seq id (p ∷ ps) m t out ordinary moved there = go (rewritten_i
         ∙ ap (λ (o : Option Keys). option_map Some (option_map {U = Table} (λ keys. record t { keys = keys }) o)) e
 
     go : (x : Option Keys) → rewritten_in gate seq t.keys p.0 (file_at t.keys p.0) ≡ x
-        → ((k : Tables) (u : Table) → moved_all gate seq u.keys ps ≡ Some out → finite.get k id ≡ Some u → (n : Tables) × (after_items (Rewriting gate seq) k (put_items id (record { queue = Rewrite; seq = seq }) ps) ≡ Some n))
+        → ((k : Tables) (u : Table) → moved_all gate seq u.keys ps ≡ Some out → finite.get k id ≡ Some u
+        → (n : Tables) × (after_items (Rewriting gate seq) k (put_items id (record { queue = Rewrite; seq = seq }) ps) ≡ Some n)
+        × (v : Table) × (finite.get n id ≡ Some v) × (v.entries ≡ u.entries))
         → option_and_then (λ k. moved_all gate seq k ps) x ≡ Some out
         → (n : Tables) × (after_items (Rewriting gate seq) m (put_items id (record { queue = Rewrite; seq = seq }) (p ∷ ps)) ≡ Some n)
+        × (v : Table) × (finite.get n id ≡ Some v) × (v.entries ≡ t.entries)
     go None e rest k = absurd (none_some k)
     go (Some keys) e rest k =
         let u : Table = record t { keys = keys } in
-        let all : (n : Tables) × (after_items (Rewriting gate seq) (with_table m id (Some u)) (put_items id (record { queue = Rewrite; seq = seq }) ps) ≡ Some n) = rest (with_table m id (Some u)) u k (with_own m id (Some u)) in
-        (all.0, ap (option_and_then (λ o. after_items (Rewriting gate seq) (with_table m id o) (put_items id (record { queue = Rewrite; seq = seq }) ps))) (first (Some keys) e) ∙ all.1)
+        let all = rest (with_table m id (Some u)) u k (with_own m id (Some u)) in (
+          all.0,
+          ap (option_and_then (λ o. after_items (Rewriting gate seq) (with_table m id o) (put_items id (record { queue = Rewrite; seq = seq }) ps))) (first (Some keys) e) ∙ all.1,
+          all.2,
+          all.3,
+          all.4,
+        )
 
 module _ (gate : Option ℕ) (seq id : ℕ) (tables : Tables) (t : Table) (there : finite.get tables id ≡ Some t)
     (ps : List (List ℕ × List ℕ)) (ordinary : AreOrdinary ps) (keys : (out : Keys) × (moved_all gate seq t.keys ps ≡ Some out)) where
   none_taken : (n : Tables) × (after_items (Rewriting gate seq) tables (moving_items id (record { queue = Rewrite; seq = seq }) [] ps) ≡ Some n)
+      × (u : Table) × (finite.get n id ≡ Some u) × (u.entries ≡ t.entries)
   none_taken = puts_taken gate seq id ps tables t keys.0 ordinary keys.1 there
 
   run_taken : (x : EntryIndex) (gs after : List EntryIndex) → entries_after_rewrite gate (x ∷ gs) t.entries ≡ Some after
       → (n : Tables) × (after_items (Rewriting gate seq) tables (moving_items id (record { queue = Rewrite; seq = seq }) (x ∷ gs) ps) ≡ Some n)
+      × (u : Table) × (finite.get n id ≡ Some u) × (u.entries ≡ after)
   run_taken x gs after e =
       let to : FileId = record { queue = Rewrite; seq = seq } in
       let u : Table = record t { entries = after } in
-      let rest : (n : Tables) × (after_items (Rewriting gate seq) (with_table tables id (Some u)) (put_items id to ps) ≡ Some n) =
-      puts_taken gate seq id ps (with_table tables id (Some u)) u keys.0 ordinary keys.1 (with_own tables id (Some u)) in
+      let rest = puts_taken gate seq id ps (with_table tables id (Some u)) u keys.0 ordinary keys.1 (with_own tables id (Some u)) in
       let first : after_content (Rewriting gate seq) id (finite.get tables id) (entries (x ∷ gs)) ≡ Some (Some u) =
       ap (λ (o : Option Table). after_content (Rewriting gate seq) id o (entries (x ∷ gs))) there
       ∙ ap (λ (o : Option (List EntryIndex)). option_map Some (option_map {U = Table} (λ es. record t { entries = es }) o)) e in
-      (rest.0, ap (option_and_then (λ o. after_items (Rewriting gate seq) (with_table tables id o) (put_items id to ps))) first ∙ rest.1)
+      (rest.0, ap (option_and_then (λ o. after_items (Rewriting gate seq) (with_table tables id o) (put_items id to ps))) first ∙ rest.1, rest.2, rest.3, rest.4)
 
 -- ---- past a gate
 
@@ -80,7 +90,10 @@ module _ (gate seq id : ℕ) (tables : Tables) (t : Table) (there : finite.get t
   pub moving_taken : (copies middle back : List EntryIndex) → placed_in Append t.entries ≡ middle ++ back → AllByRecursion (λ (x : EntryIndex). may_move (Some gate) x ≡ true) middle
       → AreCopies (λ e. []) copies middle
       → (n : Tables) × (after_items (Rewriting (Some gate) seq) tables (moving_items id (record { queue = Rewrite; seq = seq }) copies ps) ≡ Some n)
-  moving_taken [] [] back split gated copied = none_taken (Some gate) seq id tables t there ps ordinary keys
+      × (u : Table) × (finite.get n id ≡ Some u) × (u.entries ≡ placed_in Rewrite t.entries ++ (copies ++ back))
+  moving_taken [] [] back split gated copied =
+      let none = none_taken (Some gate) seq id tables t there ps ordinary keys in
+      (none.0, none.1, none.2, none.3, none.4 ∙ sound.in_front ∙ ap (λ l. placed_in Rewrite t.entries ++ l) split)
   moving_taken [] (m ∷ ms) back split gated copied = absurd copied
   moving_taken (x ∷ gs) [] back split gated copied = absurd copied
   moving_taken (x ∷ gs) (m ∷ ms) back split gated copied =
@@ -136,7 +149,7 @@ module _ (seq id : ℕ) (tables : Tables) (t : Table) (there : finite.get tables
 
   pub again_taken : (copies : List EntryIndex) → AreCopies (λ e. []) copies (placed_in Rewrite t.entries)
       → (n : Tables) × (after_items (Rewriting None seq) tables (moving_items id (record { queue = Rewrite; seq = seq }) copies ps) ≡ Some n)
-  again_taken [] copied = none_taken None seq id tables t there ps ordinary again_keys
+  again_taken [] copied = let none = none_taken None seq id tables t there ps ordinary again_keys in (none.0, none.1)
   again_taken (x ∷ gs) copied = go (placed_in Rewrite t.entries) refl copied
     where
       go : (rew : List EntryIndex) → placed_in Rewrite t.entries ≡ rew → AreCopies (λ e. []) (x ∷ gs) rew
@@ -146,6 +159,7 @@ module _ (seq id : ℕ) (tables : Tables) (t : Table) (there : finite.get tables
           let back : List EntryIndex = placed_in Append t.entries in
           let whole : t.entries ≡ m ∷ ms ++ back = sound.in_front ∙ ap (λ l. l ++ back) e in
           let move = subst (AllByRecursion (λ (x : EntryIndex). is_placed_in Rewrite x ≡ true)) e (placed_each Rewrite (placed_in Rewrite t.entries) (placed_twice Rewrite t.entries)) in
-          run_taken None seq id tables t there ps ordinary again_keys x gs (x ∷ gs ++ back)
+          let run = run_taken None seq id tables t there ps ordinary again_keys x gs (x ∷ gs ++ back)
           (ap (entries_after_rewrite None (x ∷ gs)) whole
-          ∙ copies_take_places (λ e. []) None [] m ms back x gs (subst IsRun whole sound.consecutive.run) copied (not_misplaced (entry_count Rewrite (m ∷ ms ++ back))) move)
+          ∙ copies_take_places (λ e. []) None [] m ms back x gs (subst IsRun whole sound.consecutive.run) copied (not_misplaced (entry_count Rewrite (m ∷ ms ++ back))) move) in
+          (run.0, run.1)

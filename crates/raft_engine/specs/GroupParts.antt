@@ -1,5 +1,5 @@
 -- Parts of a region's entries, each for one batch of an atomic group.
-use Rattle.std.specs.Prelude.{◌≡◌, ◌≢◌, ◌⊎◌, ℕ, ◌+◌, ◌<◌, ◌≤◌, ◌^◌, List, [], ◌∷◌, ◌++◌, drop, flat_map, length, map, take, None}
+use Rattle.std.specs.Prelude.{◌≡◌, ◌≢◌, ◌⊎◌, ℕ, ◌≤◌, ◌^◌, List, [], ◌∷◌, ◌++◌, drop, flat_map, length, map, take, None}
 use Rattle.std.specs.List.{concat}
 use Rattle.raft_base.specs.declared.entry_index.EntryIndex.{EntryIndex}
 use Rattle.raft_base.specs.declared.errors.Error.{Error}
@@ -8,25 +8,10 @@ use Rattle.raft_records.specs.LogBatch.{Batch}
 use Rattle.raft_table.specs.Table.{Table}
 use Rattle.raft_files.specs.Asks.{Ask}
 use Rattle.raft_engine.specs.GroupBatches.{ArePartsRead, EntriesPart, IsGroupMoving, part_batch}
+use Rattle.raft_engine.specs.Parts.{IsFirstPart}
 use Rattle.raft_engine.specs.Reads.{AreReadByBlocks, AreUnread}
 use Rattle.raft_engine.specs.Rewriting.{moving_entries, moving_pairs}
 use Rattle.raft_engine.specs.Unmoved.{AreKeysRefused}
-
--- how many bytes entries have together
-abbrev pub bytes_of_entries : List EntryIndex → ℕ
-bytes_of_entries [] = 0
-bytes_of_entries (e ∷ es) = e.entry_len + bytes_of_entries es
-
--- entries of one part: they have 128 KiB together at most, or there is one alone
-abbrev pub AreOnePart : List EntryIndex → Type 0
-AreOnePart es = (bytes_of_entries es ≤ 131072) ⊎ (length es ≤ 1)
-
--- so many entries are the first part of all: one at least, if there are any, and with one more they would be too many for a part
-pub record IsFirstPart (es : List EntryIndex) (count : ℕ) : Type 0 where
-  pub at_most : count ≤ length es
-  pub some : es ≢ [] → 0 < count
-  pub part : AreOnePart (take count es)
-  pub longest : count < length es → ¬ (AreOnePart (take (count + 1) es))
 
 -- a batch goes on with a group: it has some entries of a region, with their bytes as they were read by their blocks
 pub record IsPartRead (group id : ℕ) (es : List EntryIndex) (old new : List Ask) (batch : Batch) : Type 0 where

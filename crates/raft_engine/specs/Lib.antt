@@ -16,6 +16,7 @@ pub mod KeptEngineCode
 pub mod KeptEngineView
 -- records that move to the rewrite queue
 pub mod Reads
+pub mod Parts
 pub mod Rewriting
 pub mod Unmoved
 pub mod MovedAsks

@@ -1,6 +1,7 @@
 -- Records that an engine moves to the rewrite queue.
 use Rattle.std.specs.Prelude.{◌≡◌, ◌≢◌, ◌⊎◌, ℕ, ◌^◌, ◌≤◌, true, false, List, [], ◌∷◌, ◌++◌, IsPermutation, length, map, Option, Some, None}
 use Rattle.std.specs.FinMap as finite
+use Rattle.raft_base.specs.declared.entry_index.EntryIndex.{EntryIndex}
 use Rattle.raft_base.specs.declared.errors.Error.{Error}
 use Rattle.raft_base.specs.declared.errors.Error.TheVariants as errors
 use Rattle.raft_base.specs.declared.pipe_log.LogQueue.TheVariants.{Append, Rewrite}
@@ -14,7 +15,7 @@ use Rattle.raft_engine.specs.KeptEngine.{IsLastFile, KeptEngine}
 use Rattle.raft_engine.specs.Lasting.{AreSynced}
 use Rattle.raft_engine.specs.Purged.{IsPurgeRefusal, put_asks}
 use Rattle.raft_engine.specs.Reads.{AreOnlyRead}
-use Rattle.raft_engine.specs.Rewriting.{IsBatchMoving}
+use Rattle.raft_engine.specs.Rewriting.{IsBatchMoving, moving_entries}
 use Rattle.raft_engine.specs.Unmoved.{IsBatchRefused}
 use Rattle.raft_engine.specs.WrittenBatch.{AreFirstWritten, IsHalfDone, IsLastFull, file_of}
 
@@ -46,23 +47,37 @@ pub record IsReady (engine : KeptEngine) : Type 0 where
   pub synced : AreSynced (acts_on Append engine.asks)
   pub told : engine.untold.items ≡ []
 
--- a batch of what of a region's table moves past a gate, or without one: its entries are read, and nothing else is asked
-pub record IsMoving (gate : Option ℕ) (region : ℕ) (old : KeptEngine) (between : List Ask) (batch : Batch) : Type 0 where
+-- a batch of the next ones of what of a region's table moves past a gate, or without one, which leaves these entries: its entries are
+-- read, and nothing else is asked
+pub record IsMoving (gate : Option ℕ) (left : List EntryIndex) (region : ℕ) (old : KeptEngine) (between : List Ask) (batch : Batch) : Type 0 where
   pub table : Table
   pub there : finite.get old.accessor.tables region ≡ Some table
-  pub moving : IsBatchMoving gate table old.asks between batch
+  pub moving : IsBatchMoving gate left table old.asks between batch
 
 -- it is put behind the last rewrite file, if it has items, and its items, with their places there, are written to the tables by a
 -- rewriting; nothing else is asked or changed
-pub record IsRegionMoved (gate : Option ℕ) (region : ℕ) (old new : KeptEngine) : Type 0 where
+pub record IsBatchMoved (gate : Option ℕ) (left : List EntryIndex) (region : ℕ) (old new : KeptEngine) : Type 0 where
   pub between : List Ask
   pub batch : Batch
-  pub moving : IsMoving gate region old between batch
+  pub moving : IsMoving gate left region old between batch
   pub seq : ℕ
   pub bytes : List ℕ
   pub last : IsLastFile Rewrite old.asks seq bytes
   pub applied : AreWritten (Rewriting gate seq) (placed_at (file_of Rewrite old seq).id (length bytes) batch) old.accessor new.accessor
   pub moved : new ≡ record old { asks = put_asks (file_of Rewrite old seq) batch ++ between; accessor = new.accessor }
+
+-- the first batches move, one after another, each of which leaves entries: the engine behind each is in the list
+abbrev pub AreFirstMoved : Option ℕ → ℕ → List KeptEngine → KeptEngine → KeptEngine → Type 0
+AreFirstMoved gate region [] old new = new ≡ old
+AreFirstMoved gate region (next ∷ behind) old new =
+    (left : List EntryIndex) × (left ≢ []) × IsBatchMoved gate left region old next × AreFirstMoved gate region behind next new
+
+-- what of a region's table moves is put in batches, one after another, of which the last one leaves no entries
+pub record IsRegionMoved (gate : Option ℕ) (region : ℕ) (old new : KeptEngine) : Type 0 where
+  pub behind : List KeptEngine
+  pub between : KeptEngine
+  pub first : AreFirstMoved gate region behind old between
+  pub last : IsBatchMoved gate [] region between new
 
 -- a region without a table is left as it is
 abbrev pub IsRegionRewritten : Option ℕ → ℕ → KeptEngine → KeptEngine → Type 0
@@ -75,10 +90,10 @@ pub record IsOnlyRead (old new : KeptEngine) : Type 0 where
 
 -- a batch that moves a region's records isn't put, and the tables are as they were; or it is put, and the first ones of its
 -- items, with their places there, are written to the tables by a rewriting; the engine isn't intact any more
-pub record IsRegionHalfMoved (gate : Option ℕ) (region : ℕ) (old new : KeptEngine) : Type 0 where
+pub record IsBatchHalfMoved (gate : Option ℕ) (left : List EntryIndex) (region : ℕ) (old new : KeptEngine) : Type 0 where
   pub between : List Ask
   pub batch : Batch
-  pub moving : IsMoving gate region old between batch
+  pub moving : IsMoving gate left region old between batch
   pub seq : ℕ
   pub bytes : List ℕ
   pub last : IsLastFile Rewrite old.asks seq bytes
@@ -87,18 +102,34 @@ pub record IsRegionHalfMoved (gate : Option ℕ) (region : ℕ) (old new : KeptE
       × AreFirstWritten (Rewriting gate seq) (placed_at (file_of Rewrite old seq).id (length bytes) batch) old.accessor new.accessor)
   pub others : new ≡ record old { asks = new.asks; accessor = new.accessor; intact = false }
 
--- why the records of a region don't move, if there is memory: the last rewrite file has more than 2^63 bytes; or there is no batch of
--- them; or it has 2^56 bytes or more
-abbrev pub IsRegionRefused : Option ℕ → ℕ → KeptEngine → KeptEngine → Error → Type 0
-IsRegionRefused gate region old new e =
+-- why a batch of a region's records doesn't move, if there is memory: the last rewrite file has more than 2^63 bytes; or there is no
+-- such batch; or it has 2^56 bytes or more
+abbrev pub IsMoveRefused : Option ℕ → List EntryIndex → ℕ → KeptEngine → KeptEngine → Error → Type 0
+IsMoveRefused gate left region old new e =
     ((e ≡ errors.Full) × (new ≡ old) × IsLastFull Rewrite old.asks)
-    ⊎ ((table : Table) × (finite.get old.accessor.tables region ≡ Some table) × IsBatchRefused gate table old.asks new.asks e)
-    ⊎ ((batch : Batch) × IsMoving gate region old new.asks batch × (e ≡ errors.Full) × (2 ^ 56 ≤ encoded_length batch.items batch.entry_bytes))
+    ⊎ ((table : Table) × (finite.get old.accessor.tables region ≡ Some table) × IsBatchRefused gate left table old.asks new.asks e)
+    ⊎ ((batch : Batch) × IsMoving gate left region old new.asks batch × (e ≡ errors.Full) × (2 ^ 56 ≤ encoded_length batch.items batch.entry_bytes))
 
 -- nothing but reads was asked, for one of these reasons; or the batch is half moved
-abbrev pub IsRegionUnmoved : Option ℕ → ℕ → KeptEngine → KeptEngine → Error → Type 0
-IsRegionUnmoved gate region old new e =
-    (IsOnlyRead old new × (e ≢ errors.Memory → IsRegionRefused gate region old new e)) ⊎ IsRegionHalfMoved gate region old new
+abbrev pub IsBatchUnmoved : Option ℕ → List EntryIndex → ℕ → KeptEngine → KeptEngine → Error → Type 0
+IsBatchUnmoved gate left region old new e =
+    (IsOnlyRead old new × (e ≢ errors.Memory → IsMoveRefused gate left region old new e)) ⊎ IsBatchHalfMoved gate left region old new
+
+-- the first batches of a region's records moved, and the next one didn't, or not whole
+pub record IsRegionUnmoved (gate : Option ℕ) (region : ℕ) (old new : KeptEngine) (e : Error) : Type 0 where
+  pub behind : List KeptEngine
+  pub between : KeptEngine
+  pub first : AreFirstMoved gate region behind old between
+  pub left : List EntryIndex
+  pub unmoved : IsBatchUnmoved gate left region between new e
+
+-- ---- entries that are to move
+
+-- these entries of a region's table move past a gate, or without one
+pub record AreToMove (gate : Option ℕ) (region : ℕ) (engine : KeptEngine) (es : List EntryIndex) : Type 0 where
+  pub table : Table
+  pub there : finite.get engine.accessor.tables region ≡ Some table
+  pub are : es ≡ moving_entries gate table.entries
 
 -- ---- all regions
 

@@ -1,6 +1,7 @@
 -- What a read, and a batch that moves records, make of what is stored.
 use Rattle.std.specs.Prelude.{◌≡◌, ℕ, List, [], ◌∷◌, Option, Some, length}
 use Rattle.std.specs.FinMap as finite
+use Rattle.raft_base.specs.declared.entry_index.EntryIndex.{EntryIndex}
 use Rattle.raft_base.specs.declared.pipe_log.FileBlockHandle.{FileBlockHandle}
 use Rattle.raft_base.specs.declared.pipe_log.LogQueue.{LogQueue}
 use Rattle.raft_base.specs.declared.pipe_log.LogQueue.TheVariants.{Append, Rewrite}
@@ -25,13 +26,13 @@ ReadsAreStored =
     (queue : LogQueue) (place : FileBlockHandle) (bytes : List ℕ) (version : Version) (asks : List Ask) (base : Bases) (untold : List Item) (tables : Tables)
     → AreKeptStored version asks base untold tables → AreKeptStored version (ask queue (Read place bytes) ∷ asks) base untold tables
 
--- where the append queue is synced and nothing is untold, a batch of what of a region's table moves past a gate, or without one, as
--- it was read, may be put behind the rewrite queue's last file, and is stored as the tables that take it by a rewriting
+-- where the append queue is synced and nothing is untold, a batch of the next ones of what of a region's table moves past a gate, or without one, as
+-- they were read, may be put behind the rewrite queue's last file, and is stored as the tables that take it by a rewriting
 abbrev pub MovedBatchesAreStored : Type 0
 MovedBatchesAreStored =
-    (version : Version) (old asks : List Ask) (base : Bases) (tables new : Tables) (seq : ℕ) (bytes : List ℕ) (gate : Option ℕ) (t : Table) (batch : Batch)
+    (version : Version) (old asks : List Ask) (base : Bases) (tables new : Tables) (seq : ℕ) (bytes : List ℕ) (gate : Option ℕ) (left : List EntryIndex) (t : Table) (batch : Batch)
     → AreSynced (acts_on Append asks) → IsLastFile Rewrite asks seq bytes → IsWritableBatch batch
-    → finite.get tables t.region_id ≡ Some t → IsBatchMoving gate t old asks batch
+    → finite.get tables t.region_id ≡ Some t → IsBatchMoving gate left t old asks batch
     → after_items (Rewriting gate seq) tables (placed_at (record { queue = Rewrite; seq = seq }) (length bytes) batch) ≡ Some new
     → AreKeptStored version asks base [] tables
     → AreKeptStored version (ask Rewrite (Put (bytes_for (record { id = record { queue = Rewrite; seq = seq }; version = version }) batch)) ∷ asks) base [] new
@@ -39,8 +40,8 @@ MovedBatchesAreStored =
 -- it is stored as some tables once it is put, before the tables take it
 abbrev pub PutBatchesAreStored : Type 0
 PutBatchesAreStored =
-    (version : Version) (old asks : List Ask) (base : Bases) (tables : Tables) (seq : ℕ) (bytes : List ℕ) (gate : Option ℕ) (t : Table) (batch : Batch)
+    (version : Version) (old asks : List Ask) (base : Bases) (tables : Tables) (seq : ℕ) (bytes : List ℕ) (gate : Option ℕ) (left : List EntryIndex) (t : Table) (batch : Batch)
     → AreSynced (acts_on Append asks) → IsLastFile Rewrite asks seq bytes → IsWritableBatch batch
-    → finite.get tables t.region_id ≡ Some t → AreTableEntries t.entries → IsBatchMoving gate t old asks batch
+    → finite.get tables t.region_id ≡ Some t → AreTableEntries t.entries → IsBatchMoving gate left t old asks batch
     → AreKeptStored version asks base [] tables
     → (new : Tables) × AreKeptStored version (ask Rewrite (Put (bytes_for (record { id = record { queue = Rewrite; seq = seq }; version = version }) batch)) ∷ asks) base [] new

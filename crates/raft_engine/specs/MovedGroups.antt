@@ -9,10 +9,11 @@ use Rattle.raft_table.specs.Table.{Table}
 use Rattle.raft_accessor.specs.Writes.{AreWritten, Rewriting}
 use Rattle.raft_files.specs.Asks.{Ask}
 use Rattle.raft_engine.specs.GroupBatches.{placed_from, puts_asks}
-use Rattle.raft_engine.specs.GroupParts.{AreOnePart, IsGroupInParts, IsGroupRefused}
+use Rattle.raft_engine.specs.GroupParts.{IsGroupInParts, IsGroupRefused}
 use Rattle.raft_engine.specs.GroupPlaces.{AreFirstPut, IsOneTooLong}
 use Rattle.raft_engine.specs.KeptEngine.{IsLastFile, KeptEngine, table_in}
 use Rattle.raft_engine.specs.Moved.{IsOnlyRead, IsRegionRewritten, IsRegionUnmoved}
+use Rattle.raft_engine.specs.Parts.{AreOnePart}
 use Rattle.raft_engine.specs.Rewriting.{moving_entries}
 use Rattle.raft_engine.specs.WrittenBatch.{AreFirstWritten, file_of}
 

@@ -1,6 +1,7 @@
 -- With which error a call that moves records breaks an engine.
 use Rattle.std.specs.Prelude.{◌≡◌, ◌⊎◌, ℕ, List, [], ◌∷◌, ◌++◌, length, Option, Some, None}
 use Rattle.std.specs.List.{AllByRecursion}
+use Rattle.raft_base.specs.declared.entry_index.EntryIndex.{EntryIndex}
 use Rattle.raft_base.specs.declared.errors.Error.{Error}
 use Rattle.raft_base.specs.declared.pipe_log.LogQueue.TheVariants.{Rewrite}
 use Rattle.raft_records.specs.Item.{Item}
@@ -13,7 +14,7 @@ use Rattle.raft_engine.specs.BatchBytes.{placed_at}
 use Rattle.raft_engine.specs.Faults.{IsTellingFault}
 use Rattle.raft_engine.specs.GroupBatches.{placed_from, puts_asks}
 use Rattle.raft_engine.specs.KeptEngine.{IsLastFile, KeptEngine}
-use Rattle.raft_engine.specs.Moved.{AreRegions, AreRegionsRewritten, IsMoving, IsTold}
+use Rattle.raft_engine.specs.Moved.{AreFirstMoved, AreRegions, AreRegionsRewritten, IsMoving, IsTold}
 use Rattle.raft_engine.specs.MovedAgain.{IsRewriteRotated, next_rewrite_asks}
 use Rattle.raft_engine.specs.MovedGroups.{AreRegionsMovedAgain, IsGroupOf, IsOnePartOf}
 use Rattle.raft_engine.specs.OpeningAsks.{Failures, FailsAmong}
@@ -37,16 +38,24 @@ AreUntaken None seq items old new e = IsNextRefused (Rewriting None seq) items o
 
 -- why a batch of a region's records breaks an engine: the files fail to put it behind the last rewrite file; or it is put, and the tables
 -- refuse one of its items, with their places there
-pub record IsRegionFault (MayFail : Failures) (gate : Option ℕ) (region : ℕ) (old new : KeptEngine) (e : Error) : Type 0 where
+pub record IsBatchFault (MayFail : Failures) (gate : Option ℕ) (left : List EntryIndex) (region : ℕ) (old new : KeptEngine) (e : Error) : Type 0 where
   pub between : List Ask
   pub batch : Batch
-  pub moving : IsMoving gate region old between batch
+  pub moving : IsMoving gate left region old between batch
   pub seq : ℕ
   pub bytes : List ℕ
   pub last : IsLastFile Rewrite old.asks seq bytes
   pub why : FailsAmong MayFail (put_asks (file_of Rewrite old seq) batch) between new.asks e
       ⊎ ((new.asks ≡ put_asks (file_of Rewrite old seq) batch ++ between)
       × AreUntaken gate seq (placed_at (file_of Rewrite old seq).id (length bytes) batch) old.accessor new.accessor e)
+
+-- the first batches of a region's records moved, and the next one breaks the engine
+pub record IsRegionFault (MayFail : Failures) (gate : Option ℕ) (region : ℕ) (old new : KeptEngine) (e : Error) : Type 0 where
+  pub behind : List KeptEngine
+  pub between : KeptEngine
+  pub first : AreFirstMoved gate region behind old between
+  pub left : List EntryIndex
+  pub fault : IsBatchFault MayFail gate left region between new e
 
 -- why a group of a region's records breaks an engine: the files fail to put one of its batches; or all are put, and the tables refuse one of their items
 pub record IsGroupFault (MayFail : Failures) (region : ℕ) (old new : KeptEngine) (e : Error) : Type 0 where

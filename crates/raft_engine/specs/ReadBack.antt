@@ -1,6 +1,7 @@
 -- Tables that are read back of the append files.
 use Rattle.std.specs.Prelude.{◌≡◌, ℕ, List, [], ◌∷◌, ◌++◌, Option, None, length}
 use Rattle.std.specs.List.{AllByRecursion}
+use Rattle.raft_base.specs.declared.entry_index.EntryIndex.{EntryIndex}
 use Rattle.raft_base.specs.declared.pipe_log.LogQueue.{LogQueue}
 use Rattle.raft_base.specs.declared.pipe_log.LogQueue.TheVariants.{Append, Rewrite}
 use Rattle.raft_base.specs.declared.pipe_log.Version.{Version}
@@ -64,8 +65,8 @@ WrittenBatchesAreReadBack =
 -- a batch that moves records of a table, put behind the last rewrite file, and written to the tables by a rewriting, leaves what is read back
 abbrev pub MovedBatchesAreReadBack : Type 0
 MovedBatchesAreReadBack =
-    (version : Version) (before asks : List Ask) (old new : Accessor) (seq : ℕ) (bytes : List ℕ) (gate : Option ℕ) (t : Table) (batch : Batch) (rewritten : List Event)
-    → IsLastFile Rewrite asks seq bytes → FilesHold Rewrite version (begun (acts_on Rewrite asks)) rewritten → IsWritableBatch batch → IsBatchMoving gate t before asks batch
+    (version : Version) (before asks : List Ask) (old new : Accessor) (seq : ℕ) (bytes : List ℕ) (gate : Option ℕ) (left : List EntryIndex) (t : Table) (batch : Batch) (rewritten : List Event)
+    → IsLastFile Rewrite asks seq bytes → FilesHold Rewrite version (begun (acts_on Rewrite asks)) rewritten → IsWritableBatch batch → IsBatchMoving gate left t before asks batch
     → AreWritten (Rewriting gate seq) (placed_at (record { queue = Rewrite; seq = seq }) (length bytes) batch) old new → IsReadBack version asks old
     → IsReadBack version (ask Rewrite (Put (bytes_for (record { id = record { queue = Rewrite; seq = seq }; version = version }) batch)) ∷ asks) new
 

@@ -1,5 +1,5 @@
 -- What is read and put where records of a region move to the rewrite queue.
-use Rattle.std.specs.Prelude.{◌≡◌, ℕ, List, ◌++◌, map, Option, Some, None}
+use Rattle.std.specs.Prelude.{◌≡◌, ℕ, List, [], ◌∷◌, ◌++◌, length, map, Option, Some, None}
 use Rattle.raft_base.specs.declared.entry_index.EntryIndex.{EntryIndex}
 use Rattle.raft_base.specs.declared.pipe_log.LogQueue.TheVariants.{Append, Rewrite}
 use Rattle.raft_records.specs.Item.{Item, pair_item}
@@ -11,6 +11,7 @@ use Rattle.raft_table.specs.Table.{Table}
 use Rattle.raft_table.specs.TableEntries.{placed_in}
 use Rattle.raft_files.specs.Asks.{Ask}
 use Rattle.raft_engine_laws.specs.Moving.{AreOrdinary}
+use Rattle.raft_engine.specs.Parts.{IsFirstPart}
 use Rattle.raft_engine.specs.Reads.{AreReadByBlocks}
 
 -- keys of a region put, one after another
@@ -35,9 +36,26 @@ abbrev pub moving_pairs : Option ℕ → Keys → List (List ℕ × List ℕ)
 moving_pairs None keys = pairs_up_to Rewrite None keys
 moving_pairs (Some gate) keys = pairs_up_to Append (Some gate) keys
 
--- a batch has what of a table moves past a gate, or without one: its entries, with their bytes as they were read by their blocks, and its keys
-pub record IsBatchMoving (gate : Option ℕ) (t : Table) (old new : List Ask) (batch : Batch) : Type 0 where
+-- how many of the entries that move are in a batch: past a gate the first part, without a gate all, so that none are left
+abbrev pub IsPartOfBatch : Option ℕ → List EntryIndex → List EntryIndex → List EntryIndex → Type 0
+IsPartOfBatch None es part left = left ≡ []
+IsPartOfBatch (Some gate) es part left = IsFirstPart es (length part)
+
+-- of the entries that move, the next batch has these, and those are left
+pub record IsNextPart (gate : Option ℕ) (es part left : List EntryIndex) : Type 0 where
+  pub split : es ≡ part ++ left
+  pub first : IsPartOfBatch gate es part left
+
+-- the keys are in the batch that leaves no entries
+abbrev pub pairs_with : List EntryIndex → List (List ℕ × List ℕ) → List (List ℕ × List ℕ)
+pairs_with [] ps = ps
+pairs_with (e ∷ left) ps = []
+
+-- a batch has of what of a table moves past a gate, or without one, the next entries, with their bytes as they were read by their blocks, and the keys where no entries are left
+pub record IsBatchMoving (gate : Option ℕ) (left : List EntryIndex) (t : Table) (old new : List Ask) (batch : Batch) : Type 0 where
+  pub part : List EntryIndex
+  pub next : IsNextPart gate (moving_entries gate t.entries) part left
   pub strings : List (List ℕ)
-  pub read : AreReadByBlocks (moving_entries gate t.entries) strings old new
-  pub ordinary : AreOrdinary (moving_pairs gate t.keys)
-  pub is : batch ≡ batch_of t.region_id (moving_entries gate t.entries) strings (moving_pairs gate t.keys)
+  pub read : AreReadByBlocks part strings old new
+  pub ordinary : AreOrdinary (pairs_with left (moving_pairs gate t.keys))
+  pub is : batch ≡ batch_of t.region_id part strings (pairs_with left (moving_pairs gate t.keys))

@@ -8,5 +8,5 @@ pub const FIRST_SEQ: FileSeq = 1;
 /// The greatest offset at which a batch is put.
 pub const LAST_OFFSET: u64 = 1 << 63;
 
-/// The most bytes that the entries of a batch have together which moves rewritten records, unless it has one entry alone.
-pub const MAX_REWRITE_BATCH_BYTES: u64 = 128 * 1024;
+/// The most bytes that the entries of a batch have together which moves records, unless it has one entry alone.
+pub const MAX_REWRITE_BATCH_BYTES: u64 = 8 * 1024;

@@ -1,16 +1,18 @@
 //! Batches that move records of a region to the rewrite queue.
 
-ghost use Rattle.std.specs.Prelude.{◌≡◌, ◌≢◌, map, IfOk, IfErr, OnOk, OnErr};
+ghost use Rattle.std.specs.Prelude.{◌≡◌, ◌≢◌, length, map, IfOk, IfErr, None, OnOk, OnErr};
 ghost use Rattle.raft_base.specs.Runs.{IsConsecutive};
 ghost use Rattle.raft_records.specs.LogBatch.{is_open};
 ghost use Rattle.raft_table.specs.KeyValues.{pairs_shown};
 ghost use Rattle.raft_engine_laws.specs.Moving.{AreOrdinary};
 ghost use Rattle.raft_engine.specs.Moved.{AreRegions};
 ghost use Rattle.raft_engine.specs.Reads.{AreOnlyRead};
-ghost use Rattle.raft_engine.specs.Rewriting.{IsBatchMoving, moving_entries, moving_pairs, with_puts};
+ghost use Rattle.raft_engine.specs.Parts.{IsFirstPart};
+ghost use Rattle.raft_engine.specs.Rewriting.{IsBatchMoving, IsNextPart, moving_entries, moving_pairs, pairs_with, with_puts};
 ghost use Rattle.raft_engine.specs.Unmoved.{AreKeysRefused, IsBatchRefused};
 
 use crate::block_reads::read_by_blocks;
+use crate::parts::part_len;
 use raft_accessor::MemTableAccessor;
 use raft_base::{EntryIndex, Error, FileSeq, Result};
 use raft_files::EngineFiles;
@@ -92,8 +94,20 @@ pub fn put_pairs(batch: &mut LogBatch, region: u64, pairs: Vec<(Vec<u8>, Vec<u8>
     Ok(())
 }
 
-/// Returns a batch of what of a table moves past a gate: what it has in append files at or below it; without a gate what it has
-/// in rewrite files. It reads the bytes of the entries, each block once for all neighbors in it.
+/// Returns how many of the entries that move are in the next batch: past a gate those of the first part, without a gate all.
+pub fn batch_len(entries: &[EntryIndex], gate: Option<FileSeq>) -> usize
+    ensures part { gate ≢ None → IsFirstPart entries.now result }
+    ensures all { gate ≡ None → result ≡ length entries.now }
+{
+    match gate {
+        Some(_) => part_len(entries),
+        None => entries.len(),
+    }
+}
+
+/// Returns a batch of the next ones of what of a table moves past a gate (what it has in append files at or below it; without a
+/// gate what it has in rewrite files): of a part of the entries, whose bytes it reads, each block once for all neighbors in it;
+/// and, where no entries are left behind them, of the keys.
 ///
 /// # Errors
 ///
@@ -103,21 +117,47 @@ pub fn moving_batch<F: EngineFiles>(
     files: &mut F,
     table: &MemTable,
     gate: Option<FileSeq>,
+    part: &[EntryIndex],
+    left: &[EntryIndex],
 ) -> Result<LogBatch>
-    ensures ok { IfOk result (IsBatchMoving gate table.now (F.asked files.old)
+    requires next { IsNextPart gate (moving_entries gate table.now.entries) part.now left.now }
+    requires consecutive { IsConsecutive part.now }
+    ensures ok { IfOk result (IsBatchMoving gate left.now table.now (F.asked files.old)
         (F.asked files.new)) }
     ensures err { OnErr result (AreOnlyRead (F.asked files.old) (F.asked files.new)) }
-    ensures refused { IfErr result (λ e. e ≢ Error.Memory → IsBatchRefused gate table.now
+    ensures refused { IfErr result (λ e. e ≢ Error.Memory → IsBatchRefused gate left.now table.now
         (F.asked files.old) (F.asked files.new) e) }
 {
-    let entries = entries_to_move(alloc, table, gate)?;
-    let pairs = pairs_to_move(alloc, table, gate)?;
+    let pairs = batch_pairs(alloc, table, gate, left)?;
     let region = table.region_id();
-    let strings = read_by_blocks(alloc, files, region, entries.as_slice())?;
+    let strings = read_by_blocks(alloc, files, region, part)?;
     let mut batch = LogBatch::default(alloc);
-    batch.add_raw_entries(region, entries, strings)?;
+    batch.add_raw_entries(region, Vec::from_slice(alloc, part)?, strings)?;
     put_pairs(&mut batch, region, pairs)?;
     Ok(batch)
+}
+
+/// Returns the keys, with their values, that are in a batch behind which these entries are left: those that move where none are,
+/// else none.
+///
+/// # Errors
+///
+/// `Memory`.
+fn batch_pairs(
+    alloc: Global,
+    table: &MemTable,
+    gate: Option<FileSeq>,
+    left: &[EntryIndex],
+) -> Result<Vec<(Vec<u8>, Vec<u8>)>>
+    ensures ok { IfOk result (λ ps. pairs_shown ps.items
+        ≡ pairs_with left.now (moving_pairs gate table.now.keys)) }
+    ensures memory { IfErr result (λ e. e ≡ Error.Memory) }
+{
+    if left.is_empty() {
+        pairs_to_move(alloc, table, gate)
+    } else {
+        Ok(Vec::new(alloc))
+    }
 }
 
 /// Returns the regions of all tables, in no set order.

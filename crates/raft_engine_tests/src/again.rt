@@ -159,11 +159,25 @@ fn new_failing(alloc: Global, left: usize) -> Result<Engine<Failing>> {
     Engine::new(alloc, Version::V2, files)
 }
 
-/// Makes an engine over files of which so many calls are left once it wrote these entries and `k=v`.
-fn started(alloc: Global, left: usize, entries: Part) -> Result<Engine<Failing>> {
-    let mut engine = new_failing(alloc, left.saturating_add(4))?;
-    write(alloc, &mut engine, &[entries, Put("v")], true)?;
+/// Makes an engine over files of which so many calls are left once it wrote these entries, a batch each, and `k=v`.
+fn started(alloc: Global, left: usize, entries: &[Part]) -> Result<Engine<Failing>> {
+    let calls = entries.len().saturating_add(4);
+    let mut engine = new_failing(alloc, left.saturating_add(calls))?;
+    write_each(alloc, &mut engine, entries)?;
+    write(alloc, &mut engine, &[Put("v")], true)?;
     Ok(engine)
+}
+
+/// Writes a batch for each of these parts.
+pub fn write_each<F: EngineFiles>(
+    alloc: Global,
+    engine: &mut Engine<F>,
+    parts: &[Part],
+) -> Result<()> {
+    for part in parts {
+        write(alloc, engine, &[*part], false)?;
+    }
+    Ok(())
 }
 
 /// Moves all out of the append files, and then to a new rewrite file.
@@ -177,22 +191,22 @@ fn move_twice(engine: &mut Engine<Failing>) -> Result<usize> {
 
 /// Entries that move while files fail, what is found then, and how many calls of the files it takes.
 struct Moving {
-    entries: Part,
+    entries: &'static [Part],
     text: &'static str,
     calls: usize,
 }
 
-/// Entries that are one part, and such that are two: these move in a group of four batches, and their block is read twice.
+/// Entries that are one part, and such that are two: these move in two batches, and then in a group of four.
 static MOVING: [Moving; 2] = [
     Moving {
-        entries: Entries(1, 3),
+        entries: &[Entries(1, 3)],
         text: "[1,3)k=v",
         calls: 16,
     },
     Moving {
-        entries: Large(1, 4),
+        entries: &[Large(1, 2), Large(2, 3), Large(3, 4)],
         text: "[1,4)k=v",
-        calls: 20,
+        calls: 23,
     },
 ];
 

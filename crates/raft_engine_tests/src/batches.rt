@@ -16,7 +16,7 @@ pub const REGION: u64 = 1;
 pub enum Part {
     /// Entries from the first index on and below the second, of one byte each.
     Entries(u64, u64),
-    /// Such entries of 60 KiB each.
+    /// Such entries of 3 KiB each.
     Large(u64, u64),
     /// A value of the key `k`.
     Put(&'static str),
@@ -33,7 +33,7 @@ pub enum Part {
 }
 
 /// The bytes of a large entry.
-static LARGE: [u8; 61_440] = [b'x'; 61_440];
+static LARGE: [u8; 3_072] = [b'x'; 3_072];
 
 /// Returns a batch of an entry of these bytes.
 pub fn batch_with(alloc: Global, region: u64, index: u64, bytes: Vec<u8>) -> Result<LogBatch>

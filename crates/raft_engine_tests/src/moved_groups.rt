@@ -1,6 +1,6 @@
-//! A region whose rewritten entries are more than one part moves in an atomic group.
+//! A region whose entries are more than one part moves in several batches, and from rewrite files in an atomic group.
 
-use crate::again::{empty_append_files, is_found_again};
+use crate::again::{empty_append_files, is_found_again, write_each};
 use crate::batches::Part::{Large, Put};
 use crate::calls::{copies, holds, new_engine, purge_rewrites, rewrite_again, write};
 use crate::reopened::is_found;
@@ -12,7 +12,7 @@ use raft_records::{AtomicGroupStatus, FilePart, Result, next_batch};
 use std::alloc::Global;
 use std::thread::Threads;
 
-/// Entries of 60 KiB each, of which two are one part, and a key.
+/// Entries of 3 KiB each, of which two are one part, and a key.
 const TEXT: &str = "[1,4)k=v";
 
 type Marker = Option<(u64, AtomicGroupStatus)>;
@@ -25,7 +25,8 @@ fn grown(alloc: Global) -> Result<Engine<MemoryFiles>> {
 }
 
 fn grow(alloc: Global, engine: &mut Engine<MemoryFiles>) -> Result<()> {
-    write(alloc, engine, &[Large(1, 4), Put("v")], false)?;
+    write_each(alloc, engine, &[Large(1, 2), Large(2, 3), Large(3, 4)])?;
+    write(alloc, engine, &[Put("v")], false)?;
     empty_append_files(engine)?;
     Ok(())
 }
@@ -55,6 +56,11 @@ fn last_markers(alloc: Global, engine: &Engine<MemoryFiles>) -> Result<Vec<Marke
     markers_in(alloc, &FilePart::new(file, Version::V2, 0, bytes)?)
 }
 
+/// Tests whether the last rewrite file has two batches, of no group.
+fn has_two_batches(alloc: Global, engine: &Engine<MemoryFiles>) -> Result<bool> {
+    Ok(last_markers(alloc, engine)?.as_slice() == [None, None].as_slice())
+}
+
 /// Tests whether the last rewrite file has a group of its number, with two parts.
 fn has_group(alloc: Global, engine: &Engine<MemoryFiles>, seq: u64) -> Result<bool> {
     let group = [
@@ -66,7 +72,7 @@ fn has_group(alloc: Global, engine: &Engine<MemoryFiles>, seq: u64) -> Result<bo
     Ok(last_markers(alloc, engine)?.as_slice() == group.as_slice())
 }
 
-/// Tests whether all is found once it moved in a group, and once it moved in another one and the older files went.
+/// Tests whether all is found once it moved in two batches, in a group, and in another one once the older files went.
 fn moves_in_groups<R: Threads + Sync>(rt: &R, alloc: Global) -> Result<bool> {
     let mut engine = grown(alloc)?;
     moves_in_two_groups(rt, alloc, &mut engine)
@@ -77,6 +83,9 @@ fn moves_in_two_groups<R: Threads + Sync>(
     alloc: Global,
     engine: &mut Engine<MemoryFiles>,
 ) -> Result<bool> {
+    if !has_two_batches(alloc, engine)? || !is_found(rt, alloc, engine, TEXT)? {
+        return Ok(false);
+    }
     rewrite_again(engine)?;
     if !has_group(alloc, engine, 2)? || !is_found(rt, alloc, engine, TEXT)? {
         return Ok(false);

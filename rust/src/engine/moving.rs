@@ -66,7 +66,7 @@ impl<F: Files> Engine<F> {
     ///
     /// # Errors
     ///
-    /// `Full` where a region's entries have 2^31 bytes or more; `Corruption` where bytes were damaged since they were written;
+    /// `Full` where an entry has 2^31 bytes or more; `Corruption` where bytes were damaged since they were written;
     /// `InvalidArgument` where a key is that of the group markers; `Io` where they can't be read; `Memory`. Some records may have
     /// moved then. `Io` of a change, `Failed`: the engine has failed.
     pub fn rewrite(&self, gate: u64) -> Result<()> {

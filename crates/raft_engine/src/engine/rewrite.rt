@@ -1,11 +1,12 @@
 //! Records that move to the rewrite queue.
 
-ghost use Rattle.std.specs.Prelude.{◌≡◌, IfErr, OnOk, true};
+ghost use Rattle.std.specs.Prelude.{◌≡◌, ◌≢◌, ◌++◌, IfErr, None, OnOk, true};
 ghost use Rattle.raft_records.specs.LogBatch.{empty_batch};
 ghost use Rattle.raft_accessor.specs.Writes.{AreWritten, Rewriting};
 ghost use Rattle.raft_engine.specs.Faults.{Breaks, IsTellingFault};
-ghost use Rattle.raft_engine.specs.Moved.{AreRegionsRewritten, AreSomeRewritten, IsReady, IsRegionRewritten, IsRegionUnmoved, IsRewritten, IsTold, IsUnrewritten, IsUntold};
-ghost use Rattle.raft_engine.specs.MovingFaults.{AreTaken, IsFaultOfRegions, IsRegionFault, IsRewritingFault};
+ghost use Rattle.raft_engine.specs.Moved.{AreRegionsRewritten, AreSomeRewritten, AreToMove, IsBatchMoved, IsBatchUnmoved, IsReady, IsRegionRewritten, IsRegionUnmoved, IsRewritten, IsTold, IsUnrewritten, IsUntold};
+ghost use Rattle.raft_engine.specs.MovingFaults.{AreTaken, IsBatchFault, IsFaultOfRegions, IsRegionFault, IsRewritingFault};
+ghost use Rattle.raft_engine.specs.Rewriting.{IsNextPart};
 ghost use Rattle.raft_engine.specs.WrittenBatch.{IsNextRefused, LacksRoom};
 
 use super::Engine;
@@ -13,28 +14,29 @@ use crate::limits::LAST_OFFSET;
 use crate::moved::moves_are_stored;
 use crate::put::{put, put_items};
 use crate::read_back::batches_are_read_back;
-use crate::rewriting::{moving_batch, regions_of};
+use crate::rewriting::{batch_len, entries_to_move, moving_batch, regions_of};
 use crate::stored::asks_are_stored;
 use raft_accessor::MemTableAccessor;
-use raft_base::{Error, FileId, FileSeq, LogFileContext, LogQueue, Result};
+use raft_base::{EntryIndex, Error, FileId, FileSeq, LogFileContext, LogQueue, Result};
 use raft_files::EngineFiles;
 use raft_records::LogBatch;
 
 impl<F: EngineFiles> Engine<F> {
     /// Moves what the tables have in append files up to the gate to the rewrite queue. First all that was written last is
     /// synced, and what the rewrite queue isn't told yet is put there; then for each region the entries are read, and put
-    /// with the keys behind the last rewrite file, in one batch of each region. What the tables have stays the same, in other
-    /// files, so that the append files may be deleted ([`Engine::purge_expired_files`]).
+    /// behind the last rewrite file part by part, each in one batch: the entries of as many blocks as have 8 KiB together at most,
+    /// or of one block; the last of them with the keys. What the tables have stays the same, in other files, so that the append
+    /// files may be deleted ([`Engine::purge_expired_files`]).
     ///
     /// # Errors
     ///
     /// `Failed` where the engine isn't intact; `Full` where what is untold has 2^56 bytes or more, or the last rewrite file
-    /// more than 2^63; `Memory`. The engine is then as it was. `Full` where a region's batch has 2^31 bytes of entries or 2^56
+    /// more than 2^63; `Memory`. The engine is then as it was. `Full` where a batch has 2^31 bytes of entries or 2^56
     /// bytes in all, or the last rewrite file more than 2^63; `Corruption` where the bytes of an entry aren't found at its
     /// place; `InvalidArgument` where a key is that of the group markers; those of `EngineFiles::read`; `Memory`. The records
-    /// of some regions moved then, and the engine is intact. The other ones of `EngineFiles`; and, once a region's batch was put,
-    /// `Memory`, or `Full` where the live records of the rewrite queue and those that its next item names are 2^64 or more
-    /// together: it isn't intact any more.
+    /// of some regions moved then, perhaps also the first entries of one more, and the engine is intact. The other ones of
+    /// `EngineFiles`; and, once a batch was put, `Memory`, or `Full` where the live records of the rewrite queue and those that its
+    /// next item names are 2^64 or more together: it isn't intact any more.
     pub fn rewrite(&mut self, gate: FileSeq) -> Result<()>
         ensures ok { OnOk result (IsRewritten gate self.old self.new) }
         ensures accepted { OnOk result (self.old.intact ≡ true) }
@@ -110,19 +112,56 @@ impl<F: EngineFiles> Engine<F> {
     }
 
     /// Moves what a region's table has in append files up to a gate, or without a gate what it has in rewrite files, to the last
-    /// rewrite file: its entries are read, and put with its keys behind that file's bytes, in one batch.
+    /// rewrite file: past a gate in batches of a part of the entries each, the last one with the keys, and without a gate in one batch.
     ///
     /// # Errors
     ///
-    /// `Full` where the last rewrite file has more than 2^63 bytes, or the batch 2^56 or more, and those of `moving_batch`: the
-    /// engine is then as it was, but for reads. Those of `EngineFiles::append`, and those of `rewrite_items` once the batch was put:
-    /// the engine isn't intact any more, and the tables are as they were or, once it was put, have the first ones of its items.
+    /// `Memory`: the engine is then as it was. Those of `move_batch`, where the batches before the refused one moved.
     pub(crate) fn rewrite_region(&mut self, region: u64, gate: Option<FileSeq>) -> Result<()>
         requires { IsReady self.old }
         ensures ok { OnOk result (IsRegionRewritten gate region self.old self.new) }
         ensures err { IfErr result (IsRegionUnmoved gate region self.old self.new) }
         ensures fault { IfErr result (λ e. Breaks self.old self.new
             → IsRegionFault F.may_fail gate region self.old self.new e) }
+    {
+        let Some(table) = self.accessor.get(region) else {
+            return Ok(());
+        };
+        let entries = entries_to_move(self.append.allocator(), table, gate)?;
+        let mut rest = entries.as_slice();
+        loop {
+            let (part, left) = rest.split_at(batch_len(rest, gate));
+            self.move_batch(region, gate, part, left)?;
+            if left.is_empty() {
+                return Ok(());
+            }
+            rest = left;
+        }
+    }
+
+    /// Moves the next ones of what a region's table has to move to the last rewrite file: the bytes of a part of the entries are
+    /// read, and put behind that file's bytes in one batch, with the keys where no entries are left behind them.
+    ///
+    /// # Errors
+    ///
+    /// `Full` where the last rewrite file has more than 2^63 bytes, or the batch 2^56 or more, and those of `moving_batch`: the
+    /// engine is then as it was, but for reads. Those of `EngineFiles::append`, and those of `rewrite_items` once the batch was put:
+    /// the engine isn't intact any more, and the tables are as they were or, once it was put, have the first ones of its items.
+    fn move_batch(
+        &mut self,
+        region: u64,
+        gate: Option<FileSeq>,
+        part: &[EntryIndex],
+        left: &[EntryIndex],
+    ) -> Result<()>
+        requires ready { IsReady self.old }
+        requires to_move { AreToMove gate region self.old (part.now ++ left.now) }
+        requires next { IsNextPart gate (part.now ++ left.now) part.now left.now }
+        ensures ok { OnOk result (IsBatchMoved gate left.now region self.old self.new) }
+        ensures left { gate ≢ None → OnOk result (AreToMove gate region self.new left.now) }
+        ensures err { IfErr result (IsBatchUnmoved gate left.now region self.old self.new) }
+        ensures fault { IfErr result (λ e. Breaks self.old self.new
+            → IsBatchFault F.may_fail gate left.now region self.old self.new e) }
     {
         moves_are_stored();
         batches_are_read_back();
@@ -133,7 +172,8 @@ impl<F: EngineFiles> Engine<F> {
             return Ok(());
         };
         table.holds_one_run();
-        let mut batch = moving_batch(self.append.allocator(), &mut self.files, table, gate)?;
+        let alloc = self.append.allocator();
+        let mut batch = moving_batch(alloc, &mut self.files, table, gate, part, left)?;
         if batch.is_empty() {
             return Ok(());
         }

@@ -1,20 +1,36 @@
-use Rattle.std.proofs.Common.{rules, refl, ◌<◌, ◌≤◌, ◌+◌, length, arith}
-use Rattle.raft_engine.proofs.PartLemmas.{first_part, one_counted}
+use Rattle.std.proofs.Common.{rules, ◌≡◌, ◌≢◌, ◌+◌, ◌<◌, ◌≤◌, [], length, refl, sym, ◌∙◌, subst, arith}
+use Rattle.std.proofs.lemmas.Bool.{eqb-true}
+use Rattle.raft_engine.specs.Parts.{IsCapped}
+use Rattle.raft_engine.proofs.PartLengths.{all_behind, all_in_part, none_in_part, none_left, one_more_block, part_is_full, some_left}
 use Rattle.raft_engine.proofs.parts.part_len.Goals as goal
-use Rattle.raft_engine.proofs.parts.part_len.Goals.{else-count-gt0-via-then-count-gt0+else-bytes-gt-MAX_REWRITE_BATCH_BYTES, else-count-gt0-via-else-count-gt0}
+use Rattle.raft_engine.proofs.parts.part_len.Goals.{else-len-gt0-via-then-len-gt0+else-bytes-gt-MAX_REWRITE_BATCH_BYTES, else-len-gt0-via-else-len-gt0}
+
+pub loop-rest-init : goal.loop-rest-init
+loop-rest-init c = (refl, none_in_part c.args.entries.now)
 
 pub returns-then-bytes-gt-MAX_REWRITE_BATCH_BYTES : goal.returns-then-bytes-gt-MAX_REWRITE_BATCH_BYTES
 returns-then-bytes-gt-MAX_REWRITE_BATCH_BYTES c =
-    let less : c.loop-entry.entry-index < length c.args.entries.now = search rules in
-    first_part c.args.entries.now c.loop-entry.entry-index c.loop-entry.count c.loop-entry.bytes (c.loop-entry.bytes + c.len_of-bytes.result) _ less c.len_of-bytes.result c.len_of-bytes.ensures.len refl c.loop-entry.invariant
-    c.if-count-gt0.true c.if-bytes-gt-MAX_REWRITE_BATCH_BYTES.true
+    let some : c.loop-rest.rest.now ≢ [] = search rules in
+    part_is_full c.args.entries.now c.loop-rest.rest.now c.loop-rest.len c.loop-rest.bytes c.block_len-count.result c.bytes_of-bytes.result c.loop-rest.invariant.0
+    (some_left c.args.entries.now c.loop-rest.rest.now c.loop-rest.len c.loop-rest.invariant.0 some) c.loop-rest.invariant.1 c.block_len-count.ensures
+    (subst (IsCapped c.bytes_of-bytes.result) c.split_at.ensures.front c.bytes_of-bytes.ensures.capped) c.if-len-gt0.true c.if-bytes-gt-MAX_REWRITE_BATCH_BYTES.true
 
-pub loop-entry-preserved : goal.loop-entry-preserved
-loop-entry-preserved c =
-    let less : c.loop-entry.entry-index < length c.args.entries.now = search rules in
-    let fits : 0 < c.loop-entry.count → c.loop-entry.bytes + c.len_of-bytes.result ≤ 131072 = elim c.else-count-gt0.branch [
-      | else-count-gt0-via-then-count-gt0+else-bytes-gt-MAX_REWRITE_BATCH_BYTES w ↦ λ some. w.if-bytes-gt-MAX_REWRITE_BATCH_BYTES.false
-      | else-count-gt0-via-else-count-gt0 w ↦ λ some. let none = w.if-count-gt0.false in absurd (omega (arith, none, some))
-    ] in
-    one_counted c.args.entries.now c.loop-entry.entry-index c.loop-entry.count c.loop-entry.bytes (c.loop-entry.bytes + c.len_of-bytes.result) _ less c.len_of-bytes.result c.len_of-bytes.ensures.len refl c.loop-entry.invariant
-    c.len_of-bytes.ensures.small fits
+pub loop-rest-preserved : goal.loop-rest-preserved
+loop-rest-preserved c =
+    let some : c.loop-rest.rest.now ≢ [] = search rules in
+    let less = some_left c.args.entries.now c.loop-rest.rest.now c.loop-rest.len c.loop-rest.invariant.0 some in
+    let capped = subst (IsCapped c.bytes_of-bytes.result) c.split_at.ensures.front c.bytes_of-bytes.ensures.capped in
+    let fits : 0 < c.loop-rest.len → c.loop-rest.bytes + c.bytes_of-bytes.result ≤ 8192 = elim c.else-len-gt0.branch [
+      | else-len-gt0-via-then-len-gt0+else-bytes-gt-MAX_REWRITE_BATCH_BYTES w ↦ λ some. w.if-bytes-gt-MAX_REWRITE_BATCH_BYTES.false
+      | else-len-gt0-via-else-len-gt0 w ↦ λ some. let none = w.if-len-gt0.false in absurd (omega (arith, none, some))
+    ] in (
+      c.split_at.ensures.back
+          ∙ sym (all_behind c.args.entries.now c.loop-rest.rest.now c.loop-rest.len c.loop-rest.bytes c.block_len-count.result c.bytes_of-bytes.result c.loop-rest.invariant.0 less c.loop-rest.invariant.1 c.block_len-count.ensures capped),
+      one_more_block c.args.entries.now c.loop-rest.rest.now c.loop-rest.len c.loop-rest.bytes c.block_len-count.result c.bytes_of-bytes.result c.loop-rest.invariant.0 less c.loop-rest.invariant.1 c.block_len-count.ensures capped
+          fits c.bytes_of-bytes.ensures.small,
+    )
+
+pub returns : goal.returns
+returns c =
+    let none : length c.loop-rest.rest.now ≡ 0 = eqb-true (length c.loop-rest.rest.now) 0 (sym c.loop-rest-test.ensures) in
+    all_in_part c.args.entries.now c.loop-rest.len c.loop-rest.bytes (none_left c.args.entries.now c.loop-rest.rest.now c.loop-rest.len c.loop-rest.invariant.0 none) c.loop-rest.invariant.1

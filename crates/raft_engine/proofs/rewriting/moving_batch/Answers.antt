@@ -1,5 +1,5 @@
 use Rattle.std.proofs.lemmas.Result.{err_from_is_err_and}
-use Rattle.std.proofs.Common.{inl, inr}
+use Rattle.std.proofs.Common.{inl, inr, length, refl, ap, ◌∙◌}
 use Rattle.raft_table.specs.KeyValues.{pairs_shown}
 use Rattle.raft_engine.proofs.ReadKept.{counted, read_only, unread_only}
 use Rattle.raft_engine.proofs.RewrittenRegions.{on_any}
@@ -7,10 +7,14 @@ use Rattle.raft_engine.proofs.UnmovedLemmas.{bytes_refused, entries_refused, rec
 use Rattle.raft_engine.proofs.rewriting.moving_batch.Goals as goal
 
 pub add_raw_entries-requires-clause-counts : goal.add_raw_entries-requires-clause-counts
-add_raw_entries-requires-clause-counts g c = counted c.in_ok-entries.entries.items c.as_slice.result.now c.in_ok-strings.strings.items _ _ c.as_slice.ensures.value c.in_ok-strings.ensures.ok
+add_raw_entries-requires-clause-counts g c =
+    ap length c.in_ok-from_slice.ensures.items ∙ counted c.args.part.now c.args.part.now c.in_ok-strings.strings.items _ _ refl c.in_ok-strings.ensures.ok
 
 pub returns-in_err-strings-clause-err : goal.returns-in_err-strings-clause-err
 returns-in_err-strings-clause-err g c = on_any _ _ (unread_only _ _ _ _ _ c.in_err-strings.ensures.err)
+
+pub returns-in_err-from_slice-clause-err : goal.returns-in_err-from_slice-clause-err
+returns-in_err-from_slice-clause-err g c = on_any _ _ (read_only _ _ _ _ c.in_ok-strings.ensures.ok)
 
 pub returns-in_err-add_raw_entries-clause-err : goal.returns-in_err-add_raw_entries-clause-err
 returns-in_err-add_raw_entries-clause-err g c = on_any _ _ (read_only _ _ _ _ c.in_ok-strings.ensures.ok)
@@ -21,16 +25,16 @@ returns-in_err-put_pairs-clause-err g c = on_any _ _ (read_only _ _ _ _ c.in_ok-
 pub returns-in_err-strings-clause-refused : goal.returns-in_err-strings-clause-refused
 returns-in_err-strings-clause-refused g c =
     let p = err_from_is_err_and c.from_residual-in_err-strings.result c.from_residual-in_err-strings.ensures.1 in
-    rw (p.1, p.2) (λ some. entries_refused c.args.gate c.args.table.now c.region_id-region.result c.region_id-region.ensures c.in_ok-entries.entries.items c.as_slice.result.now _ _ _ c.as_slice.ensures.value c.in_ok-entries.ensures.ok c.in_err-strings.ensures.err)
+    rw (p.1, p.2) (λ some. entries_refused c.args.gate c.args.left.now c.args.table.now c.region_id-region.result c.region_id-region.ensures c.args.part.now _ _ _ c.requires.next c.in_err-strings.ensures.err)
 
 pub returns-in_err-add_raw_entries-clause-refused : goal.returns-in_err-add_raw_entries-clause-refused
 returns-in_err-add_raw_entries-clause-refused g c =
     let p = err_from_is_err_and c.from_residual-in_err-add_raw_entries.result c.from_residual-in_err-add_raw_entries.ensures.1 in
-    rw (p.1, p.2) (λ some. records_refused c.args.gate c.args.table.now c.in_ok-entries.entries.items c.as_slice.result.now _ (pairs_shown c.in_ok-pairs.pairs.items) _ _ _
-    c.as_slice.ensures.value c.in_ok-entries.ensures.ok c.in_ok-strings.ensures.ok c.in_ok-pairs.ensures.ok (inl (bytes_refused _ _ _ c.default-batch.ensures (c.in_err-add_raw_entries.ensures.fault some))))
+    rw (p.1, p.2) (λ some. records_refused c.args.gate c.args.left.now c.args.table.now c.args.part.now _ (pairs_shown c.in_ok-pairs.pairs.items) _ _ _
+    c.requires.next c.in_ok-strings.ensures.ok c.in_ok-pairs.ensures.ok (inl (bytes_refused _ _ _ c.default-batch.ensures (c.in_err-add_raw_entries.ensures.fault some))))
 
 pub returns-in_err-put_pairs-clause-refused : goal.returns-in_err-put_pairs-clause-refused
 returns-in_err-put_pairs-clause-refused g c =
     let p = err_from_is_err_and c.from_residual-in_err-put_pairs.result c.from_residual-in_err-put_pairs.ensures.1 in
-    rw (p.1, p.2) (λ some. records_refused c.args.gate c.args.table.now c.in_ok-entries.entries.items c.as_slice.result.now _ (pairs_shown c.in_ok-pairs.pairs.items) _ _ _
-    c.as_slice.ensures.value c.in_ok-entries.ensures.ok c.in_ok-strings.ensures.ok c.in_ok-pairs.ensures.ok (inr (c.in_err-put_pairs.ensures.refused some)))
+    rw (p.1, p.2) (λ some. records_refused c.args.gate c.args.left.now c.args.table.now c.args.part.now _ (pairs_shown c.in_ok-pairs.pairs.items) _ _ _
+    c.requires.next c.in_ok-strings.ensures.ok c.in_ok-pairs.ensures.ok (inr (c.in_err-put_pairs.ensures.refused some)))

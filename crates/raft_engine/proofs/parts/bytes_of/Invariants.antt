@@ -1,0 +1,6 @@
+use Rattle.std.proofs.Common.{◌≡◌, ◌<◌, ◌^◌, take}
+use Rattle.raft_engine.specs.Parts.{bytes_of_entries}
+use Rattle.raft_engine.proofs.parts.bytes_of.Given as goal
+
+abbrev pub invariant-loop-entry : goal.invariant-loop-entry
+invariant-loop-entry l = (l.bytes ≡ bytes_of_entries (take l.entry-index l.entries)) × (l.bytes < 2 ^ 33)

@@ -2,7 +2,7 @@
 use Rattle.std.proofs.Common.{◌≡◌, ◌≢◌, ◌⊎◌, ℕ, suc, ◌+◌, ◌<◌, ◌≤◌, List, [], ◌∷◌, ◌++◌, get_or, length, map, take, drop, Option, Some, None, Vec, Contains, string_bytes, inl, inr, refl, sym, ap, subst, ◌∙◌, append_assoc, arith}
 use Rattle.std.specs.Global.{Global}
 use Rattle.std.specs.List.{AllZip}
-use Rattle.std.proofs.lemmas.List.{take-append-drop, take_more}
+use Rattle.std.proofs.lemmas.List.{length-append, length-take-le, take-append-drop, take-append-le, take_at, take_more}
 use Rattle.std.proofs.lemmas.List.Elements.{Contains-append_right}
 use Rattle.raft_base.specs.declared.entry_index.EntryIndex.{EntryIndex}
 use Rattle.raft_base.specs.declared.errors.Error.{Error}
@@ -10,8 +10,8 @@ use Rattle.raft_base.specs.declared.errors.Error.TheVariants as errors
 use Rattle.raft_base.specs.declared.pipe_log.FileBlockHandle.{FileBlockHandle}
 use Rattle.raft_base.specs.Corruption.{IsCorruption}
 use Rattle.raft_base.specs.Errors.{IsCorruptionError}
-use Rattle.raft_records.specs.Faults.{IsAnyCorruption, IsMemory}
-use Rattle.raft_records.specs.Header.{IsEntryBlockFault, IsEntryBlockOf}
+use Rattle.raft_records.specs.Faults.{IsAnyCorruption}
+use Rattle.raft_records.specs.Header.{IsEntryBlockOf, IsLentBlockFault}
 use Rattle.raft_records.specs.ItemBatch.{HasSeal, checksum_bytes}
 use Rattle.raft_records.proofs.BufferLemmas.{checksum_len}
 use Rattle.raft_records.proofs.SealLemmas.{content_is}
@@ -20,7 +20,6 @@ use Rattle.raft_files.specs.Asks.{Ask, Read, ask}
 use Rattle.raft_engine.specs.BlockReads.{AreBytesIn, AreNoBytesIn, IsBlockOf, IsKeptOf, IsNoBlockOf, IsOfEntry, IsSoundRead, IsUnsoundRead}
 use Rattle.raft_engine.specs.Reads.{AreReadByBlocks, AreReads, AreUnread, IsDamaged, IsReadAmong, NamesEntry, entry_text}
 use Rattle.raft_engine.specs.declared.block_reads.EntryBlock.{EntryBlock}
-use Rattle.raft_engine.proofs.OpensLemmas.{memory_or}
 use Rattle.raft_engine.proofs.BlockCounts.{EndsAt, ends_more, front_count, other_count, same_count}
 
 -- ---- blocks
@@ -34,6 +33,17 @@ one_block len block a b (inl h) (inl k) = h.1 ∙ sym k.1
 one_block len block a b (inl h) (inr k) = let zero = h.0 in let some = k.0 in absurd (omega (arith, zero, some))
 one_block len block a b (inr h) (inl k) = let zero = k.0 in let some = h.0 in absurd (omega (arith, zero, some))
 one_block len block a b (inr h) (inr k) = one_sealed _ a b h.2 k.2
+
+-- its entries' bytes are its first ones
+pub entries_first : (len : ℕ) (block entries : List ℕ) → IsEntryBlockOf len block entries → entries ≡ take (length entries) block
+entries_first len block entries (inl h) = h.1 ∙ ap (λ (l : List ℕ). take (length l) block) (sym h.1)
+entries_first len block entries (inr h) =
+    let behind : List ℕ = checksum_bytes None entries in
+    let whole : length (take len block) ≡ len = length-take-le len block h.1 in
+    let parts : length (take len block) ≡ length entries + length behind = ap length h.2.split ∙ length-append entries behind in
+    let fits : length entries ≤ length (take len block) = omega (arith, parts) in
+    sym (ap (take (length entries)) (sym (take-append-drop len block)) ∙ take-append-le (length entries) (take len block) (drop len block) fits
+    ∙ ap (take (length entries)) h.2.split ∙ take_at entries behind (length entries) refl)
 
 -- ---- what is among reads
 
@@ -202,55 +212,22 @@ by_text text errors.Full is = is
 by_text text (errors.Other reason) is = is
 by_text text errors.Failed is = is
 
--- so is want of memory
-for_memory : (e : Error) → IsMemory e → IsAnyCorruption e
-for_memory errors.Memory is = tt
-for_memory (errors.Corruption reason) is = absurd is
-for_memory (errors.InvalidArgument reason) is = absurd is
-for_memory (errors.Io fault) is = absurd is
-for_memory (errors.Codec fault) is = absurd is
-for_memory (errors.Message fault) is = absurd is
-for_memory (errors.TryAgain reason) is = absurd is
-for_memory errors.EntryCompacted is = absurd is
-for_memory errors.EntryNotFound is = absurd is
-for_memory errors.Full is = absurd is
-for_memory (errors.Other reason) is = absurd is
-for_memory errors.Failed is = absurd is
-
 -- so is every refusal of a block
-block_fault : (len : ℕ) (block : List ℕ) (e : Error) → IsEntryBlockFault len block e → IsAnyCorruption e
-block_fault len block e (inl memory) = for_memory e memory
-block_fault len block e (inr (inl short)) = short.1
-block_fault len block e (inr (inr (some, long, inl short))) = by_text _ e short.1
-block_fault len block e (inr (inr (some, long, inr sum))) = by_text _ e sum.error
+block_fault : (len : ℕ) (block : List ℕ) (e : Error) → IsLentBlockFault len block e → IsAnyCorruption e
+block_fault len block e (inl short) = short.1
+block_fault len block e (inr (some, long, inl short)) = by_text _ e short.1
+block_fault len block e (inr (some, long, inr sum)) = by_text _ e sum.error
 
 -- no sound block was read for an entry, and the refusal names it; or there is no memory
 pub unsound_read : (region index : ℕ) (place : FileBlockHandle) (block : List ℕ) (old new : List Ask) (fault error : Error) → new ≡ ask place.id.queue (Read place block) ∷ old
-    → (fault ≢ errors.Memory → (entries : List ℕ) → IsEntryBlockOf place.len block entries → ⊥) → IsEntryBlockFault place.len block fault → IsOfEntry region index place fault error
+    → ((entries : List ℕ) → IsEntryBlockOf place.len block entries → ⊥) → IsLentBlockFault place.len block fault → IsOfEntry region index place fault error
     → IsUnsoundRead region index place old new error
 unsound_read region index place block old new fault error asked none why of = record { block = block; asked = asked; why = go (with_entry region index place fault error of (block_fault place.len block fault why)) }
   where
-    of_memory : (f : Error) → f ≡ errors.Memory → IsOfEntry region index place f error → error ≡ errors.Memory
-    of_memory errors.Memory is named = named
-    of_memory (errors.Corruption reason) is named = absurd cc
-    of_memory (errors.InvalidArgument reason) is named = named ∙ is
-    of_memory (errors.Io f) is named = named ∙ is
-    of_memory (errors.Codec f) is named = named ∙ is
-    of_memory (errors.Message f) is named = named ∙ is
-    of_memory (errors.TryAgain reason) is named = named ∙ is
-    of_memory errors.EntryCompacted is named = named ∙ is
-    of_memory errors.EntryNotFound is named = named ∙ is
-    of_memory errors.Full is named = named ∙ is
-    of_memory (errors.Other reason) is named = named ∙ is
-    of_memory errors.Failed is named = named ∙ is
-
     go : (error ≡ errors.Memory) ⊎ (IsCorruptionError error × NamesEntry region index place error)
         → (error ≡ errors.Memory) ⊎ (IsCorruptionError error × NamesEntry region index place error × ((entries : List ℕ) → IsEntryBlockOf place.len block entries → ⊥))
     go (inl memory) = inl memory
-    go (inr named) = elim (memory_or fault) [
-      | inl memory ↦ inl (of_memory fault memory of)
-      | inr other ↦ inr (named.0, named.1, none other)
-    ]
+    go (inr named) = inr (named.0, named.1, none)
 
 -- the bytes of an entry aren't in its block, and the refusal names it; or there is no memory
 pub no_bytes : (region : ℕ) (place : FileBlockHandle) (entries : List ℕ) (e : EntryIndex) (fault error : Error) → length entries < e.entry_offset + e.entry_len → IsAnyCorruption fault

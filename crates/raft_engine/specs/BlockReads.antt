@@ -39,10 +39,14 @@ pub record IsBlockOf (e : EntryIndex) (kept : Option EntryBlock) (block : EntryB
   pub placed : e.entries ≡ Some block.place
   pub got : ((kept ≡ Some block) × (new ≡ old)) ⊎ ((IsKeptOf e kept → ⊥) × IsSoundRead block.place block.entries.items old new)
 
--- the block that is kept is another one; nothing was read, or no sound block at the place of the entry
+-- nothing was read for an entry, or no sound block at its place
+abbrev pub IsUnreadOf : ℕ → EntryIndex → List Ask → List Ask → Error → Type 0
+IsUnreadOf region e old new error = (new ≡ old) ⊎ ((place : FileBlockHandle) × (e.entries ≡ Some place) × IsUnsoundRead region e.index place old new error)
+
+-- the block that is kept is another one, and that of the entry isn't read
 pub record IsNoBlockOf (region : ℕ) (e : EntryIndex) (kept : Option EntryBlock) (old new : List Ask) (error : Error) : Type 0 where
   pub other : IsKeptOf e kept → ⊥
-  pub unread : (new ≡ old) ⊎ ((place : FileBlockHandle) × (e.entries ≡ Some place) × IsUnsoundRead region e.index place old new error)
+  pub unread : IsUnreadOf region e old new error
 
 -- the bytes of an entry in the entry bytes of a block
 pub record AreBytesIn (entries : List ℕ) (e : EntryIndex) (bytes : List ℕ) : Type 0 where

@@ -1,12 +1,13 @@
 //! Entries that are read by their blocks.
 
-ghost use Rattle.std.specs.Prelude.{◌≡◌, ◌⊎◌, ◌∷◌, [], map, IfOk, IfErr, Some};
-ghost use Rattle.raft_engine.specs.BlockReads.{AreBytesIn, AreNoBytesIn, IsBlockOf, IsNoBlockOf, IsOfEntry, IsSoundRead, IsUnsoundRead};
+ghost use Rattle.std.specs.Prelude.{◌≡◌, ◌↔◌, ◌∷◌, ℕ, [], List, map, take, IfErr, IfOk, IfSome, IsSome, IsTrue, OnErr, OnOk, Some};
+ghost use Rattle.raft_records.specs.Header.{IsEntryBlockOf, IsLentBlockFault};
+ghost use Rattle.raft_engine.specs.BlockReads.{AreBytesIn, AreNoBytesIn, IsBlockOf, IsKeptOf, IsNoBlockOf, IsOfEntry, IsSoundRead, IsUnreadOf};
 ghost use Rattle.raft_engine.specs.Reads.{AreReadByBlocks, AreUnread};
 
-use raft_base::{EntryIndex, Error, FileBlockHandle, FileId, Result};
+use raft_base::{CompressionType, EntryIndex, Error, FileBlockHandle, FileId, Result};
 use raft_files::EngineFiles;
-use raft_records::{LogBatch, entry_bytes};
+use raft_records::{entry_bytes, lent_entry_block};
 use raft_replay::segment::queue_name;
 use std::alloc::Global;
 
@@ -32,8 +33,8 @@ pub fn read_alone<F: EngineFiles>(
         (F.asked files.old) (F.asked files.new)) }
     ensures err { IfErr result (AreUnread region (entry.now ∷ []) (F.asked files.old) (F.asked files.new)) }
 {
-    let block = block_of(alloc, files, region, entry, None)?;
-    bytes_in(alloc, region, block.place, block.entries.as_slice(), entry)
+    let block = block_of(alloc, files, region, entry)?;
+    bytes_in(alloc, region, &block, entry)
 }
 
 /// Reads the bytes of entries of a region, in order. A block that holds several neighbors is read once.
@@ -55,15 +56,48 @@ pub fn read_by_blocks<F: EngineFiles>(
     let mut strings = Vec::new(alloc);
     let mut last = None;
     for entry in entries {
-        let block = block_of(alloc, files, region, entry, last)?;
-        let bytes = block.entries.as_slice();
-        strings.push(bytes_in(alloc, region, block.place, bytes, entry)?)?;
-        last = Some(block);
+        keep_block(alloc, files, region, entry, &mut last)?;
+        let Some(block) = &last else { unreachable!() };
+        strings.push(bytes_in(alloc, region, block, entry)?)?;
     }
     Ok(strings)
 }
 
-/// Returns the block at the place of an entry of a region: the one that is kept, if it is that, and else it is read.
+/// Keeps the block at the place of an entry of a region: the one that is kept, if it is that, and else it is read.
+///
+/// # Errors
+///
+/// Those of [`read_by_blocks`].
+fn keep_block<F: EngineFiles>(
+    alloc: Global,
+    files: &mut F,
+    region: u64,
+    entry: &EntryIndex,
+    kept: &mut Option<EntryBlock>,
+) -> Result<()>
+    ensures some { OnOk result (IsSome kept.new) }
+    ensures ok { OnOk result (IfSome kept.new (λ block. IsBlockOf entry.now kept.old block
+        (F.asked files.old) (F.asked files.new))) }
+    ensures err { IfErr result (IsNoBlockOf region entry.now kept.old (F.asked files.old)
+        (F.asked files.new)) }
+{
+    if !is_kept(kept, entry) {
+        *kept = Some(block_of(alloc, files, region, entry)?);
+    }
+    Ok(())
+}
+
+/// Tests whether the block that is kept is the one at the place of an entry.
+fn is_kept(kept: &Option<EntryBlock>, entry: &EntryIndex) -> bool
+    ensures { IsTrue result ↔ IsKeptOf entry.now kept.now }
+{
+    match kept {
+        Some(block) => entry.entries == Some(block.place),
+        None => false,
+    }
+}
+
+/// Reads the block at the place of an entry of a region.
 ///
 /// # Errors
 ///
@@ -73,11 +107,11 @@ fn block_of<F: EngineFiles>(
     files: &mut F,
     region: u64,
     entry: &EntryIndex,
-    kept: Option<EntryBlock>,
 ) -> Result<EntryBlock>
-    ensures ok { IfOk result (λ block. IsBlockOf entry.now kept block (F.asked files.old)
-        (F.asked files.new)) }
-    ensures err { IfErr result (IsNoBlockOf region entry.now kept (F.asked files.old) (F.asked files.new)) }
+    ensures placed { IfOk result (λ block. entry.now.entries ≡ Some block.place) }
+    ensures ok { IfOk result (λ block. IsSoundRead block.place block.entries.items
+        (F.asked files.old) (F.asked files.new)) }
+    ensures err { IfErr result (IsUnreadOf region entry.now (F.asked files.old) (F.asked files.new)) }
 {
     let Some(place) = entry.entries else {
         return Err(Error::Corruption(format!(in alloc;
@@ -85,59 +119,49 @@ fn block_of<F: EngineFiles>(
             entry.index
         )?));
     };
-    let Some(block) = kept else {
-        return read_block(alloc, files, region, entry, place);
-    };
-    if block.place == place {
-        return Ok(block);
-    }
-    read_block(alloc, files, region, entry, place)
-}
-
-/// Reads the block at the place of an entry of a region.
-///
-/// # Errors
-///
-/// Those of `EngineFiles::read`; `Corruption` where no sound block stands there; `Memory`.
-fn read_block<F: EngineFiles>(
-    alloc: Global,
-    files: &mut F,
-    region: u64,
-    entry: &EntryIndex,
-    place: FileBlockHandle,
-) -> Result<EntryBlock>
-    ensures place { IfOk result (λ block. block.place ≡ place) }
-    ensures ok { IfOk result (λ block. IsSoundRead place block.entries.items (F.asked files.old)
-        (F.asked files.new)) }
-    ensures err { IfErr result (λ e. (F.asked files.new ≡ F.asked files.old)
-        ⊎ IsUnsoundRead region entry.now.index place (F.asked files.old) (F.asked files.new) e) }
-{
-    let block = files.read(place)?;
-    let bytes = block.as_slice();
-    match LogBatch::decode_entries_block(alloc, bytes, place, entry.compression_type) {
-        Ok(entries) => Ok(EntryBlock { place, entries }),
+    let mut entries = files.read(place)?;
+    match entries_len(alloc, entries.as_slice(), place.len, entry.compression_type) {
+        Ok(len) => {
+            entries.truncate(len);
+            Ok(EntryBlock { place, entries })
+        }
         Err(unsound) => Err(of_entry(alloc, region, entry.index, place, unsound)),
     }
 }
 
-/// Returns the bytes of an entry of a region in the entry bytes of its block, which stands at a place.
+/// Returns how many bytes entries have in their block, of which they are the first ones. It tests the checksum behind them.
+///
+/// # Errors
+///
+/// `Corruption` where the bytes are no sound block of this length; `Memory`.
+fn entries_len(
+    alloc: Global,
+    block: &[u8],
+    len: usize,
+    compression_type: CompressionType,
+) -> Result<usize>
+    ensures ok { IfOk result (λ count. IsEntryBlockOf len block.now (take count block.now)) }
+    ensures refused { OnErr result ((entries : List ℕ) → IsEntryBlockOf len block.now entries → ⊥) }
+    ensures fault { IfErr result (IsLentBlockFault len block.now) }
+{
+    match compression_type {
+        CompressionType::None => Ok(lent_entry_block(alloc, block, len)?.len()),
+    }
+}
+
+/// Returns the bytes of an entry of a region in its block.
 ///
 /// # Errors
 ///
 /// `Corruption` where they would end past those of the block; `Memory`.
-fn bytes_in(
-    alloc: Global,
-    region: u64,
-    place: FileBlockHandle,
-    entries: &[u8],
-    entry: &EntryIndex,
-) -> Result<Vec<u8>>
-    ensures ok { IfOk result (λ bytes. AreBytesIn entries.now entry.now bytes.items) }
-    ensures err { IfErr result (AreNoBytesIn region place entries.now entry.now) }
+fn bytes_in(alloc: Global, region: u64, block: &EntryBlock, entry: &EntryIndex) -> Result<Vec<u8>>
+    ensures ok { IfOk result (λ bytes. AreBytesIn block.now.entries.items entry.now bytes.items) }
+    ensures err { IfErr result
+        (AreNoBytesIn region block.now.place block.now.entries.items entry.now) }
 {
-    match entry_bytes(alloc, entries, entry) {
+    match entry_bytes(alloc, block.entries.as_slice(), entry) {
         Ok(bytes) => Ok(Vec::from_slice(alloc, bytes)?),
-        Err(error) => Err(of_entry(alloc, region, entry.index, place, error)),
+        Err(error) => Err(of_entry(alloc, region, entry.index, block.place, error)),
     }
 }
 

@@ -1,0 +1,16 @@
+use Rattle.std.proofs.Common.{List, ℕ, inr, subst}
+use Rattle.raft_records.specs.Header.{IsEntryBlockOf, IsLentBlockFault}
+use Rattle.raft_engine.proofs.BlockReadLemmas.{unsound_read}
+use Rattle.raft_engine.proofs.block_reads.block_of.Goals as goal
+
+pub returns-in-Err-clause-err : goal.returns-in-Err-clause-err
+returns-in-Err-clause-err g c =
+    let same = c.as_slice.ensures.value in
+    inr (
+      c.in-Some.place,
+      c.in-Some.is,
+      unsound_read c.args.region c.args.entry.now.index c.in-Some.place c.in_ok-entries.entries.items _ _ c.in-Err.unsound c.of_entry.result c.in_ok-entries.ensures.ok
+          (subst (λ (l : List ℕ). (entries : List ℕ) → IsEntryBlockOf c.in-Some.place.len l entries → ⊥) same c.in-Err.ensures.refused)
+          (subst (λ (l : List ℕ). IsLentBlockFault c.in-Some.place.len l c.in-Err.unsound) same c.in-Err.ensures.fault)
+          c.of_entry.ensures,
+    )

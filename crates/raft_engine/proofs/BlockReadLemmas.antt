@@ -18,7 +18,7 @@ use Rattle.raft_records.proofs.SealLemmas.{content_is}
 use Rattle.raft_table.specs.Fetches.{block_count}
 use Rattle.raft_files.specs.Asks.{Ask, Read, ask}
 use Rattle.raft_engine.specs.BlockReads.{AreBytesIn, AreNoBytesIn, IsBlockOf, IsKeptOf, IsNoBlockOf, IsOfEntry, IsSoundRead, IsUnsoundRead}
-use Rattle.raft_engine.specs.Reads.{AreReadByBlocks, AreReads, AreUnread, IsDamaged, IsReadAmong, NamesEntry, entry_text}
+use Rattle.raft_engine.specs.Reads.{AreReadByBlocks, AreReads, AreUnread, IsDamaged, IsReadAmong, NamesEntry}
 use Rattle.raft_engine.specs.declared.block_reads.EntryBlock.{EntryBlock}
 use Rattle.raft_engine.proofs.BlockCounts.{EndsAt, ends_more, front_count, other_count, same_count}
 

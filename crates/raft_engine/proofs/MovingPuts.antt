@@ -1,8 +1,7 @@
 -- A batch of what was read of a region's records moves them, once it stands in a file of the rewrite queue.
-use Rattle.std.proofs.Common.{◌≡◌, ◌≢◌, ℕ, ◌+◌, true, List, [], ◌∷◌, map, drop, length, Option, Some, refl, sym, ap, ◌∙◌, append-nil}
-use Rattle.std.proofs.lemmas.List.{take-append-drop}
+use Rattle.std.proofs.Common.{◌≡◌, ◌≢◌, ℕ, ◌+◌, true, List, [], ◌∷◌, map, length, Option, Some, refl, sym, ap, ◌∙◌, append-nil}
 use Rattle.std.specs.FinMap as finite
-use Rattle.std.specs.List.{AllZip, concat, prefix_len}
+use Rattle.std.specs.List.{AllZip, concat}
 use Rattle.raft_base.specs.declared.compression_type.CompressionType.TheVariants as compressions
 use Rattle.raft_base.specs.declared.entry_index.EntryIndex.{EntryIndex}
 use Rattle.raft_base.specs.declared.pipe_log.FileBlockHandle.{FileBlockHandle}
@@ -16,9 +15,8 @@ use Rattle.raft_records.specs.ItemBatch.{placed_item, with_offsets_from}
 use Rattle.raft_records.specs.LogBatch.{Batch, entry_place}
 use Rattle.raft_table.specs.Fetches.{appended_before}
 use Rattle.raft_table.specs.KeyValues.{pairs_up_to}
-use Rattle.raft_table.specs.Rewriting.{is_placed_before}
 use Rattle.raft_table.specs.Table.{Table}
-use Rattle.raft_table.specs.TableEntries.{AreTableEntries, is_placed_in, placed_in}
+use Rattle.raft_table.specs.TableEntries.{AreTableEntries, is_placed_in}
 use Rattle.raft_history.specs.RegionSteps.{Tables}
 use Rattle.raft_accessor.specs.Writes.{Rewriting, after_items}
 use Rattle.raft_files.specs.Asks.{Ask, Put, acts_on, ask}
@@ -29,7 +27,7 @@ use Rattle.raft_engine_laws.specs.Moving.{AreCopies, IsMovingBatch, moving_items
 use Rattle.raft_engine.specs.BatchBytes.{bytes_for, event_at, place_at, placed_at}
 use Rattle.raft_engine.specs.KeptEngine.{IsLastFile}
 use Rattle.raft_engine.specs.Reads.{IsReadAmong}
-use Rattle.raft_engine.specs.Rewriting.{IsBatchMoving, batch_of, moving_entries, moving_pairs, pairs_with, puts_of}
+use Rattle.raft_engine.specs.Rewriting.{IsBatchMoving, batch_of, moving_pairs, pairs_with, puts_of}
 use Rattle.raft_engine.proofs.NextParts.{back_of, left_before, part_may_move, parted, with_fetched}
 use Rattle.raft_engine.proofs.TakenMoves.{moving_taken}
 use Rattle.raft_engine.proofs.ToldReads.{entries_have}

@@ -1,7 +1,7 @@
 -- Parts of entries, and batches that have one each.
-use Rattle.std.proofs.Common.{◌≡◌, ◌≢◌, ◌⊎◌, inl, inr, ℕ, zero, suc, ◌+◌, ◌<◌, ◌≤◌, ◌^◌, List, [], ◌∷◌, ◌++◌, get_or, length, map, take, drop, refl, sym, ap, ◌∙◌, subst, append_assoc, append-nil, None, arith}
+use Rattle.std.proofs.Common.{◌≡◌, ◌≢◌, inl, inr, ℕ, suc, List, [], ◌∷◌, ◌++◌, length, map, take, drop, refl, sym, ap, ◌∙◌, subst, append_assoc, append-nil, None}
 use Rattle.std.proofs.lemmas.Grind.{flat_map-append}
-use Rattle.std.proofs.lemmas.List.{length-take, length-take-le, map-append, take-append-drop, take_all, take_more}
+use Rattle.std.proofs.lemmas.List.{length-take-le, map-append, take-append-drop}
 use Rattle.std.specs.List.{AllByRecursion}
 use Rattle.raft_base.specs.Runs.{IsConsecutive, IsRun, RisesFrom}
 use Rattle.raft_base.specs.declared.entry_index.EntryIndex.{EntryIndex}
@@ -13,7 +13,7 @@ use Rattle.raft_files.specs.Asks.{Ask}
 use Rattle.raft_engine_laws.specs.Moving.{AreOrdinary}
 use Rattle.raft_engine.specs.GroupBatches.{ArePartsRead, EntriesPart, batches_behind, group_batches, marker_batch, part_batch}
 use Rattle.raft_engine.specs.GroupParts.{AreCutInto, ArePartsAdded, ArePartsRefused, IsGroupInParts, IsGroupRefused, IsPartRead, IsPartRefused, entries_of_parts}
-use Rattle.raft_engine.specs.Parts.{AreOnePart, IsFirstPart, bytes_of_entries}
+use Rattle.raft_engine.specs.Parts.{IsFirstPart}
 use Rattle.raft_engine.specs.Reads.{AreOnlyRead, AreReadByBlocks, AreReads}
 use Rattle.raft_engine.specs.Rewriting.{moving_entries, moving_pairs, with_puts}
 use Rattle.raft_engine.specs.Unmoved.{AreKeysRefused}

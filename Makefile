@@ -2,7 +2,7 @@
 SHELL := /bin/bash
 RT ?= rt
 export RT
-.PHONY: believe believe-check bench bench-engine calls compare crashes cuttings demo demo-recover edits example hostile raftlog refused-memory rust rust-crashes rust-tests rust-unproved stack test tools wrong-bodies
+.PHONY: believe believe-check bench calls compare crashes cuttings demo demo-recover edits example hostile raftlog refused-memory rust rust-crashes rust-tests rust-unproved stack test tools wrong-bodies
 
 # Builds `raftlog` with checks at run time and keeps it, and says where it lies. Nothing is proved.
 tools:
@@ -109,13 +109,6 @@ bench:
 	@cd crates/raft_bench && $(RT) run > out/bench.log 2>&1 || { cat out/bench.log; exit 1; }
 	@crates/raft_bench/out/raft_bench crc32 varint batches memtable blocks shared
 	@test -z "$(LOG)" || { crates/raft_bench/out/raft_bench recover $(LOG) && crates/raft_bench/out/raft_bench merge recover $(LOG); }
-
-# Times the phases of an engine over files in memory: of 1,000 regions with 80 entries each, and of one with 20,000.
-bench-engine:
-	@mkdir -p crates/raft_engine_bench/out
-	@cd crates/raft_engine_bench && $(RT) run > out/bench.log 2>&1 || { cat out/bench.log; exit 1; }
-	@crates/raft_engine_bench/out/raft_engine_bench 1000 10
-	@crates/raft_engine_bench/out/raft_engine_bench 1 2500
 
 # Runs `raftlog recover` over a folder of cases, as `make compare CASES=folder WORKERS=1,2,4,8`, and counts those of which it
 # prints something else than they say. `make raftlog` builds it first. With `PLAIN=--plain` the plain program runs them. With

@@ -56,7 +56,8 @@ rust-tests:
 	cargo test --quiet --offline --manifest-path rust/Cargo.toml --features global-allocator
 
 # Runs HISTORIES random histories of the engine of rust/ from a seed on, as `make rust-crashes SEED=7`, and opens what each stop of the
-# machine may leave of them, on a disk that writes in order and on one that writes unsynced pages in any order, over the archive that `RAFT_FFI_ARCHIVE` names or the proved one.
+# machine may leave of them, on a disk that writes in order and on one that writes unsynced pages in any order, over the archive
+# that `RAFT_FFI_ARCHIVE` names or the proved one.
 rust-crashes: export RATTLE_HEAP_ARCHIVE = $(dir $(shell $(RT) doc))c/liblibc_c.a
 rust-crashes: export CARGO_TARGET_DIR ?= $(CURDIR)/crates/raft_ffi/out/target
 rust-crashes:

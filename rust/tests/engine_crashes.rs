@@ -8,12 +8,13 @@ mod common;
 use common::TempFolder;
 use common::both::Both;
 use common::model::{COUNT, Change, Draw, Region, region_of};
+use common::seeds::{number, run_each};
 use raft_recover::{
     Ask, Batches, Content, Engine, FilePart, Files, FolderFiles, LogBatch, LogFile, MemoryFiles,
     Options, Queue, Result, Unsynced, Version,
 };
 use std::sync::atomic::{AtomicU64, Ordering::Relaxed};
-use std::{env, fs, thread};
+use std::{fs, thread};
 
 /// How many steps a thread takes.
 const STEPS: usize = 14;
@@ -337,46 +338,19 @@ fn run(seed: u64) -> u64 {
     stop_everywhere(&history)
 }
 
-/// A number that a variable names, or another one where it isn't set.
-fn number(variable: &str, otherwise: u64) -> u64 {
-    env::var(variable).map_or(otherwise, |text| text.parse().unwrap())
-}
-
 #[test]
 fn nothing_that_was_synced_is_lost_and_nothing_comes_back() {
     let (first, histories) = (number("SEED", 1), number("HISTORIES", 200));
-    let (next, stops) = (AtomicU64::new(first), AtomicU64::new(0));
-    let threads = thread::available_parallelism().map_or(1, usize::from);
-    thread::scope(|scope| {
-        for _ in 0..threads {
-            scope.spawn(|| {
-                loop {
-                    let seed = next.fetch_add(1, Relaxed);
-                    if seed >= first + histories {
-                        return;
-                    }
-                    let told = Told(seed);
-                    stops.fetch_add(run(seed), Relaxed);
-                    std::mem::forget(told);
-                    let run = seed - first + 1;
-                    if run.is_multiple_of(500) {
-                        println!("{run} histories, {} stops", stops.load(Relaxed));
-                    }
-                }
-            });
+    let stops = AtomicU64::new(0);
+    run_each(first, histories, |seed| {
+        stops.fetch_add(run(seed), Relaxed);
+        let run = seed - first + 1;
+        if run.is_multiple_of(500) {
+            println!("{run} histories, {} stops", stops.load(Relaxed));
         }
     });
     println!(
         "{histories} histories from seed {first} on, {} stops, 0 different",
         stops.into_inner()
     );
-}
-
-/// Tells the seed of a history that fails.
-struct Told(u64);
-
-impl Drop for Told {
-    fn drop(&mut self) {
-        eprintln!("the history of seed {} failed", self.0);
-    }
 }

@@ -8,14 +8,13 @@
 mod common;
 
 use common::model::{COUNT, Change, Draw, KEYS, Region};
+use common::seeds::{number, run_each};
 use raft_recover::{
     Ask, Batches, Content, Engine, Error, ErrorKind, FileId, FilePart, LogBatch, LogFile,
     MemoryFiles, Options, Queue, Result, Unsynced, Version,
 };
 use std::collections::BTreeMap;
-use std::env;
 use std::sync::atomic::{AtomicU64, Ordering::Relaxed};
-use std::thread;
 
 /// How many steps a history has.
 const STEPS: usize = 30;
@@ -151,20 +150,29 @@ impl History {
     }
 }
 
+/// The numbers of the batches that stand in an append file.
+fn numbers_in(seq: u64, bytes: &[u8], version: Version) -> Vec<u64> {
+    let file = LogFile::new(Queue::Append, seq, version);
+    let batches = Batches::new(FilePart::new(file, bytes)).unwrap();
+    let number = |content| match content {
+        Content::Put { key, value } if key == COUNT => Some(value.try_into().unwrap()),
+        _ => None,
+    };
+    let items = batches.flat_map(Result::unwrap);
+    items
+        .filter_map(|item| number(item.content).map(u64::from_le_bytes))
+        .collect()
+}
+
 /// At which ask each batch was written, the first one's first.
 fn written(asks: &[Ask], version: Version) -> Vec<usize> {
     let mut places = Vec::new();
     for (at, ask) in asks.iter().enumerate() {
-        let Ask::Write(file, bytes) = ask else {
-            continue;
-        };
-        let log = LogFile::new(file.queue, file.seq, version);
-        let items = Batches::new(FilePart::new(log, bytes)).unwrap();
-        let counts = items
-            .flat_map(Result::unwrap)
-            .filter(|item| matches!(&item.content, Content::Put { key, .. } if key == COUNT));
-        if file.queue == Queue::Append {
-            places.extend(counts.map(|_| at));
+        if let Ask::Write(file, bytes) = ask
+            && file.queue == Queue::Append
+        {
+            let numbers = numbers_in(file.seq, bytes, version);
+            places.extend(numbers.iter().map(|_| at));
         }
     }
     places
@@ -226,6 +234,20 @@ impl Left {
         let files = MemoryFiles::found(append, rewrite);
         let engine = Engine::with_files(files.clone(), options(seed));
         (files, engine)
+    }
+
+    /// The number of the last batch in append files, if there is one, in front of which no header and no items of a batch are lost.
+    fn last_whole(&self, version: Version) -> Option<u64> {
+        let mut files = self.files[0].clone();
+        let last = self.lasts.iter().find(|it| it.id.queue == Queue::Append);
+        if let (Some(last), Some((_, left))) = (last, files.last_mut()) {
+            let [batch, _] = broken_places(&last.bytes, left);
+            *left = last.bytes[..batch.unwrap_or(last.bytes.len())].to_vec();
+        }
+        let numbers = files
+            .iter()
+            .flat_map(|(seq, bytes)| numbers_in(*seq, bytes, version));
+        numbers.last()
     }
 
     /// Tests that a refusal names the first place of a last file that isn't as it was written.
@@ -294,10 +316,7 @@ fn check(engine: &Engine<MemoryFiles>, state: &State, synced: usize) -> Vec<(u64
         let id = 1 + i as u64;
         let ends = [region.entries.keys().next(), region.entries.keys().last()];
         let found = [engine.first_index(id), engine.last_index(id)];
-        assert_eq!(
-            found.map(|index| index.unwrap().or(None)),
-            ends.map(|end| end.copied())
-        );
+        assert_eq!(found.map(Result::unwrap), ends.map(Option::<&u64>::copied));
         for (index, entry) in &region.entries {
             match engine.entry(id, *index) {
                 Ok(found) => assert_eq!(found.as_ref(), Some(entry)),
@@ -354,6 +373,10 @@ fn stop_everywhere(history: &History, counts: &Counts) {
                 "{synced} batches were synced, {count} are there"
             );
             assert!(count as usize <= places.partition_point(|place| *place < asked));
+            // no batch is left out whose header and items are there, and which stands in front of all that is lost
+            if let Some(last) = left.last_whole(options(history.seed).version) {
+                assert_eq!(count, last);
+            }
             let state = &history.states[count as usize];
             let unread = check(&engine, state, synced);
             counts.opened.fetch_add(1, Relaxed);
@@ -382,39 +405,30 @@ fn go_on(
         let named = (e.region.unwrap(), e.index.unwrap());
         assert!(unread.contains(&named), "{e}");
     }
-    let synced = history.states.len();
-    let known = |found: Vec<(u64, u64)>| assert!(found.iter().all(|it| unread.contains(it)));
-    let any = if unread.is_empty() { synced } else { 0 };
-    known(check(&engine, state, any));
+    // only what couldn't be read before may be unreadable
+    let readable = if unread.is_empty() {
+        history.states.len()
+    } else {
+        0
+    };
+    let assert_readable = |engine: &Engine<MemoryFiles>| {
+        let found = check(engine, state, readable);
+        assert!(found.iter().all(|entry| unread.contains(entry)));
+    };
+    assert_readable(&engine);
     drop(engine);
     let [append, rewrite] = QUEUES.map(|queue| files.files(queue));
     let found = MemoryFiles::found(append, rewrite);
     let engine = Engine::with_files(found, options(history.seed)).unwrap();
-    known(check(&engine, state, any));
-}
-
-/// A number that a variable names, or another one where it isn't set.
-fn number(variable: &str, otherwise: u64) -> u64 {
-    env::var(variable).map_or(otherwise, |text| text.parse().unwrap())
+    assert_readable(&engine);
 }
 
 #[test]
 fn nothing_that_was_synced_is_lost_on_a_disk_that_writes_pages_in_any_order() {
     let (first, histories) = (number("SEED", 1), number("HISTORIES", 40));
-    let (next, counts) = (AtomicU64::new(first), Counts::default());
-    let threads = thread::available_parallelism().map_or(1, usize::from);
-    thread::scope(|scope| {
-        for _ in 0..threads {
-            scope.spawn(|| {
-                while let Some(seed) = Some(next.fetch_add(1, Relaxed))
-                    && seed < first + histories
-                {
-                    let told = Told(seed);
-                    stop_everywhere(&History::new(seed), &counts);
-                    std::mem::forget(told);
-                }
-            });
-        }
+    let counts = Counts::default();
+    run_each(first, histories, |seed| {
+        stop_everywhere(&History::new(seed), &counts)
     });
     let [opened, refused, unread] =
         [counts.opened, counts.refused, counts.unread].map(AtomicU64::into_inner);
@@ -423,14 +437,5 @@ fn nothing_that_was_synced_is_lost_on_a_disk_that_writes_pages_in_any_order() {
          entry that wasn't synced can't be read",
         opened + refused
     );
-    assert!(opened > refused && refused > unread.min(1));
-}
-
-/// Tells the seed of a history that fails.
-struct Told(u64);
-
-impl Drop for Told {
-    fn drop(&mut self) {
-        eprintln!("the history of seed {} failed", self.0);
-    }
+    assert!(1 < refused && refused < opened);
 }

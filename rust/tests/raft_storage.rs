@@ -10,6 +10,7 @@ mod raft_storage;
 use common::TempFolder;
 use common::hooked::{Call, Hooked};
 use common::model::Draw;
+use common::seeds::number;
 use raft_recover::{Engine, Files, MemoryFiles, Options, Queue, Unsynced};
 use raft_storage::{
     ConfState, Entry, HardState, RaftStorage, Result, SnapshotMetadata, Storage, StorageError,
@@ -347,15 +348,10 @@ fn killed(folder: &TempFolder, seed: u64, taken: u64, draw: &mut Draw) -> u64 {
 /// How often a process that writes a history is killed.
 const KILLS: u64 = 10;
 
-/// A number of the environment, or another one where it isn't set.
-fn number_of(variable: &str, otherwise: u64) -> u64 {
-    env::var(variable).map_or(otherwise, |number| number.parse().unwrap())
-}
-
 /// As `SEED=100 HISTORIES=20` it writes twenty histories of these seeds, and kills their processes two hundred times.
 #[test]
 fn a_log_has_what_was_acknowledged_whenever_its_process_is_killed() {
-    let (first, count) = (number_of("SEED", 0), number_of("HISTORIES", 3));
+    let (first, count) = (number("SEED", 0), number("HISTORIES", 3));
     let (mut draw, mut steps) = (Draw::new(first), 0);
     for seed in first..first + count {
         let room = TempFolder::new();

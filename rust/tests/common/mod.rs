@@ -11,6 +11,7 @@ pub mod both;
 pub mod engines;
 pub mod hooked;
 pub mod model;
+pub mod seeds;
 pub mod slots;
 
 /// A file of the append queue, signed.

@@ -52,7 +52,7 @@ unfoldable pub use Rattle.raft_codec.specs.Varint.{varint}
 pub use Rattle.raft_records.proofs.Names.{entries_place, part_signature, place_between}
 pub use Rattle.raft_records.specs.Buffer.{IsEncodedAs, IsHeld, IsHeldAt, IsShortAt, IsUnsealed, entry_bytes_in}
 pub use Rattle.raft_records.specs.DecodedIn.{AreDecodedIn, IsDecodedIn, IsPlaceInFile}
-pub use Rattle.raft_records.specs.Entries.{RunOn, Tile, entry_between, entry_with_index, with_lengths}
+pub use Rattle.raft_records.specs.Entries.{RunOn, Tile, entry_between, entry_with_index, strings_in, with_lengths}
 pub use Rattle.raft_records.specs.Faults.{IsContentFault, IsEntriesFault, IsItemFault, IsKeyValueFault, IsMemory, IsTailFault, IsTailsFault}
 pub use Rattle.raft_records.specs.FilePart.{AreBatchesUpTo, IsBatchAt, IsNext, IsNextFault, Part, StandBetween, part_of}
 pub use Rattle.raft_records.specs.Framing.{IsFramed, IsFramedWith}

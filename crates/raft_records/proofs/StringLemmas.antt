@@ -1,7 +1,7 @@
 -- On entries with their bytes.
 use Rattle.raft_records.proofs.Common.{◌≡◌, ◌≢◌, ℕ, zero, suc, ◌+◌, ◌-◌, ◌^◌, ◌<◌, ◌≤◌, List, [], ◌∷◌, ◌++◌, map, length, take, drop, get_or, set, ◌↔◌, refl, sym, ap, ◌∙◌, subst, append_assoc, arith, concat, length-append, length-drop}
 use Rattle.raft_records.proofs.Common.{length-map, length-set, drop_more, drop-append-le, EntryIndex, IsConsecutive, IsConsecutiveFrom, from_first, from_start, consecutive_from, started, end_behind, Item, entries, entries_item, FitsBehind}
-use Rattle.raft_records.proofs.Common.{entry_bytes_of, entry_lengths, with_offsets_from, Stage, Batch, is_open, with_entries_added, entry_bytes_in, IsHeld, entry_with_index, with_lengths, Keeps, add-one}
+use Rattle.raft_records.proofs.Common.{entry_bytes_of, entry_lengths, with_offsets_from, Stage, Batch, is_open, with_entries_added, entry_bytes_in, IsHeld, entry_with_index, strings_in, with_lengths, Keeps, add-one, length-take-le, nil_from_length, take-append-drop}
 use Rattle.raft_records.proofs.BatchLemmas.{end_push}
 use Rattle.raft_records.proofs.LayLemmas.{end_of_laid, laid_fits}
 use Rattle.raft_records.proofs.BufferLemmas.{open_entries, held_open}
@@ -30,6 +30,27 @@ lengths_from index (x ∷ xs) (s ∷ ss) h = (h.0, h.1, lengths_from (index + 1)
 
 pub lengths_consecutive : (es : List EntryIndex) (strings : List (List ℕ)) → IsConsecutive es → IsConsecutive (with_lengths es strings)
 lengths_consecutive es strings h = consecutive_from (started es h.run).start (with_lengths es strings) (lengths_from (started es h.run).start es strings (from_start es h))
+
+-- ---- bytes one behind another
+
+-- each entry has as many as its length says
+pub cut_lengths : (es : List EntryIndex) (bytes : List ℕ) → entry_lengths es ≡ length bytes → with_lengths es (strings_in es bytes) ≡ es
+cut_lengths [] bytes e = refl
+cut_lengths (x ∷ xs) bytes e =
+    let own : length (take x.entry_len bytes) ≡ x.entry_len = length-take-le x.entry_len bytes (omega (arith, e)) in
+    let rest = cut_lengths xs (drop x.entry_len bytes) (omega (arith, e, length-drop x.entry_len bytes)) in
+    ap (λ (n : ℕ). record x { entry_len = n } ∷ with_lengths xs (strings_in xs (drop x.entry_len bytes))) own ∙ ap (λ (t : List EntryIndex). x ∷ t) rest
+
+-- together they are all
+pub cut_joined : (es : List EntryIndex) (bytes : List ℕ) → entry_lengths es ≡ length bytes → concat (strings_in es bytes) ≡ bytes
+cut_joined [] bytes e = sym (nil_from_length bytes (sym e))
+cut_joined (x ∷ xs) bytes e =
+    ap (λ (t : List ℕ). take x.entry_len bytes ++ t) (cut_joined xs (drop x.entry_len bytes) (omega (arith, e, length-drop x.entry_len bytes)))
+    ∙ take-append-drop x.entry_len bytes
+
+pub cut_counts : (es : List EntryIndex) (bytes : List ℕ) → length es ≡ length (strings_in es bytes)
+cut_counts [] bytes = refl
+cut_counts (x ∷ xs) bytes = ap suc (cut_counts xs (drop x.entry_len bytes))
 
 -- ---- the batch with these entries
 

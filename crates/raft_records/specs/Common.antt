@@ -18,7 +18,7 @@ pub use Rattle.raft_codec.specs.Reading.{HasNoFront, HasOneFront, Reads}
 pub use Rattle.raft_codec.specs.Varint.{varint}
 pub use Rattle.raft_records.specs.Buffer.{IsHeld, IsUnsealed, entry_bytes_in}
 pub use Rattle.raft_records.specs.DecodedIn.{AreDecodedIn, IsDecodedIn}
-pub use Rattle.raft_records.specs.Entries.{AreWritable, RunOn, Tile, entry_between, entry_with_index, with_lengths}
+pub use Rattle.raft_records.specs.Entries.{AreWritable, RunOn, Tile, entry_between, entry_with_index, strings_in, with_lengths}
 pub use Rattle.raft_records.specs.EntryBlock.{HasEntryBlock, IsBlockFault, IsPlaceIn}
 pub use Rattle.raft_records.specs.Faults.{IsAnyCorruption, IsByteStringFault, IsCommandFault, IsContentFault, IsEntriesFault, IsEntriesRefusal, IsItemFault, IsItemRefusal, IsKeyValueFault, IsMemory, IsMemoryOrMessage, IsOpTypeFault}
 pub use Rattle.raft_records.specs.Faults.{IsPairRefusal, IsTailFault, IsTailsFault, OneRefuses}

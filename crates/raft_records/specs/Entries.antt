@@ -1,5 +1,5 @@
 -- Lists of entries of one region.
-use Rattle.std.specs.Prelude.{◌≡◌, ℕ, ◌+◌, ◌-◌, ◌^◌, ◌<◌, List, [], ◌∷◌, length}
+use Rattle.std.specs.Prelude.{◌≡◌, ℕ, ◌+◌, ◌-◌, ◌^◌, ◌<◌, List, [], ◌∷◌, length, take, drop}
 use Rattle.raft_base.specs.declared.entry_index.EntryIndex.{EntryIndex}
 use Rattle.raft_base.specs.NoEntry.{no_entry}
 use Rattle.raft_base.specs.Runs.{IsConsecutive}
@@ -17,6 +17,11 @@ abbrev pub with_lengths : List EntryIndex → List (List ℕ) → List EntryInde
 with_lengths [] strings = []
 with_lengths (e ∷ es) [] = []
 with_lengths (e ∷ es) (bytes ∷ strings) = record e { entry_len = length bytes } ∷ with_lengths es strings
+
+-- of bytes that stand one behind another, those of each entry: as many as its length says
+abbrev pub strings_in : List EntryIndex → List ℕ → List (List ℕ)
+strings_in [] bytes = []
+strings_in (e ∷ es) bytes = take e.entry_len bytes ∷ strings_in es (drop e.entry_len bytes)
 
 -- each entry's bytes begin where those before it end, here at s, and end below 2^32
 abbrev pub Tile : ℕ → List EntryIndex → Type 0

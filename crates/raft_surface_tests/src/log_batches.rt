@@ -27,6 +27,8 @@ fn items_of_batches<'a>(batch: &'a LogBatch) -> &'a [LogItem] {
 fn changes() {
     let _add_raw_entries: fn(&mut LogBatch, u64, Vec<EntryIndex>, Vec<Vec<u8>>) -> Result<()> =
         LogBatch::add_raw_entries;
+    let _add_joined_entries: fn(&mut LogBatch, u64, Vec<EntryIndex>, &[u8]) -> Result<()> =
+        LogBatch::add_joined_entries;
     let _add_command: fn(&mut LogBatch, u64, Command) -> Result<()> = LogBatch::add_command;
     let _delete: fn(&mut LogBatch, u64, Vec<u8>) -> Result<()> = LogBatch::delete;
     let _put: fn(&mut LogBatch, u64, Vec<u8>, Vec<u8>) -> Result<()> = LogBatch::put;

@@ -1,7 +1,7 @@
 //! Entries with their bytes in batches, and batches put together.
 
 ghost use Rattle.std.specs.Prelude.{◌≡◌, ◌≢◌, ◌+◌, ◌-◌, ◌^◌, ◌<◌, ◌≤◌, [], ◌∷◌, ◌++◌, map, length, IfErr, OnOk, OnErr, drop, IsTrue, ◌↔◌, vec_len, vec_capacity};
-ghost use Rattle.raft_records.specs.Common.{concat, IsConsecutive, entry_with_index, with_lengths, OneRefuses, entries_item, entry_bytes_of, with_offsets_from, is_open, with_entries_added, IsBytesFault, IsAddFault, empty_batch, with_batch};
+ghost use Rattle.raft_records.specs.Common.{concat, IsConsecutive, entry_with_index, with_lengths, OneRefuses, entries_item, entry_bytes_of, entry_lengths, strings_in, with_offsets_from, is_open, with_entries_added, IsBytesFault, IsAddFault, empty_batch, with_batch};
 ghost use Rattle.raft_records.specs.Common.{Keeps};
 
 use super::{MAX_LOG_BATCH_BUFFER_CAP, MAX_LOG_ENTRIES_SIZE_PER_BATCH};
@@ -96,6 +96,49 @@ impl LogBatch {
         Ok(())
     }
 
+    /// Adds entries of a region to an open batch, with their bytes one behind another: each has as many as its index says.
+    /// It asks as many bytes as these lengths are together, and consecutive indexes. Each index gets the offset at which
+    /// its bytes stand among those of the batch; its other fields stay. Empty lists add nothing.
+    ///
+    /// # Errors
+    ///
+    /// `Full` where the batch's entry bytes would pass 2^31 - 1, `Memory`. The batch is then as it was.
+    pub fn add_joined_entries(
+        &mut self,
+        region: u64,
+        entry_indexes: Vec<EntryIndex>,
+        bytes: &[u8],
+    ) -> Result<()>
+        requires open { self.old.stage ≡ is_open }
+        requires lengths { entry_lengths entry_indexes.items ≡ length bytes.now }
+        requires consecutive { IsConsecutive entry_indexes.items }
+        ensures ok { OnOk result (self.new ≡ with_entries_added self.old region
+            entry_indexes.items (strings_in entry_indexes.items bytes.now)) }
+        ensures accepted { OnOk result (entry_indexes.items ≢ []
+            → length self.old.entry_bytes + length bytes.now < 2 ^ 31) }
+        ensures err { OnErr result (self.new ≡ self.old) }
+        ensures refused { OnErr result (entry_indexes.items ≢ []) }
+        ensures fault { IfErr result (λ e. e ≢ Error.Memory → (e ≡ Error.Full)
+            × (2 ^ 31 ≤ length self.old.entry_bytes + length bytes.now)) }
+    {
+        if entry_indexes.is_empty() {
+            return Ok(());
+        }
+        reserve_header(&mut self.buf)?;
+        let start = self.buf.len();
+        if let Err(e) = write_joined(
+            &mut self.buf,
+            &mut self.item_batch,
+            region,
+            entry_indexes,
+            bytes,
+        ) {
+            self.buf.truncate(start);
+            return Err(e);
+        }
+        Ok(())
+    }
+
     /// Moves all items of `rhs` after those of the batch, and their entry bytes after its own. Both are open,
     /// and `rhs` is left empty.
     ///
@@ -181,6 +224,32 @@ fn append_strings(
         entry_indexes[i].entry_len = bytes.len() as u32;
     }
     Ok(())
+}
+
+fn write_joined(
+    buf: &mut Vec<u8>,
+    item_batch: &mut LogItemBatch,
+    region: u64,
+    entry_indexes: Vec<EntryIndex>,
+    bytes: &[u8],
+) -> Result<()>
+    requires whole { length buf.old.items ≡ 16 + entry_bytes_of item_batch.old }
+    requires lengths { entry_lengths entry_indexes.items ≡ length bytes.now }
+    requires consecutive { IsConsecutive entry_indexes.items }
+    ensures bytes { OnOk result (buf.new.items ≡ buf.old.items ++ bytes.now) }
+    ensures items { OnOk result (item_batch.new ≡ item_batch.old ++ entries_item region
+        (with_offsets_from (entry_bytes_of item_batch.old) entry_indexes.items) ∷ []) }
+    ensures accepted { OnOk result (length buf.new.items < 16 + 2 ^ 31) }
+    ensures err { OnErr result (item_batch.new ≡ item_batch.old) }
+    ensures err_bytes { OnErr result (Keeps buf.old.items buf.new.items) }
+    ensures fault { IfErr result (λ e. e ≢ Error.Memory → (e ≡ Error.Full)
+        × (2 ^ 31 ≤ entry_bytes_of item_batch.old + length bytes.now)) }
+{
+    if bytes.len() + buf.len() > MOST_OPEN_BYTES {
+        return Err(Error::Full);
+    }
+    buf.extend_from_slice(bytes)?;
+    item_batch.add_entry_indexes(region, entry_indexes)
 }
 
 fn write_messages<M: MessageExt>(

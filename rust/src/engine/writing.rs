@@ -8,7 +8,7 @@ use crate::{Files, LogBatch, Result};
 
 impl<F: Files> Engine<F> {
     /// Writes a batch, which is empty afterwards. With `sync` all that was written lasts once the call returns `Ok`. The batch is
-    /// whole or not there at all, whenever the machine stops.
+    /// whole or not there at all, whenever the machine crashes.
     ///
     /// ```
     /// # use raft_recover::{Engine, LogBatch, MemoryFiles, Options};

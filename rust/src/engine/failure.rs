@@ -48,6 +48,7 @@ impl<F: Files> Engine<F> {
         self.fail_as(reason, true)
     }
 
+    /// Notes why the engine has failed, if nothing is noted yet, and whether it can still be read; returns the reason.
     fn fail_as(&self, reason: Error, is_readable: bool) -> Error {
         let failure = Failure {
             reason: reason.clone(),

@@ -73,6 +73,7 @@ impl<F: Files> Engine<F> {
         }
     }
 
+    /// Writes the batches of a group by one call, lets the threads go that want no sync, and syncs for the others.
     fn write_group(&self, turn: &Turn<'_, F>, group: &mut Group<'_>) {
         let written = turn.call(|tables| {
             for commit in group.commits() {

@@ -60,7 +60,7 @@ use unwritten::Unwritten;
 /// The logs of many regions: tables in memory, and the files of all batches that were written, in a folder or behind any
 /// [`Files`].
 ///
-/// A region has entries with consecutive indexes, and keys with values. Whenever the machine stops, the files that are left have
+/// A region has entries with consecutive indexes, and keys with values. Whenever the machine crashes, the files that are left have
 /// the records of all batches that were synced, and of a prefix of those written since, each of them whole or not at all. An
 /// engine that is opened over them has these.
 ///

@@ -308,6 +308,7 @@ struct Place {
 }
 
 impl Place {
+    /// Reads the place in front of a refusal's words. What doesn't stand there is `None`.
     fn in_front_of(text: &str) -> Place {
         let mut place = Place::default();
         let Some((_, words)) = text.split_once(": ") else {

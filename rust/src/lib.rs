@@ -1,4 +1,4 @@
-//! An engine that keeps the logs of many Raft groups in files, and loses nothing that was synced, whenever the machine stops; and
+//! An engine that keeps the logs of many Raft groups in files, and loses nothing that was synced, whenever the machine crashes; and
 //! the layer below it: recovery of raft-engine's tables from log files on several threads, and these tables.
 //!
 //! All that reads bytes, changes tables and decides what files are to have is the static library `raft_ffi`, each function of
@@ -24,7 +24,7 @@
 //! | to | there is |
 //! |---|---|
 //! | keep logs in a folder | [`Engine`], [`Options`], [`LogBatch`] |
-//! | keep them elsewhere; test what a stop of the machine leaves | [`Files`]; [`MemoryFiles`] |
+//! | keep them elsewhere; test what a crash leaves | [`Files`]; [`MemoryFiles`] |
 //! | recover tables from files | [`recover`], [`recover_both`]; step by step [`Context`] |
 //! | read the tables, and change them | [`Tables`]; under locks of an engine's own [`Slot`] and [`slot_of`] |
 //! | write a batch to a file of your own | [`LogBatch`] |

@@ -109,7 +109,7 @@ impl Commits {
 }
 
 impl Line {
-    /// Has a batch wait, and returns its ticket.
+    /// Queues a batch, and returns its ticket.
     fn hand_in(&mut self, batch: LogBatch, sync: bool) -> u64 {
         let ticket = self.next_ticket;
         self.next_ticket += 1;

@@ -42,12 +42,13 @@ impl<F: Files> Engine<F> {
         self.fail_as(reason, false)
     }
 
-    /// Notes why the files have failed, and returns the reason. Of what was ordered of them the bytes that aren't written are
-    /// read from memory.
+    /// Notes why the files have failed, and returns the reason. Bytes that were ordered and aren't written can still be read,
+    /// from memory.
     pub(super) fn fail_files(&self, reason: Error) -> Error {
         self.fail_as(reason, true)
     }
 
+    /// Notes why the engine has failed, if nothing is noted yet, and whether it can still be read; returns the reason.
     fn fail_as(&self, reason: Error, is_readable: bool) -> Error {
         let failure = Failure {
             reason: reason.clone(),

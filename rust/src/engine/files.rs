@@ -11,14 +11,14 @@ use std::sync::Arc;
 /// something come one after another, never two at once, and [`read`](Files::read) comes from any thread at any time. After an
 /// `Err` of a call that changes something an engine makes no further one, but for the same call, where all is as before it.
 ///
-/// That nothing is lost whenever the machine stops is proved of the calls alone, and of a disk that does with them what an
+/// That nothing is lost whenever the machine crashes is proved of the calls alone, and of a disk that does with them what an
 /// implementor answers for:
 ///
-/// - Of bytes that weren't synced a prefix stands when the machine stops: no hole, and no page of zeros in front of others. So
+/// - Of bytes that weren't synced a prefix stands after a crash: no hole, and no page of zeros in front of others. So
 ///   files are neither made longer beforehand nor used again. Bytes that were synced aren't harmed by those behind them.
 /// - [`sync`](Files::sync) makes the names of new files and deletions last too, as a sync of the folder does.
 ///   [`rotate`](Files::rotate) first syncs the file that it closes. [`truncate`](Files::truncate) is on the disk when it returns.
-/// - Files that are deleted go in the order in which that was asked, so that no stop leaves an older file where a younger one
+/// - Files that are deleted go in the order in which that was asked, so that no crash leaves an older file where a younger one
 ///   is gone.
 /// - After a call that failed half way either all is as before, or every later call that changes something fails. After a sync
 ///   that failed no later one can be believed: a system may take bytes for synced that it has dropped. So the machine is started
@@ -111,7 +111,7 @@ pub trait Files: Send + Sync {
     /// Those of the system: some of the bytes may be there.
     fn write(&self, file: FileId, bytes: &[u8]) -> io::Result<()>;
 
-    /// Makes all that was asked of a queue so far outlast a stop of the machine.
+    /// Makes all that was asked of a queue so far outlast a crash.
     ///
     /// ```
     /// # use raft_recover::{FileId, Files, MemoryFiles, Queue};

@@ -287,6 +287,10 @@ impl fmt::Debug for FolderFiles {
 }
 
 /// Opens all log files in a folder.
+///
+/// # Errors
+///
+/// `InvalidArgument` for a name that ends like that of a log file and is none, or is that of a folder or a pipe; `Io`.
 fn opened_in(
     folder: &Path,
     open: impl Fn(PathBuf) -> io::Result<File>,

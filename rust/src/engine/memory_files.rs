@@ -15,7 +15,7 @@ pub use unsynced::Unsynced;
 
 use left::Left;
 
-/// The files of both queues in memory, for tests. What was asked of them is kept, and each stop of the machine can be made of it.
+/// The files of both queues in memory, for tests. What was asked of them is kept, so that tests can make every crash of it.
 ///
 /// A clone is another handle of the same files.
 ///
@@ -163,7 +163,7 @@ impl MemoryFiles {
             .fold(Unsynced::default(), |unsynced, ask| unsynced.and(ask))
     }
 
-    /// Returns the files that a stop of the machine leaves once the first `asks` of what was asked are done: of each queue what
+    /// Returns the files that a crash leaves once the first `asks` of what was asked are done: of each queue what
     /// was synced, and so much of what wasn't.
     ///
     /// ```

@@ -74,6 +74,7 @@ impl<F: Files> Engine<F> {
         self.tell_after(|| self.rewrite_up_to(gate))
     }
 
+    /// Does what [`Engine::rewrite`] does, step by step, each in a turn of its own.
     fn rewrite_up_to(&self, gate: u64) -> Result<()> {
         let last = locks::lock(&self.numbers).last(Queue::Append);
         let gate = last.map_or(gate, |(file, _)| gate.min(file.seq));

@@ -102,6 +102,7 @@ impl<F: Files> Turn<'_, F> {
         Ok(())
     }
 
+    /// Carries out one order on the files.
     fn carry_out_one(&self, order: &Order) -> Result<()> {
         match order {
             Order::Write(queue, bytes) => self.write(*queue, bytes),
@@ -112,6 +113,7 @@ impl<F: Files> Turn<'_, F> {
         }
     }
 
+    /// Puts bytes behind the last file of a queue. From then on they are read from the file.
     fn write(&self, queue: Queue, bytes: &[u8]) -> Result<()> {
         let (file, len) = self.last(queue)?;
         let written = self.engine.files.write(file, bytes);
@@ -122,6 +124,7 @@ impl<F: Files> Turn<'_, F> {
         Ok(())
     }
 
+    /// Begins a file, which becomes the last one of its queue.
     fn begin(&self, file: FileId) -> Result<()> {
         let begun = self.engine.files.rotate(file);
         begun.map_err(|e| Error::system("the file can't be begun", e).at(file, 0))?;
@@ -130,6 +133,7 @@ impl<F: Files> Turn<'_, F> {
         Ok(())
     }
 
+    /// Syncs a queue, and counts how long that took.
     fn sync(&self, queue: Queue) -> Result<()> {
         let (file, len) = self.last(queue)?;
         let begun = Instant::now();
@@ -144,6 +148,7 @@ impl<F: Files> Turn<'_, F> {
         Ok(())
     }
 
+    /// Deletes the oldest file of a queue.
     fn delete_oldest(&self, queue: Queue) -> Result<()> {
         let oldest = locks::lock(&self.engine.numbers).files(queue).next();
         let (file, _) = oldest.ok_or_else(Error::failed)?;
@@ -154,6 +159,7 @@ impl<F: Files> Turn<'_, F> {
         Ok(())
     }
 
+    /// Cuts the last file of a queue to a length, as an opening orders it.
     fn cut(&self, queue: Queue, len: u64) -> Result<()> {
         let (file, _) = self.last(queue)?;
         let cut = self.engine.files.truncate(file, len);

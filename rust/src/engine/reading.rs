@@ -107,8 +107,8 @@ impl<F: Files> Engine<F> {
     /// # Errors
     ///
     /// Where the range isn't empty: `EntryCompacted` where it begins below the region's first entry, with the index where it
-    /// begins, `EntryNotFound` where it ends behind the last one, or there is none, with the last index of the range. `Corruption` where bytes were damaged since they were written; `Io`, `Memory`,
-    /// `Failed`.
+    /// begins; `EntryNotFound` where it ends behind the last one, or the region has none, with the last index of the range.
+    /// `Corruption` where bytes were damaged since they were written; `Io`, `Memory`, `Failed`.
     pub fn entries(&self, region: u64, range: impl RangeBounds<u64>) -> Result<Entries> {
         self.read(region, |tables| places(tables, region, &range, None))
     }

@@ -8,7 +8,7 @@ use crate::{Files, LogBatch, Result};
 
 impl<F: Files> Engine<F> {
     /// Writes a batch, which is empty afterwards. With `sync` all that was written lasts once the call returns `Ok`. The batch is
-    /// whole or not there at all, whenever the machine stops.
+    /// whole or not there at all, whenever the machine crashes.
     ///
     /// ```
     /// # use raft_recover::{Engine, LogBatch, MemoryFiles, Options};
@@ -73,6 +73,7 @@ impl<F: Files> Engine<F> {
         }
     }
 
+    /// Writes the batches of a group by one call, lets the threads go that want no sync, and syncs for the others.
     fn write_group(&self, turn: &Turn<'_, F>, group: &mut Group<'_>) {
         let written = turn.call(|tables| {
             for commit in group.commits() {

@@ -32,7 +32,7 @@ impl Shapes {
         self.0.len()
     }
 
-    /// Makes room for one more.
+    /// Makes room for the shape of one more item.
     ///
     /// # Errors
     ///

@@ -72,7 +72,7 @@ impl EngineHandle {
         })
     }
 
-    /// Orders that all that was written lasts.
+    /// Orders a sync of the append queue, so that all that was written lasts.
     pub(crate) fn sync(&mut self) -> Result<()> {
         // SAFETY: `held`: the handle holds an engine.
         self.call(|engine, text, text_len| unsafe { raft_ffi_engine_sync(engine, text, text_len) })

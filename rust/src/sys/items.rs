@@ -103,7 +103,7 @@ impl ItemsHandle {
         Some(self.head(i)?.region)
     }
 
-    /// Finds an item.
+    /// Returns the item at a position, unless it is behind the last one.
     pub(crate) fn item(&self, i: usize) -> Option<Item> {
         let head = self.head(i)?;
         let index = head.number;

@@ -60,6 +60,7 @@ impl From<Option<u64>> for Maybe {
 }
 
 impl Maybe {
+    /// Returns the number, if there is one.
     pub(super) fn number(self) -> Option<u64> {
         self.is_some.then_some(self.number)
     }

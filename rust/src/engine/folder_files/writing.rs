@@ -45,7 +45,7 @@ impl From<io::Error> for Unmade {
     }
 }
 
-/// Takes the last bytes of a file away, so many.
+/// Cuts the last `count` bytes off a file.
 fn take_back(file: &File, count: u64) -> io::Result<()> {
     file.set_len(file.metadata()?.len().saturating_sub(count))
 }

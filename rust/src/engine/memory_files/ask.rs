@@ -18,7 +18,7 @@ use crate::{FileId, Queue};
 pub enum Ask {
     /// These bytes behind those of this file.
     Write(FileId, Vec<u8>),
-    /// What was asked of the queue is to outlast a stop of the machine.
+    /// What was asked of the queue is to outlast a crash.
     Sync(Queue),
     /// A new file.
     Begin(FileId),

@@ -1,8 +1,8 @@
-//! What a stop of the machine leaves.
+//! What a crash leaves.
 
 use super::{Ask, Unsynced, cut};
 
-/// What a stop of the machine leaves of a queue.
+/// What a crash leaves of a queue.
 pub(super) struct Left<'a> {
     /// The files that stand for certain, those that were deleted too.
     certain: Vec<(u64, Vec<u8>)>,

@@ -1,18 +1,18 @@
 -- The entry blocks of the batches of a part.
-use Rattle.std.proofs.Common.{Result, Ok, Err, OnOk, ◌≡◌, ◌≢◌, inl, inr, ℕ, ◌+◌, ◌-◌, ◌<◌, ◌≤◌, ◌^◌, List, [], ◌∷◌, ◌++◌, length, map, take, drop, refl, sym, ap, ◌∙◌, subst, arith, append_assoc, append-nil, length-append}
+use Rattle.std.proofs.Common.{Result, Ok, Err, IfErr, OnOk, ◌≡◌, ◌≢◌, inl, inr, ℕ, ◌+◌, ◌-◌, ◌<◌, ◌≤◌, ◌^◌, List, [], ◌∷◌, ◌++◌, length, map, take, drop, refl, sym, ap, ◌∙◌, subst, arith, append_assoc, append-nil, length-append}
 use Rattle.std.proofs.lemmas.Bool.{cases_lt}
 use Rattle.std.proofs.lemmas.List.{append_cancel_left, drop-append-le, drop-take, drop_at, length-drop, length-take-le, nil_from_length, take-append-drop, take-take, take_at}
 use Rattle.raft_base.specs.declared.compression_type.CompressionType.{CompressionType}
 use Rattle.raft_base.specs.Corruption.{IsCorruption}
 use Rattle.raft_base.specs.declared.errors.Error.{Error}
+use Rattle.raft_base.specs.declared.errors.Error.TheVariants as errors
 use Rattle.raft_base.specs.declared.pipe_log.FileBlockHandle.{FileBlockHandle}
 use Rattle.raft_base.specs.declared.pipe_log.FileId.{FileId}
-use Rattle.raft_base.specs.declared.pipe_log.LogFileContext.{LogFileContext}
 use Rattle.raft_base.specs.declared.pipe_log.LogQueue.{LogQueue}
-use Rattle.raft_base.specs.declared.pipe_log.LogQueue.TheVariants.{Rewrite}
+use Rattle.raft_base.specs.declared.pipe_log.LogQueue.TheVariants.{Append, Rewrite}
 use Rattle.raft_base.specs.declared.pipe_log.Version.{Version}
 use Rattle.raft_codec.specs.Reading.{HasNoFront, Reads}
-use Rattle.raft_records.specs.FilePart.{AreBatchesUpTo, IsBatchAt, Part, StandBetween, part_of}
+use Rattle.raft_records.specs.FilePart.{AreBatchesUpTo, IsBatchAt, Part, StandBetween}
 use Rattle.raft_records.specs.Header.{IsEntryBlockOf, IsHeader}
 use Rattle.raft_records.specs.Item.{AreInBytes, Item, bare}
 use Rattle.raft_records.specs.LogBatch.{IsBatchOf, IsLogBatch, encoded_length, entry_block, header_bytes, log_batch_bytes}
@@ -29,13 +29,13 @@ use Rattle.raft_replay.specs.Stops.{IsUnreadableAt}
 use Rattle.raft_replay.proofs.SegmentLemmas.{batch_none, batch_unique}
 use Rattle.raft_engine_fronts.specs.TornTails.{StopsAt}
 use Rattle.raft_engine_fronts.proofs.TornLemmas.{stop_unreadable}
-use Rattle.raft_engine.specs.SoundBlocks.{AreBlocksSound, HasSoundBlock, IsFileSound, IsUnsoundAs, damaged_entries_text}
+use Rattle.raft_engine.specs.SoundBlocks.{AreBlocksSound, HasSoundBlock, IsFileSound, IsPartSound, IsUnsoundAs, damaged_entries_text}
 
 -- ---- one batch
 
 -- where a header is read in front of a batch, its entry block lies behind it
 pub block_behind : (part : Part) (at next : ℕ) (items : List Item) (b : IsBatchAt part at items next) (behind : List ℕ) (offset len : ℕ) (compression : CompressionType)
-    → Reads IsHeader (drop at part.bytes) behind (offset, compression, len) → (offset - 16 ≡ length b.between) × (behind ≡ b.between ++ (b.laid_out.behind ++ drop next part.bytes))
+    → Reads IsHeader (drop at part.bytes) behind (offset, compression, len) → (offset - 16 ≡ length b.between) × (behind ≡ b.between ++ (b.laid_out.behind ++ drop next part.bytes)) × (len ≡ length b.bytes)
 block_behind part at next items b behind offset len compression h =
     let more = drop next part.bytes in
     let l = b.laid_out in
@@ -48,7 +48,7 @@ block_behind part at next items b behind offset len compression h =
     (sym h.split ∙ b.stands ∙ ap (λ (t : List ℕ). t ++ more) f.header.split ∙ append_assoc f.header.front (drop 16 b.bytes) more ∙ ap (λ (t : List ℕ). t ++ (drop 16 b.bytes ++ more)) (sym one.0)) in
     let head = header_bytes (16 + length b.between) l.compression (length b.bytes) in
     let body : drop 16 b.bytes ≡ b.between ++ l.behind = ap (drop 16) l.split ∙ drop_at head (b.between ++ l.behind) 16 (header_len (16 + length b.between) l.compression (length b.bytes)) in
-    (omega (arith, same), rest ∙ ap (λ (t : List ℕ). t ++ more) body ∙ append_assoc b.between l.behind more)
+    (omega (arith, same), rest ∙ ap (λ (t : List ℕ). t ++ more) body ∙ append_assoc b.between l.behind more, ap (λ (x : ℕ × CompressionType × ℕ). x.2) one.1)
 
 -- an entry block of this length in front of bytes that begin with as many others
 sealed_as : (len : ℕ) (between more entry_bytes : List ℕ) → len ≡ length between → IsEntryBlockOf len (between ++ more) entry_bytes → between ≡ entry_block entry_bytes
@@ -65,7 +65,7 @@ block_of len between more (x ∷ entry_bytes) e is =
 
 module _ {behind : List ℕ} {offset len : ℕ} {compression : CompressionType} (part : Part) (at next : ℕ) (items : List Item) (b : IsBatchAt part at items next)
     (bytes : List ℕ) (same : bytes ≡ drop at part.bytes) (h : Reads IsHeader bytes behind (offset, compression, len)) where
-  block_here : (offset - 16 ≡ length b.between) × (behind ≡ b.between ++ (b.laid_out.behind ++ drop next part.bytes))
+  block_here : (offset - 16 ≡ length b.between) × (behind ≡ b.between ++ (b.laid_out.behind ++ drop next part.bytes)) × (len ≡ length b.bytes)
   block_here = block_behind part at next items b behind offset len compression (subst (λ (xs : List ℕ). Reads IsHeader xs behind (offset, compression, len)) same h)
 
   -- an entry block that was read behind the header is the batch's
@@ -79,6 +79,10 @@ module _ {behind : List ℕ} {offset len : ℕ} {compression : CompressionType} 
   block_unsound none s =
       let r = block_here in
       none s.0 (subst (λ (t : List ℕ). IsEntryBlockOf (offset - 16) t s.0) (sym r.1) (block_of (offset - 16) b.between (b.laid_out.behind ++ drop next part.bytes) s.0 r.0 s.1))
+
+  -- the batch ends where its header says
+  pub block_ends : at + len ≡ next
+  block_ends = let r = block_here in ap (λ (n : ℕ). at + n) r.2 ∙ sym b.ends
 
 -- a batch has a header in front
 pub has_header : (part : Part) (at next : ℕ) (items : List Item) → IsBatchAt part at items next → ¬ (HasNoFront IsHeader (drop at part.bytes))
@@ -277,13 +281,82 @@ put_sound p m handle items entry_bytes inside tiled range held some short id off
     all_sound p next (record { batches = one_batch_more p m _ next up b; stops = inl all })
     (one_more_sound p m next _ up b (written_sound p m items entry_bytes [] tiled range some short stands_so) (sound_to p m inside before))
 
--- ---- a file
+-- ---- the batches of a part, looked at one after the other
 
--- one whose bytes were looked at as those of a rewrite file is sound
-pub sound_file : (queue : LogQueue) (version : Version) (file : NumberedBytes) (id : FileId) (context : LogFileContext) (bytes : List ℕ) → queue ≡ Rewrite → id ≡ record { queue = queue; seq = file.0 }
-    → context ≡ record { id = id; version = version } → bytes ≡ file.1 → {R E : Type 0} (r : Result R E) → OnOk r (AreBlocksSound (part_of context 0 bytes)) → OnOk r (IsFileSound queue version file)
-sound_file queue version file id context bytes of_rewrite is_id is_context are (Err e) sound = tt
-sound_file queue version file id context bytes of_rewrite is_id is_context are (Ok x) sound =
-    let same : part_of context 0 bytes ≡ whole_file queue version file =
-    ap (λ (c : LogFileContext). part_of c 0 bytes) is_context ∙ ap (λ (i : FileId). part_of (record { id = i; version = version }) 0 bytes) is_id ∙ ap (λ (bs : List ℕ). whole_file queue version (file.0, bs)) are in
-    subst (λ (q : LogQueue). AreBlocksSound (whole_file q version file) → IsFileSound q version file) (sym of_rewrite) (λ s. s) (subst AreBlocksSound same sound)
+-- those in front of this byte have sound blocks, and others stand from there on up to where reading stops
+pub record IsCheckedTo (p : Part) (end at : ℕ) : Type 0 where
+  pub up_to : AreBatchesUpTo p at
+  pub left : (batches : List (List Item)) × StandBetween p at end batches
+  pub sound : AreSoundTo p at
+
+-- the next one
+record IsNextOf (p : Part) (end at : ℕ) : Type 0 where
+  pub items : List Item
+  pub next : ℕ
+  pub batch : IsBatchAt p at items next
+  pub left : (batches : List (List Item)) × StandBetween p next end batches
+
+pub none_checked : (p : Part) (end : ℕ) → StopsAt p end → IsCheckedTo p end 0
+none_checked p end stops = record { up_to = ([], refl); left = stops.batches; sound = none_sound p }
+
+module _ (p : Part) (end at : ℕ) (c : IsCheckedTo p end at) where
+  next_of : at < end → IsNextOf p end at
+  next_of less = go c.left.0 c.left.1
+    where
+      go : (bs : List (List Item)) → StandBetween p at end bs → IsNextOf p end at
+      go [] s = absurd (omega (arith, s, less))
+      go (x ∷ bs) s = record { items = x; next = s.0; batch = s.1; left = (bs, s.2) }
+
+  pub next_stands : at < end → (items : List Item) × (next : ℕ) × IsBatchAt p at items next
+  next_stands less = let n = next_of less in (n.items, n.next, n.batch)
+
+  module _ (less : at < end) (after : ℕ) (ok : (items : List Item) (next : ℕ) (b : IsBatchAt p at items next) → HasSoundBlock b × (after ≡ next)) where
+    pub one_checked : IsCheckedTo p end after
+    one_checked =
+        let n = next_of less in
+        let same : n.next ≡ after = sym (ok n.items n.next n.batch).1 in
+        subst (IsCheckedTo p end) same (record {
+          up_to = one_batch_more p at n.items n.next c.up_to n.batch;
+          left = n.left;
+          sound = one_more_sound p at n.next n.items c.up_to n.batch (λ others k b. (ok others k b).0) c.sound;
+        })
+
+    pub rises : (at < after) × (after ≤ end)
+    rises =
+        let n = next_of less in
+        let same : after ≡ n.next = (ok n.items n.next n.batch).1 in
+        let inside = (batch_inside p at n.items n.next n.batch).0 in
+        let on = stand_on p n.next end n.left.0 n.left.1 in
+        (omega (arith, same, inside), omega (arith, same, on))
+
+  pub next_unsound : at < end → ((items : List Item) (next : ℕ) (b : IsBatchAt p at items next) → ¬ (HasSoundBlock b)) → (e : Error) → IsCorruption (damaged_entries_text p.id at) e → IsUnsoundAs p e
+  next_unsound less none e text =
+      let n = next_of less in
+      let inside = batch_inside p at n.items n.next n.batch in
+      first_unsound p at n.next n.items (omega (arith, inside.0, inside.1)) c.up_to n.batch (none n.items n.next n.batch) c.sound e text
+
+  pub all_checked : StopsAt p end → end ≤ at → AreBlocksSound p
+  all_checked stops none =
+      let on = stand_on p at end c.left.0 c.left.1 in
+      all_sound p end stops (subst (AreSoundTo p) (let e : at ≡ end = omega (arith, on, none) in e) c.sound)
+
+-- ---- a part that begins its file
+
+module _ (part : Part) (id : FileId) (is : id ≡ part.id) where
+  -- one of an append file isn't looked at
+  pub append_sound : id.queue ≡ Append → IsPartSound part
+  append_sound of_append of_rewrite = absurd (let e = sym of_append ∙ ap (λ (i : FileId). i.queue) is ∙ of_rewrite in cc)
+
+  pub rewrite_unsound : {R : Type 0} (r : Result R Error) → id.queue ≡ Rewrite → IfErr r (λ e. e ≢ errors.Memory → IsUnsoundAs part e)
+      → IfErr r (λ e. e ≢ errors.Memory → (part.id.queue ≡ Rewrite) × IsUnsoundAs part e)
+  rewrite_unsound (Ok x) of_rewrite why = tt
+  rewrite_unsound (Err e) of_rewrite why = λ other. (sym (ap (λ (i : FileId). i.queue) is) ∙ of_rewrite, why other)
+
+pub rewrite_sound : {R E : Type 0} (part : Part) (r : Result R E) → OnOk r (AreBlocksSound part) → OnOk r (IsPartSound part)
+rewrite_sound part (Err e) sound = tt
+rewrite_sound part (Ok x) sound = λ of_rewrite. sound
+
+-- a whole file
+pub sound_file : (queue : LogQueue) (version : Version) (file : NumberedBytes) → IsPartSound (whole_file queue version file) → IsFileSound queue version file
+sound_file Append version file sound = tt
+sound_file Rewrite version file sound = sound refl

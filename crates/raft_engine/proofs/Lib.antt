@@ -7,7 +7,9 @@ mod OfVersionLemmas
 mod BlockLemmas
 mod SealedLemmas
 mod MarkerLemmas
-mod RowLemmas
+mod GroupRowLemmas
+mod ReadQueueLemmas
+mod FoundQueueLemmas
 mod RecoveredLemmas
 mod FoundDoneLemmas
 mod JoinedLemmas

@@ -10,7 +10,7 @@ use Rattle.raft_records.specs.declared.atomic_group.AtomicGroupStatus.{AtomicGro
 use Rattle.raft_records.proofs.GroupLemmas.{marker_is}
 use Rattle.raft_history.specs.Batches.{marker_in}
 use Rattle.raft_history.specs.Histories.{HaveStatus}
-use Rattle.raft_engine.specs.GroupChecks.{marker_shown}
+use Rattle.raft_engine.specs.RowsShown.{marker_shown}
 
 -- the first marker of all items is that of those that are left
 pub record IsMarkerAhead (all rest : List Item) : Type 0 where

@@ -1,9 +1,10 @@
 -- What a recovery gives of the files that are found.
-use Rattle.std.proofs.Common.{◌≡◌, ◌≢◌, ◌⊎◌, inl, inr, ℕ, ◌<◌, ◌^◌, List, [], ◌∷◌, ◌++◌, map, Vec, refl, sym, ap, subst, ◌∙◌, arith, Result, Ok, Err, IfErr}
+use Rattle.std.proofs.Common.{◌≡◌, ◌≢◌, ◌⊎◌, inl, inr, ℕ, ◌<◌, ◌≤◌, ◌^◌, List, [], ◌∷◌, ◌++◌, map, Vec, refl, sym, ap, subst, ◌∙◌, arith, Result, Ok, Err, IfErr, OnOk}
 use Rattle.std.specs.Global.{Global}
 use Rattle.raft_base.specs.Errors.{IsInvalidArgument}
 use Rattle.raft_base.specs.declared.errors.Error.{Error}
 use Rattle.raft_base.specs.declared.errors.Error.TheVariants as errors
+use Rattle.raft_base.specs.declared.pipe_log.FileId.{FileId}
 use Rattle.raft_base.specs.declared.pipe_log.LogQueue.{LogQueue}
 use Rattle.raft_base.specs.declared.pipe_log.LogQueue.TheVariants.{Append, Rewrite}
 use Rattle.raft_base.specs.declared.pipe_log.Version.{Version}
@@ -13,7 +14,8 @@ use Rattle.raft_records.specs.LogBatch.{Batch, empty_batch}
 use Rattle.raft_history.specs.Batches.{Event}
 use Rattle.raft_history.specs.BothQueues.{IsReadingOfBoth}
 use Rattle.raft_history.specs.Contexts.{Suits, files_of}
-use Rattle.raft_history.specs.Histories.{Apart, IsOfQueue, IsSmall, IsSoundIn, Sound}
+use Rattle.raft_history.specs.Histories.{Apart, AreOfQueue, IsOfQueue, IsSmall, IsSoundIn, Sound}
+use Rattle.raft_history.proofs.StretchOfHistory.{of_both}
 use Rattle.raft_history.proofs.SoundLemmas.{append_apart}
 use Rattle.raft_accessor.specs.Accessor.{Accessor}
 use Rattle.raft_contexts.specs.OverlaidContext.{AreOfBothQueues, IsOfBothExactly}
@@ -22,25 +24,33 @@ use Rattle.raft_contexts.specs.TakenBatches.{IsTakenAway}
 use Rattle.raft_contexts.specs.declared.context_stage.ContextStage.TheVariants.{Reading}
 use Rattle.raft_contexts.specs.declared.taken_away.TakenAway.{TakenAway}
 use Rattle.raft_files.specs.Asks.{NumberedBytes}
+use Rattle.raft_files.specs.Disk.{cut_last}
 use Rattle.raft_replay.specs.Replays.{IsReplayed}
-use Rattle.raft_replay.specs.Segments.{SegmentsAreOf, SegmentsHold, parts_within}
+use Rattle.raft_replay.specs.Segments.{HoldsFrom, SegmentsAreOf, SegmentsHold, parts_within}
 use Rattle.raft_replay.specs.Stops.{IsNothing, StopsAmong}
 use Rattle.raft_replay.specs.WrittenParts.{bytes_of_parts, bytes_of_segments}
 use Rattle.raft_replay.proofs.MachineOrderLemmas.{segments_read_of_queue}
 use Rattle.raft_recover.specs.Files.{AreWholeFiles, FilesHold, bytes_of_files, segment_shown, whole_file}
 use Rattle.raft_recover.specs.Recovery.{MayReplayBoth}
+use Rattle.raft_recover.proofs.FileLemmas.{as_many, same_read, segments_are_of}
 use Rattle.raft_engine_laws.specs.GroupsInRows.{AreGroupsInRows}
 use Rattle.raft_engine_laws.specs.TakenTold.{AreBothRead, AreFoundTables, DoesTakenTakeAway, IsTakenToldByMarks, IsTakenToldNowOrLater}
 use Rattle.raft_engine_laws.proofs.InRows.{rows_apart}
 use Rattle.raft_engine_laws.proofs.ToldContexts.{taken_in_steps}
+use Rattle.raft_engine_fronts.specs.TornTails.{FilesHoldTorn, StopsAt}
 use Rattle.raft_engine.specs.FileSegments.{AreSegmentsOfFiles}
-use Rattle.raft_engine.specs.Markers.{AreOutOfRows, NoneIsInRows}
-use Rattle.raft_engine.specs.Opening.{AreInRows, AreRecovered}
+use Rattle.raft_engine.specs.Markers.{AreOutOfRows, HaveRows, NoneIsInRows}
+use Rattle.raft_engine.specs.Opening.{AreRecovered}
+use Rattle.raft_engine.specs.FoundQueues.{left_by}
 use Rattle.raft_engine.specs.OpeningAsks.{missing_asks}
+use Rattle.raft_engine.specs.ReadQueues.{AreBothReadUpTo}
 use Rattle.raft_engine.specs.ReadContexts.{AreReadBy, HasReadAll}
-use Rattle.raft_engine.specs.ReadFound.{AreReadyFiles}
+use Rattle.raft_engine.specs.ReadFound.{AreReadyFiles, IsNoRefusal}
+use Rattle.raft_engine.specs.declared.both_reading.BothRead.{BothRead}
 use Rattle.raft_engine.specs.declared.reading.Ready.{Ready}
 use Rattle.raft_engine.specs.declared.recovery_mode.RecoveryMode.{RecoveryMode}
+use Rattle.raft_engine.proofs.FoundQueueLemmas.{left_few}
+use Rattle.raft_engine.proofs.RestartLemmas.{OneReading, ready_held}
 use Rattle.raft_engine.specs.Unopened.{AreManyAs, AreUnreadableAs, IsOpeningRefusal, IsRecoveryFault, IsTooLongAs, MayRecover, Refusal}
 
 suits : (queue : LogQueue) (h : List Event) → IsOfQueue queue h → Suits queue (files_of h)
@@ -60,7 +70,7 @@ module _
     (one : (segments : List (Vec Part Global)) (g h : List Event) → SegmentsHold segments g → SegmentsHold segments h → g ≡ h)
     (version : Version) (append rewrite : List NumberedBytes) (append_segments rewrite_segments : List (Vec Part Global))
     (a : AreSegmentsOfFiles Append version append append_segments) (r : AreSegmentsOfFiles Rewrite version rewrite rewrite_segments)
-    (rows : AreInRows (SegmentsHold rewrite_segments)) (appended rewritten : RecoverContext) where
+    (rows : HaveRows (SegmentsHold rewrite_segments)) (appended rewritten : RecoverContext) where
   pub read_by : (g h : List Event) → FilesHold Append version append g → FilesHold Rewrite version rewrite h → HasReadAll appended g → HasReadAll rewritten h → AreReadBy version append rewrite appended rewritten
   read_by g h g_held h_held g_read h_read = record {
     append_batches = g;
@@ -73,7 +83,9 @@ module _
     rewrite_small = few_records Rewrite version rewrite h h_held r.few;
     append_read = g_read;
     rewrite_read = h_read;
-    rows = subst AreGroupsInRows (one rewrite_segments rows.batches h rows.held ((r.same h).0 h_held)) rows.rows;
+    rows =
+        let same = one rewrite_segments rows.batches h rows.held ((r.same h).0 h_held) in
+        subst AreGroupsInRows same (rows.rows (subst IsSmall (sym same) (few_records Rewrite version rewrite h h_held r.few)));
   }
 
   pub replayed_by : IsReplayed HasRead HasReadExactly append_segments appended → IsReplayed HasRead HasReadExactly rewrite_segments rewritten → AreReadBy version append rewrite appended rewritten
@@ -171,7 +183,7 @@ tail_same : {A : Type 0} (x y : A) (xs ys : List A) → x ∷ xs ≡ y ∷ ys �
 tail_same x y xs ys e = cc
 
 -- whole files, one after the other, are the parts of their segments, and have as many bytes
-whole_parts : (queue : LogQueue) (version : Version) (files : List NumberedBytes) (segments : List (Vec Part Global)) → AreWholeFiles queue version files segments
+pub whole_parts : (queue : LogQueue) (version : Version) (files : List NumberedBytes) (segments : List (Vec Part Global)) → AreWholeFiles queue version files segments
     → parts_within segments ≡ map (whole_file queue version) files
 whole_parts queue version [] [] e = refl
 whole_parts queue version [] (s ∷ segments) e = absurd cc
@@ -182,7 +194,7 @@ whole_parts queue version (f ∷ files) (s ∷ segments) e =
     let rest : map segment_shown segments ≡ wholes = tail_same s.items (whole_file queue version f ∷ []) (map segment_shown segments) wholes e in
     ap (λ (l : List Part). l ++ parts_within segments) first ∙ ap (λ (l : List Part). whole_file queue version f ∷ l) (whole_parts queue version files segments rest)
 
-whole_bytes : (queue : LogQueue) (version : Version) (files : List NumberedBytes) (segments : List (Vec Part Global)) → AreWholeFiles queue version files segments
+pub whole_bytes : (queue : LogQueue) (version : Version) (files : List NumberedBytes) (segments : List (Vec Part Global)) → AreWholeFiles queue version files segments
     → bytes_of_segments segments ≡ bytes_of_files files
 whole_bytes queue version [] [] e = refl
 whole_bytes queue version [] (s ∷ segments) e = absurd cc
@@ -194,6 +206,24 @@ whole_bytes queue version (f ∷ files) (s ∷ segments) e =
     let one = ap bytes_of_parts first in
     let more = whole_bytes queue version files segments rest in
     omega (arith, one, more)
+
+pub few_files : (queue : LogQueue) (version : Version) (files : List NumberedBytes) (segments : List (Vec Part Global)) → AreWholeFiles queue version files segments → bytes_of_segments segments < 2 ^ 63 → bytes_of_files files < 2 ^ 63
+few_files queue version files segments all few = subst (λ (n : ℕ). n < 2 ^ 63) (whole_bytes queue version files segments all) few
+
+pub many_files : (queue : LogQueue) (version : Version) (files : List NumberedBytes) (segments : List (Vec Part Global)) (e : Error) → AreWholeFiles queue version files segments
+    → (2 ^ 63 ≤ bytes_of_segments segments) × (e ≡ errors.Full) → AreManyAs files e
+many_files queue version files segments e all many = (subst (λ (n : ℕ). 2 ^ 63 ≤ n) (whole_bytes queue version files segments all) many.0, many.1)
+
+-- segments of whole files that have few bytes
+pub segments_of : (queue : LogQueue) (version : Version) (files : List NumberedBytes) (segments : List (Vec Part Global)) → AreWholeFiles queue version files segments → bytes_of_segments segments < 2 ^ 63
+    → AreSegmentsOfFiles queue version files segments
+segments_of queue version files segments all few = record {
+  same = λ h. let s = same_read queue version files segments all h in (s.0, s.1);
+  whole = all;
+  of_queue = segments_are_of queue version files segments all;
+  count = as_many queue version files segments all;
+  few = few_files queue version files segments all few;
+}
 
 -- the same of a slice of them
 pub of_slice : (queue : LogQueue) (version : Version) (files : List NumberedBytes) (segments slice : List (Vec Part Global)) → slice ≡ segments → AreSegmentsOfFiles queue version files segments
@@ -232,20 +262,27 @@ pub out_of_rows : ((queue : LogQueue) (version : Version) (files : List Numbered
     → (version : Version) (rewrite : List NumberedBytes) (h : List Event) (e : Error) → FilesHold Rewrite version rewrite h → bytes_of_files rewrite < 2 ^ 63 → (IsSmall h → IsSoundIn Rewrite h)
     → NoneIsInRows (FilesHold Rewrite version rewrite) e → AreOutOfRows (FilesHold Rewrite version rewrite) e
 out_of_rows few_records version rewrite h e held few sound none =
-    let why = none h held (sound (few_records Rewrite version rewrite h held few)).markers in
+    let small = few_records Rewrite version rewrite h held few in
+    let why = none h held small (record { queue = Rewrite; sound = sound small }) in
     record { batches = h; held = held; out = why.0; invalid = why.1 }
 
 -- why a reading is refused, once the files of both queues are ready
-module _ (IsRefused : Refusal) (mode : RecoveryMode) (version : Version) (append rewrite append_left rewrite_left : List NumberedBytes) (ready : Ready) (are : AreReadyFiles mode version append rewrite append_left rewrite_left ready) where
+module _ (IsRefused : Refusal) (mode : RecoveryMode) (version : Version) (append rewrite : List NumberedBytes) (ready : Ready) (are : AreReadyFiles mode version append rewrite ready) where
+  abbrev append_left : List NumberedBytes
+  append_left = left_by ready.append.missing append
+
+  abbrev rewrite_left : List NumberedBytes
+  rewrite_left = left_by ready.rewrite.missing rewrite
+
   pub reading_refused : (e : Error) → (e ≢ errors.Memory → IsRecoveryFault IsRefused append_left rewrite_left e ⊎ IsTooLongAs version append_left rewrite_left e) → IsOpeningRefusal IsRefused mode version append rewrite e
   reading_refused e fault other = inr (inr (record {
-    accepted = are.accepted;
-    append_missing = missing_asks Append ready.append_missing;
-    rewrite_missing = missing_asks Rewrite ready.rewrite_missing;
+    accepted = (are.append.missing.accepted, are.rewrite.missing.accepted);
+    append_missing = missing_asks Append ready.append.missing;
+    rewrite_missing = missing_asks Rewrite ready.rewrite.missing;
     append_left = append_left;
     rewrite_left = rewrite_left;
-    append_ready = are.append_ready;
-    rewrite_ready = are.rewrite_ready;
+    append_ready = are.append.missing.ready;
+    rewrite_ready = are.rewrite.missing.ready;
     fault = fault other;
   }))
 
@@ -260,3 +297,88 @@ module _ (IsRefused : Refusal) (mode : RecoveryMode) (version : Version) (append
   pub long_refused : {T : Type 0} (result : Result T Error) → IfErr result (λ e. e ≢ errors.Memory → IsTooLongAs version append_left rewrite_left e) → IfErr result (IsOpeningRefusal IsRefused mode version append rewrite)
   long_refused (Ok r) long = tt
   long_refused (Err e) long = reading_refused e (λ other. inr (long other))
+
+-- a refusal that no recovery gives is one whatever a recovery refuses
+pub any_refusal : (IsRefused : Refusal) (mode : RecoveryMode) (version : Version) (append rewrite : List NumberedBytes) (e : Error) → IsOpeningRefusal IsNoRefusal mode version append rewrite e
+    → IsOpeningRefusal IsRefused mode version append rewrite e
+any_refusal IsRefused mode version append rewrite e refusal other = elim (refusal other) [
+  | inl a ↦ inl a
+  | inr r ↦ elim r [
+    | inl b ↦ inr (inl b)
+    | inr f ↦ inr (inr (record {
+      accepted = f.accepted;
+      append_missing = f.append_missing;
+      rewrite_missing = f.rewrite_missing;
+      append_left = f.append_left;
+      rewrite_left = f.rewrite_left;
+      append_ready = f.append_ready;
+      rewrite_ready = f.rewrite_ready;
+      fault = elim f.fault [
+        | inl g ↦ elim g [
+          | inl m ↦ inl (inl m)
+          | inr h ↦ elim h [
+            | inl m ↦ inl (inr (inl m))
+            | inr none ↦ absurd none
+          ]
+        ]
+        | inr l ↦ inr l
+      ];
+    }))
+  ]
+]
+
+-- what is read of files of a queue is of the queue
+file_of_queue : (queue : LogQueue) (version : Version) (file : NumberedBytes) (at : ℕ) (h : List Event) → HoldsFrom (whole_file queue version file) at h → AreOfQueue queue h
+file_of_queue queue version file at [] held = tt
+file_of_queue queue version file at (e ∷ h) held = (ap (λ (id : FileId). id.queue) held.0, file_of_queue queue version file held.1.0 h held.1.2)
+
+files_of_queue : (queue : LogQueue) (version : Version) (files : List NumberedBytes) (h : List Event) → FilesHold queue version files h → IsOfQueue queue h
+files_of_queue queue version [] h held = subst (IsOfQueue queue) (sym held) (record { each = tt })
+files_of_queue queue version (file ∷ files) h held =
+    subst (IsOfQueue queue) (sym held.split)
+    (of_both queue held.first held.rest (record { each = file_of_queue queue version file 0 held.first held.first_held }) (files_of_queue queue version files held.rest held.rest_held))
+
+-- contexts that have read the files of both queues, up to where the reading of the last ones stops
+module _
+    (whole : (queue : LogQueue) (version : Version) (files : List NumberedBytes) (h : List Event) → FilesHold queue version files h → FilesHoldTorn queue version files h)
+    (one : OneReading)
+    (cut : (queue : LogQueue) (version : Version) (closed : List NumberedBytes) (last : NumberedBytes) (h : List Event) (at : ℕ)
+    → FilesHoldTorn queue version (closed ++ last ∷ []) h → StopsAt (whole_file queue version last) at → FilesHold queue version (cut_last at (closed ++ last ∷ [])) h)
+    (few_records : (queue : LogQueue) (version : Version) (files : List NumberedBytes) (h : List Event) → FilesHold queue version files h → bytes_of_files files < 2 ^ 63 → IsSmall h)
+    (mode : RecoveryMode) (version : Version) (found known : List NumberedBytes) (ready : Ready) (are : AreReadyFiles mode version found known ready)
+    (read : BothRead) (b : AreBothReadUpTo version found known read) where
+  append_there : FilesHold Append version (left_by ready.append.missing found) b.appended.history
+  append_there =
+      ready_held whole one cut few_records Append version [] (missing_asks Append ready.append.missing ++ []) found (left_by ready.append.missing found) b.appended.history
+      (are.append.missing.ready []) b.appended.held
+
+  rewrite_there : FilesHold Rewrite version (left_by ready.rewrite.missing known) b.rewritten.history
+  rewrite_there =
+      ready_held whole one cut few_records Rewrite version [] (missing_asks Rewrite ready.rewrite.missing ++ []) known (left_by ready.rewrite.missing known) b.rewritten.history
+      (are.rewrite.missing.ready []) b.rewritten.held
+
+  append_few : IsSmall b.appended.history
+  append_few = few_records Append version (left_by ready.append.missing found) b.appended.history append_there (left_few ready.append.missing found (2 ^ 63) (omega arith) b.append_few)
+
+  rewrite_few : IsSmall b.rewritten.history
+  rewrite_few = few_records Rewrite version (left_by ready.rewrite.missing known) b.rewritten.history rewrite_there (left_few ready.rewrite.missing known (2 ^ 63) (omega arith) b.rewrite_few)
+
+  pub both_read_by : AreReadBy version (left_by ready.append.missing found) (left_by ready.rewrite.missing known) read.appended.machine read.rewritten.machine
+  both_read_by = record {
+    append_batches = b.appended.history;
+    rewrite_batches = b.rewritten.history;
+    append_held = append_there;
+    rewrite_held = rewrite_there;
+    append_of = files_of_queue Append version (left_by ready.append.missing found) b.appended.history append_there;
+    rewrite_of = files_of_queue Rewrite version (left_by ready.rewrite.missing known) b.rewritten.history rewrite_there;
+    append_small = append_few;
+    rewrite_small = rewrite_few;
+    append_read = λ small. (b.appended.stands small, b.appended.exact small);
+    rewrite_read = λ small. (b.rewritten.stands small, b.rewritten.exact small);
+    rows = b.rows rewrite_few;
+  }
+
+-- what holds holds where a call succeeds
+pub on_any : {T P : Type 0} (r : Result T Error) → P → OnOk r P
+on_any (Ok t) p = p
+on_any (Err e) p = tt

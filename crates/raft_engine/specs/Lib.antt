@@ -47,10 +47,13 @@ pub mod BlockReads
 pub mod Restarts
 pub mod OpeningAsks
 pub mod CutTails
+pub mod TailsFound
+pub mod FoundQueues
+pub mod ReadQueues
 pub mod ReadFound
 pub mod FoundRecords
 pub mod Markers
-pub mod GroupChecks
+pub mod RowsShown
 pub mod Unopened
 pub mod ReadContexts
 pub mod OfVersion

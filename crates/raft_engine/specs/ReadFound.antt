@@ -6,11 +6,12 @@ use Rattle.raft_records.specs.LogBatch.{Batch, encoded, encoded_length}
 use Rattle.raft_files.specs.Asks.{Ask, NumberedBytes}
 use Rattle.raft_engine.specs.CutTails.{IsTailTold, tail_of}
 use Rattle.raft_engine.specs.FoundFiles.{AreReadyBy}
+use Rattle.raft_engine.specs.FoundQueues.{IsReadyQueue}
 use Rattle.raft_engine.specs.Opening.{AreRecovered}
 use Rattle.raft_engine.specs.OpeningAsks.{missing_asks, opening_asks}
 use Rattle.raft_engine.specs.QueueFilesOf.{AreOf}
 use Rattle.raft_engine.specs.StoredAsks.{IsWritableBatch}
-use Rattle.raft_engine.specs.Unopened.{AreBothAccepted}
+use Rattle.raft_engine.specs.Unopened.{Refusal}
 use Rattle.raft_engine.specs.declared.reading.Reading.{Reading}
 use Rattle.raft_engine.specs.declared.reading.Ready.{Ready}
 use Rattle.raft_engine.specs.declared.recovery_mode.RecoveryMode.{RecoveryMode}
@@ -42,13 +43,11 @@ pub record AreReadFound (version : Version) (append rewrite : List NumberedBytes
   pub append_told : IsTailTold Append version append (tail_of r.append_missing)
   pub rewrite_told : IsTailTold Rewrite version rewrite (tail_of r.rewrite_missing)
 
--- the found files of both queues can be made ready in a mode, are ready once what is missing was asked, and are these files then, with what is known of them
-pub record AreReadyFiles (mode : RecoveryMode) (version : Version) (append rewrite append_left rewrite_left : List NumberedBytes) (r : Ready) : Type 0 where
-  pub accepted : AreBothAccepted mode version append rewrite
-  pub append_ready : AreReadyBy Append version (missing_asks Append r.append_missing) append append_left
-  pub rewrite_ready : AreReadyBy Rewrite version (missing_asks Rewrite r.rewrite_missing) rewrite rewrite_left
-  pub append_of : AreOf append_left r.append
-  pub rewrite_of : AreOf rewrite_left r.rewrite
-  pub room : r.rewrite.len < 2 ^ 63
-  pub append_told : IsTailTold Append version append (tail_of r.append_missing)
-  pub rewrite_told : IsTailTold Rewrite version rewrite (tail_of r.rewrite_missing)
+-- the found files of both queues are ready in a mode once what is missing was asked
+pub record AreReadyFiles (mode : RecoveryMode) (version : Version) (append_files rewrite_files : List NumberedBytes) (r : Ready) : Type 0 where
+  pub append : IsReadyQueue mode Append version append_files r.append
+  pub rewrite : IsReadyQueue mode Rewrite version rewrite_files r.rewrite
+
+-- no recovery refuses the files
+abbrev pub IsNoRefusal : Refusal
+IsNoRefusal append rewrite e = ⊥

@@ -47,6 +47,10 @@ abbrev pub IsFileSound : LogQueue → Version → NumberedBytes → Type 0
 IsFileSound Append version file = Unit {0}
 IsFileSound Rewrite version file = AreBlocksSound (whole_file Rewrite version file)
 
+-- so it is of a part that begins its file
+abbrev pub IsPartSound : Part → Type 0
+IsPartSound part = part.id.queue ≡ Rewrite → AreBlocksSound part
+
 -- so it is of the last file of a queue
 abbrev pub IsLastSound : LogQueue → Version → List NumberedBytes → Type 0
 IsLastSound queue version files = (closed : List NumberedBytes) (last : NumberedBytes) → files ≡ closed ++ last ∷ [] → IsFileSound queue version last

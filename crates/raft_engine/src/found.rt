@@ -12,9 +12,6 @@ ghost use Rattle.raft_engine.specs.FoundFiles.{AreAccepted, AreApartAs, AreReady
 ghost use Rattle.raft_engine.specs.OpeningAsks.{missing_asks};
 ghost use Rattle.raft_engine_fronts.specs.TornTails.{IsDamagedAt};
 
-use crate::blocks::check_blocks;
-use crate::limits::FIRST_SEQ;
-use crate::missing::Missing;
 use crate::recovered::CutTail;
 use crate::recovery_mode::RecoveryMode;
 use raft_base::{Error, FileId, FileSeq, LogFileContext, LogQueue, Result, Version};
@@ -38,68 +35,12 @@ const OF_ENGINE: &str = "the file is one of raft-engine, which begins with a hea
 /// Why a file is refused whose first batch can be read in the other version alone.
 const OF_OTHER_VERSION: &str = "a batch of the other version stands there";
 
-/// Returns what is missing of a queue's found files before anything can be put behind them, and makes the files those that
-/// are there once it was asked: a first one, if there is none; the last one without the tail that can't be read, if it has one.
-///
-/// # Errors
-///
-/// `Corruption` where the number of a file isn't one above that of the file before it; where the mode refuses the tail of the
-/// last file: any; one in which damage begins, as what is left isn't part of one batch, and a batch that can be read stands
-/// behind, or one that is signed for another file; or none; and where the last file is of the other version: its first batch
-/// can be read in that one alone; and where the entries of a batch of the last rewrite file are damaged. `InvalidArgument` where
-/// the last file begins as those of raft-engine do. `Memory`.
-pub fn made_ready(
-    mode: RecoveryMode,
-    queue: LogQueue,
-    version: Version,
-    found: &mut Vec<(FileSeq, Vec<u8>)>,
-) -> Result<Missing>
-    ensures ok { IfOk result (λ missing. AreReadyBy queue version (missing_asks queue missing)
-        (map file_shown found.old.items) (map file_shown found.new.items)) }
-    ensures told { IfOk result (λ missing. IsTailTold queue version (map file_shown found.old.items) (tail_of missing)) }
-    ensures some { OnOk result (0 < length found.new.items) }
-    ensures accepted { OnOk result (AreAccepted mode queue version (map file_shown found.old.items)) }
-    ensures fault { IfErr result (λ e. e ≢ Error.Memory
-        → IsFoundFault mode queue version (map file_shown found.old.items) e) }
-{
-    check_numbers(queue, found)?;
-    let Some(last) = found.last() else {
-        return begin_first(found);
-    };
-    let torn = torn_tail(mode, queue, version, last)?;
-    check_blocks(queue, version, last)?;
-    match torn {
-        None => Ok(Missing::Nothing),
-        Some(tail) => {
-            cut_last(found, tail.offset as usize);
-            Ok(Missing::Cut(tail))
-        }
-    }
-}
-
-/// Adds the first file of a queue, which is missing.
-///
-/// # Errors
-///
-/// `Memory`.
-fn begin_first(found: &mut Vec<(FileSeq, Vec<u8>)>) -> Result<Missing>
-    requires { found.old.items ≡ [] }
-    ensures missing { IfOk result (λ missing. missing ≡ Missing.FirstFile) }
-    ensures first { OnOk result (map file_shown found.new.items ≡ (1, []) ∷ []) }
-    ensures some { OnOk result (0 < length found.new.items) }
-    ensures memory { IfErr result (λ e. e ≡ Error.Memory) }
-{
-    let alloc = *found.allocator();
-    found.push((FIRST_SEQ, Vec::new(alloc)))?;
-    Ok(Missing::FirstFile)
-}
-
 /// Refuses the files of a queue where the number of one isn't one above that of the file before it.
 ///
 /// # Errors
 ///
 /// `Corruption`, which names the first missing file where one is missing between two; `Memory`.
-fn check_numbers(queue: LogQueue, files: &Vec<(FileSeq, Vec<u8>)>) -> Result<()>
+pub fn check_numbers(queue: LogQueue, files: &Vec<(FileSeq, Vec<u8>)>) -> Result<()>
     ensures ok { OnOk result (AreConsecutive (numbers (map file_shown files.now.items))) }
     ensures refused { IfErr result (λ e. e ≢ Error.Memory
         → AreApartAs queue (map file_shown files.now.items) e) }
@@ -149,66 +90,42 @@ fn missing_file(alloc: Global, queue: LogQueue, last: FileSeq, next: FileSeq) ->
     }
 }
 
-/// Cuts the bytes of the last file, which is missing of the file itself.
-fn cut_last(found: &mut Vec<(FileSeq, Vec<u8>)>, at: usize)
-    ensures cut { map file_shown found.new.items ≡ cut_last at (map file_shown found.old.items) }
-    ensures count { length found.new.items ≡ length found.old.items }
-{
-    if let Some(last) = found.last_mut() {
-        last.1.truncate(at);
-    }
-}
-
-/// Returns the tail of a file that can't be read, if it has one.
+/// Returns the tail of a whole file that can't be read, if it has one.
 ///
 /// # Errors
 ///
-/// `Corruption` where the mode refuses the tail, or the file is of the other version; `InvalidArgument` where it is of
-/// raft-engine; `Memory`.
-fn torn_tail(
-    mode: RecoveryMode,
-    queue: LogQueue,
-    version: Version,
-    file: &(FileSeq, Vec<u8>),
-) -> Result<Option<CutTail>>
-    ensures ok { IfOk result (IsTornAs (whole_file queue version (file_shown file.now))) }
-    ensures tolerated { OnOk result (¬ (IsTailRefused mode (whole_file queue version (file_shown file.now)))) }
-    ensures of_version { OnOk result (¬ (IsOfOther (whole_file queue version (file_shown file.now)))) }
-    ensures refused { IfErr result (λ e. e ≢ Error.Memory
-        → IsTailRefusedAs mode (whole_file queue version (file_shown file.now)) e
-        ⊎ IsOtherAs (whole_file queue version (file_shown file.now)) e) }
-{
-    let bytes = Vec::from_slice(*file.1.allocator(), &file.1)?;
-    let part = FilePart::new(FileId::new(queue, file.0), version, 0, bytes)?;
-    torn_from(mode, &part)
-}
-
-/// Returns what is to be cut off from a file, if it doesn't end with its batches.
-///
-/// # Errors
-///
-/// `Corruption` where the mode refuses that tail, or the file is of the other version; `InvalidArgument` where it is of
-/// raft-engine; `Memory`.
-fn torn_from(mode: RecoveryMode, file: &FilePart) -> Result<Option<CutTail>>
+/// `Memory`.
+pub fn tail_of(file: &FilePart) -> Result<Option<CutTail>>
     ensures ok { IfOk result (IsTornAs file.now) }
-    ensures tolerated { OnOk result (¬ (IsTailRefused mode file.now)) }
-    ensures of_version { OnOk result (¬ (IsOfOther file.now)) }
-    ensures refused { IfErr result (λ e. e ≢ Error.Memory
-        → IsTailRefusedAs mode file.now e ⊎ IsOtherAs file.now e) }
+    ensures memory { IfErr result (λ e. e ≡ Error.Memory) }
 {
     let (at, stopped) = readable_front(file);
     let Some(error) = stopped else {
         return Ok(None);
     };
     unless_memory(&error)?;
+    Ok(Some(CutTail::from(file, at, error)))
+}
+
+/// Refuses a file for its tail.
+///
+/// # Errors
+///
+/// `Corruption` where the mode refuses that tail, or the file is of the other version; `InvalidArgument` where it is of
+/// raft-engine; `Memory`.
+pub fn check_tail(mode: RecoveryMode, file: &FilePart, tail: &Option<CutTail>) -> Result<()>
+    requires { IsTornAs file.now tail.now }
+    ensures tolerated { OnOk result (¬ (IsTailRefused mode file.now)) }
+    ensures of_version { OnOk result (¬ (IsOfOther file.now)) }
+    ensures refused { IfErr result (λ e. e ≢ Error.Memory
+        → IsTailRefusedAs mode file.now e ⊎ IsOtherAs file.now e) }
+{
+    let Some(tail) = tail else {
+        return Ok(());
+    };
+    let at = tail.offset as usize;
     check_beginning(file, at)?;
-    check_tolerated(mode, file, at)?;
-    Ok(Some(CutTail {
-        file: file.id().seq,
-        offset: at as u64,
-        len: (file.bytes().len() - at) as u64,
-        error,
-    }))
+    check_tolerated(mode, file, at)
 }
 
 /// Refuses the tail of a file where a mode does, from the byte on at which its reading stops.

@@ -3,11 +3,15 @@
 
 mod block_reads;
 mod blocks;
+mod both;
+mod both_reading;
 pub mod engine;
 mod found;
+mod found_queue;
 mod group_batches;
 mod group_moves;
 mod group_puts;
+mod group_rows;
 mod groups;
 mod limits;
 #[doc(hidden)]
@@ -22,7 +26,9 @@ mod parts;
 mod purge;
 mod put;
 mod queue_files;
+mod queue_reading;
 mod read_back;
+mod readable_replay;
 mod reading;
 mod recovered;
 mod recovery_mode;

@@ -1,20 +1,25 @@
 //! What the reading of found files gives.
 
-ghost use Rattle.std.specs.Prelude.{◌≢◌, ◌⊎◌, List, map, IfErr, IfOk, OnOk};
+ghost use Rattle.std.specs.Prelude.{◌≡◌, ◌≢◌, ◌⊎◌, List, map, IfErr, IfOk, OnOk};
 ghost use Rattle.raft_base.specs.declared.pipe_log.LogQueue.TheVariants.{Append, Rewrite};
 ghost use Rattle.raft_files.specs.Asks.{NumberedBytes};
 ghost use Rattle.raft_files.specs.HeldFiles.{file_shown};
+ghost use Rattle.raft_engine.specs.CutTails.{IsTailTold};
+ghost use Rattle.raft_engine.specs.FileSegments.{AreSegmentsOfFiles};
 ghost use Rattle.raft_engine.specs.FoundFiles.{IsFoundFault};
+ghost use Rattle.raft_engine.specs.FoundQueues.{IsFoundQueue, left_by};
 ghost use Rattle.raft_engine.specs.ReadContexts.{AreReadBy, HaveReadFound};
-ghost use Rattle.raft_engine.specs.ReadFound.{AreReadFound, AreReadyFiles};
+ghost use Rattle.raft_engine.specs.ReadFound.{AreReadFound, AreReadyFiles, IsNoRefusal};
 ghost use Rattle.raft_engine.specs.Unopened.{AreBothAccepted, AreUngroupedAs, AreUnrecoveredAs, IsOpeningRefusal, IsTooLongAs};
 
-use crate::found::made_ready;
+use crate::both_reading::read_both;
+use crate::found_queue::{FoundQueue, ReadyQueue, complete_segments};
 use crate::groups::check_groups;
 use crate::missing::Missing;
 use crate::queue_files::QueueFiles;
+use crate::recovered::CutTail;
 use crate::recovery_mode::RecoveryMode;
-use crate::segments::segments_of_both;
+use crate::segments::check_few;
 use raft_accessor::MemTableAccessor;
 use raft_base::{Error, FileSeq, LogQueue, Result, Version};
 use raft_contexts::MemTableRecoverContext;
@@ -22,18 +27,23 @@ use raft_engine_fronts::torn_tails::torn_tails_are_found;
 use raft_engine_laws::openings::taken_away_is_told;
 use raft_records::LogBatch;
 use raft_recover::{files_hold_few_records, replay_both};
-use raft_replay::segments_read_as_one_history;
+use raft_replay::{Segment, segments_read_as_one_history};
 use std::alloc::Global;
 use std::thread::Threads;
 
-/// What is known of found files of both queues that are ready: what is missing of each, and the files that are there once that
-/// was asked.
+/// What is known of found files of both queues that are ready.
 #[derive(Drop)]
 pub struct Ready {
-    pub append_missing: Missing,
-    pub rewrite_missing: Missing,
-    pub append: QueueFiles,
-    pub rewrite: QueueFiles,
+    pub append: ReadyQueue,
+    pub rewrite: ReadyQueue,
+}
+
+/// Found files of both queues that are ready, and segments of the files that are there once what is missing was asked.
+#[derive(Drop)]
+pub struct ReadySegments {
+    pub ready: Ready,
+    pub append: Vec<Segment>,
+    pub rewrite: Vec<Segment>,
 }
 
 /// What the reading of found files gives, before anything is asked of them: what is missing of each queue, the files that
@@ -54,27 +64,41 @@ pub struct Reading {
 }
 
 impl Ready {
-    /// Makes found files those that are there once what is missing was asked.
+    /// Makes found files, of which the last ones have these tails, ready in a mode.
     ///
     /// # Errors
     ///
-    /// Those of `made_ready`; `Memory`.
+    /// Those of `FoundQueue::ready`.
     fn of(
         mode: RecoveryMode,
-        version: Version,
-        append: &mut Vec<(FileSeq, Vec<u8>)>,
-        rewrite: &mut Vec<(FileSeq, Vec<u8>)>,
-    ) -> Result<Ready>
-        ensures ok { IfOk result (AreReadyFiles mode version (map file_shown append.old.items) (map file_shown rewrite.old.items)
-            (map file_shown append.new.items) (map file_shown rewrite.new.items)) }
-        ensures fault { IfErr result (λ e. e ≢ Error.Memory → IsFoundFault mode Append version (map file_shown append.old.items) e
-            ⊎ IsFoundFault mode Rewrite version (map file_shown rewrite.old.items) e) }
+        append: FoundQueue,
+        append_tail: Option<CutTail>,
+        rewrite: FoundQueue,
+        rewrite_tail: Option<CutTail>,
+    ) -> Result<ReadySegments>
+        requires { (version : Version) × (append_files : List NumberedBytes) × (rewrite_files : List NumberedBytes)
+            × IsFoundQueue Append version append_files append × IsFoundQueue Rewrite version rewrite_files rewrite
+            × IsTailTold Append version append_files append_tail × IsTailTold Rewrite version rewrite_files rewrite_tail }
+        ensures ok { (version : Version) (append_files rewrite_files : List NumberedBytes) → IsFoundQueue Append version append_files append
+            → IsFoundQueue Rewrite version rewrite_files rewrite → IsTailTold Append version append_files append_tail
+            → IsTailTold Rewrite version rewrite_files rewrite_tail
+            → IfOk result (λ both. AreReadyFiles mode version append_files rewrite_files both.ready) }
+        ensures append_segments { IfOk result (λ both. both.append.items ≡ append.segments.items) }
+        ensures rewrite_segments { IfOk result (λ both. both.rewrite.items ≡ rewrite.segments.items) }
+        ensures fault { (version : Version) (append_files rewrite_files : List NumberedBytes) → IsFoundQueue Append version append_files append
+            → IsFoundQueue Rewrite version rewrite_files rewrite → IsTailTold Append version append_files append_tail
+            → IsTailTold Rewrite version rewrite_files rewrite_tail → IfErr result (λ e. e ≢ Error.Memory
+            → IsFoundFault mode Append version append_files e ⊎ IsFoundFault mode Rewrite version rewrite_files e) }
     {
-        Ok(Ready {
-            append_missing: made_ready(mode, LogQueue::Append, version, append)?,
-            rewrite_missing: made_ready(mode, LogQueue::Rewrite, version, rewrite)?,
-            append: QueueFiles::of(append)?,
-            rewrite: QueueFiles::of(rewrite)?,
+        let (append_ready, append_segments) = append.ready(mode, append_tail)?;
+        let (rewrite_ready, rewrite_segments) = rewrite.ready(mode, rewrite_tail)?;
+        Ok(ReadySegments {
+            ready: Ready {
+                append: append_ready,
+                rewrite: rewrite_ready,
+            },
+            append: append_segments,
+            rewrite: rewrite_segments,
         })
     }
 
@@ -90,12 +114,14 @@ impl Ready {
         appended: MemTableRecoverContext,
         rewritten: MemTableRecoverContext,
     ) -> Result<Reading>
-        ensures ok { (mode : RecoveryMode) (version : Version) (found known left kept : List NumberedBytes) → AreReadyFiles mode version found known left kept self
-            → AreReadBy version left kept appended rewritten → IfOk result (AreReadFound version found known) }
-        ensures fault { (version : Version) (left kept : List NumberedBytes) → AreReadBy version left kept appended rewritten
-            → IfErr result (λ e. e ≢ Error.Memory → IsTooLongAs version left kept e) }
+        ensures ok { (mode : RecoveryMode) (version : Version) (append_files rewrite_files : List NumberedBytes) → AreReadyFiles mode version append_files rewrite_files self
+            → AreReadBy version (left_by self.append.missing append_files) (left_by self.rewrite.missing rewrite_files) appended rewritten
+            → IfOk result (AreReadFound version append_files rewrite_files) }
+        ensures fault { (version : Version) (append_left rewrite_left : List NumberedBytes) → AreReadBy version append_left rewrite_left appended rewritten
+            → IfErr result (λ e. e ≢ Error.Memory → IsTooLongAs version append_left rewrite_left e) }
     {
         taken_away_is_told();
+        let Ready { append, rewrite } = self;
         let taken = appended.taken_away(alloc, &rewritten)?;
         let mut both = rewritten;
         both.merge_append_context(appended)?;
@@ -104,10 +130,10 @@ impl Ready {
         told.is_read_again();
         let told_len = told.finish_populate()?;
         Ok(Reading {
-            append_missing: self.append_missing,
-            rewrite_missing: self.rewrite_missing,
-            append: self.append,
-            rewrite: self.rewrite,
+            append_missing: append.missing,
+            rewrite_missing: rewrite.missing,
+            append: append.known,
+            rewrite: rewrite.known,
             accessor,
             told,
             told_len,
@@ -116,12 +142,55 @@ impl Ready {
     }
 }
 
-/// Reads found files: makes their bytes those that are there once what is missing was asked, and recovers their tables.
+impl ReadySegments {
+    /// Makes found files ready in a mode, whose last ones are read to find their tails, and the segments those of the files that are
+    /// there once what is missing was asked.
+    ///
+    /// # Errors
+    ///
+    /// Those of `Ready::of`; `Full` where the files of a queue have 2^63 bytes or more then.
+    fn of(
+        mode: RecoveryMode,
+        version: Version,
+        append: FoundQueue,
+        rewrite: FoundQueue,
+    ) -> Result<ReadySegments>
+        requires { (append_files : List NumberedBytes) × (rewrite_files : List NumberedBytes)
+            × IsFoundQueue Append version append_files append × IsFoundQueue Rewrite version rewrite_files rewrite }
+        ensures ok { (append_files rewrite_files : List NumberedBytes) → IsFoundQueue Append version append_files append
+            → IsFoundQueue Rewrite version rewrite_files rewrite → IfOk result (λ both. AreReadyFiles mode version append_files rewrite_files both.ready
+            × AreSegmentsOfFiles Append version (left_by both.ready.append.missing append_files) both.append.items
+            × AreSegmentsOfFiles Rewrite version (left_by both.ready.rewrite.missing rewrite_files) both.rewrite.items) }
+        ensures fault { (append_files rewrite_files : List NumberedBytes) → IsFoundQueue Append version append_files append
+            → IsFoundQueue Rewrite version rewrite_files rewrite → IfErr result (IsOpeningRefusal IsNoRefusal mode version append_files rewrite_files) }
+    {
+        let append_tail = append.tail()?;
+        let rewrite_tail = rewrite.tail()?;
+        let mut both = Ready::of(mode, append, append_tail, rewrite, rewrite_tail)?;
+        complete_segments(
+            LogQueue::Append,
+            version,
+            &both.ready.append.missing,
+            &mut both.append,
+        )?;
+        complete_segments(
+            LogQueue::Rewrite,
+            version,
+            &both.ready.rewrite.missing,
+            &mut both.rewrite,
+        )?;
+        check_few(both.append.as_slice())?;
+        check_few(both.rewrite.as_slice())?;
+        Ok(both)
+    }
+}
+
+/// Reads found files, each byte once, and recovers the tables of those that are there once what is missing was asked.
 ///
 /// # Errors
 ///
-/// Those of `made_ready` and of `replay_both`; `InvalidArgument` where an atomic group of the rewrite files doesn't stand in a
-/// row, in one file; `Full` where the files of a queue have 2^63 bytes or more, or what is to be told at once 2^56; `Memory`.
+/// Those of `FoundQueue::of` and of `Ready::of`, and those of [`read_again`]: where a reading is refused the files are read once
+/// more, since a tail that a mode refuses comes before any other refusal.
 pub fn read_found<R: Threads + Sync>(
     rt: &R,
     alloc: Global,
@@ -138,15 +207,54 @@ pub fn read_found<R: Threads + Sync>(
     ensures fault { IfErr result (IsOpeningRefusal (AreUnrecoveredAs version workers) mode version (map file_shown append.items)
         (map file_shown rewrite.items)) }
 {
+    let append = FoundQueue::of(LogQueue::Append, version, append)?;
+    let rewrite = FoundQueue::of(LogQueue::Rewrite, version, rewrite)?;
+    let (segments, rewrite_segments) = (append.segments.as_slice(), rewrite.segments.as_slice());
+    let read = match read_both(rt, alloc, rewrite_segments, segments, workers) {
+        Ok(read) => read,
+        Err(Error::Memory) => return Err(Error::Memory),
+        Err(_) => return read_again(rt, alloc, mode, version, append, rewrite, workers),
+    };
+    files_hold_few_records();
+    torn_tails_are_found();
+    let (appended, rewritten) = (read.appended, read.rewritten);
+    let both = Ready::of(mode, append, appended.tail, rewrite, rewritten.tail)?;
+    both.ready
+        .with_contexts(alloc, appended.machine, rewritten.machine)
+}
+
+/// Reads found files that a reading refused, to say why.
+///
+/// # Errors
+///
+/// Those of `ReadySegments::of` and of `replay_both`; `InvalidArgument` where an atomic group of the rewrite files doesn't stand
+/// in a row, in one file; `Full` where what is to be told at once has 2^56 bytes or more; `Memory`.
+fn read_again<R: Threads + Sync>(
+    rt: &R,
+    alloc: Global,
+    mode: RecoveryMode,
+    version: Version,
+    append: FoundQueue,
+    rewrite: FoundQueue,
+    workers: usize,
+) -> Result<Reading>
+    requires { (append_files : List NumberedBytes) × (rewrite_files : List NumberedBytes)
+        × IsFoundQueue Append version append_files append × IsFoundQueue Rewrite version rewrite_files rewrite }
+    ensures ok { (append_files rewrite_files : List NumberedBytes) → IsFoundQueue Append version append_files append
+        → IsFoundQueue Rewrite version rewrite_files rewrite → IfOk result (AreReadFound version append_files rewrite_files) }
+    ensures accepted { (append_files rewrite_files : List NumberedBytes) → IsFoundQueue Append version append_files append
+        → IsFoundQueue Rewrite version rewrite_files rewrite → OnOk result (AreBothAccepted mode version append_files rewrite_files) }
+    ensures fault { (append_files rewrite_files : List NumberedBytes) → IsFoundQueue Append version append_files append
+        → IsFoundQueue Rewrite version rewrite_files rewrite
+        → IfErr result (IsOpeningRefusal (AreUnrecoveredAs version workers) mode version append_files rewrite_files) }
+{
     files_hold_few_records();
     segments_read_as_one_history();
-    let (mut append, mut rewrite) = (append, rewrite);
-    let ready = Ready::of(mode, version, &mut append, &mut rewrite)?;
-    let (append_segments, rewrite_segments) = segments_of_both(version, append, rewrite)?;
-    let (append, rewrite) = (append_segments.as_slice(), rewrite_segments.as_slice());
+    let both = ReadySegments::of(mode, version, append, rewrite)?;
+    let (append, rewrite) = (both.append.as_slice(), both.rewrite.as_slice());
     let (rewritten, appended) = replay_both(rt, alloc, rewrite, append, workers)?;
     check_groups(alloc, rewrite)?;
-    ready.with_contexts(alloc, appended, rewritten)
+    both.ready.with_contexts(alloc, appended, rewritten)
 }
 
 /// Reads found files as [`read_found`] does, with the contexts that read them.
@@ -158,8 +266,8 @@ pub fn read_over(
     alloc: Global,
     mode: RecoveryMode,
     version: Version,
-    mut append: Vec<(FileSeq, Vec<u8>)>,
-    mut rewrite: Vec<(FileSeq, Vec<u8>)>,
+    append: Vec<(FileSeq, Vec<u8>)>,
+    rewrite: Vec<(FileSeq, Vec<u8>)>,
     appended: MemTableRecoverContext,
     rewritten: MemTableRecoverContext,
 ) -> Result<Reading>
@@ -174,8 +282,9 @@ pub fn read_over(
     torn_tails_are_found();
     files_hold_few_records();
     segments_read_as_one_history();
-    let ready = Ready::of(mode, version, &mut append, &mut rewrite)?;
-    let both = segments_of_both(version, append, rewrite)?;
-    check_groups(alloc, both.1.as_slice())?;
-    ready.with_contexts(alloc, appended, rewritten)
+    let append = FoundQueue::of(LogQueue::Append, version, append)?;
+    let rewrite = FoundQueue::of(LogQueue::Rewrite, version, rewrite)?;
+    let both = ReadySegments::of(mode, version, append, rewrite)?;
+    check_groups(alloc, both.rewrite.as_slice())?;
+    both.ready.with_contexts(alloc, appended, rewritten)
 }

@@ -1,6 +1,10 @@
 //! What an opening cuts off from found files.
 
+ghost use Rattle.std.specs.Prelude.{◌<◌, length};
+ghost use Rattle.raft_engine.specs.TailsFound.{IsTailFrom};
+
 use raft_base::{Error, FileSeq};
+use raft_records::FilePart;
 
 /// The torn tail of a queue's last file, which an opening cuts off: all from the first batch on that can't be read.
 #[derive(Drop)]
@@ -13,6 +17,21 @@ pub struct CutTail {
     pub len: u64,
     /// Why no batch can be read there.
     pub error: Error,
+}
+
+impl CutTail {
+    /// Returns the tail of a whole file from a byte on, at which no batch can be read for this reason.
+    pub(crate) fn from(file: &FilePart, at: usize, error: Error) -> CutTail
+        requires { at < length file.now.bytes }
+        ensures { IsTailFrom file.now at error result }
+    {
+        CutTail {
+            file: file.id().seq,
+            offset: at as u64,
+            len: (file.bytes().len() - at) as u64,
+            error,
+        }
+    }
 }
 
 /// What an opening cut off from the last file of each queue; nothing where that file ends with its batches, or there is none.

@@ -19,6 +19,8 @@ mod found;
 #[cfg(test)]
 mod groups;
 #[cfg(test)]
+mod long;
+#[cfg(test)]
 mod moved_groups;
 #[cfg(test)]
 mod opening;

@@ -1,10 +1,8 @@
-use Rattle.std.proofs.Common.{Vec, None, drop}
-use Rattle.std.specs.Global.{Global}
-use Rattle.raft_records.specs.FilePart.{Part}
-use Rattle.raft_replay.specs.Segments.{EachHolds, HoldsFrom}
-use Rattle.raft_engine.proofs.RowLemmas.{AreSomeInRows}
+use Rattle.std.proofs.Common.{take}
+use Rattle.raft_replay.specs.Replays.{HasReplayed}
+use Rattle.raft_replay.specs.Segments.{SegmentsHold}
+use Rattle.raft_engine.proofs.GroupRowLemmas.{Summed}
 use Rattle.raft_engine.proofs.groups.check_groups.Given as goal
 
 abbrev pub invariant-loop-segment : goal.invariant-loop-segment
-invariant-loop-segment l =
-    AreSomeInRows (λ (segment : Vec Part Global). EachHolds (λ (part : Part). HoldsFrom part 0) segment.items) l.segments (drop l.segment-index l.segments) None l.left
+invariant-loop-segment l = HasReplayed (SegmentsHold (take l.segment-index l.segments)) Summed Summed l.initial.rows l.rows

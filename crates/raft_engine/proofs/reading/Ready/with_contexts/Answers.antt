@@ -3,6 +3,7 @@ use Rattle.std.proofs.Common.{◌≡◌, ℕ, ◌<◌, ◌^◌, ap, sym, subst, 
 use Rattle.raft_records.specs.LogBatch.{Batch, encoded_length}
 use Rattle.raft_contexts.specs.declared.context_stage.ContextStage.{ContextStage}
 use Rattle.raft_contexts.specs.declared.context_stage.ContextStage.TheVariants.{Failed, Overlaid}
+use Rattle.raft_engine.specs.FoundQueues.{left_by}
 use Rattle.raft_engine.proofs.RecoveredLemmas.{both_exactly, merge_memory, read_on, recovered_by}
 use Rattle.raft_engine.proofs.reading.Ready.with_contexts.Goals as goal
 
@@ -42,18 +43,18 @@ returns-in_err-told_len-clause-fault c = λ version left kept by.
     })
 
 pub returns-clause-ok : goal.returns-clause-ok
-returns-clause-ok c = λ mode version found known left kept are by. record {
-  append_left = left;
-  rewrite_left = kept;
-  append_ready = are.append_ready;
-  rewrite_ready = are.rewrite_ready;
-  append_of = are.append_of;
-  rewrite_of = are.rewrite_of;
+returns-clause-ok c = λ mode version found known are by. record {
+  append_left = left_by c.args.self.append.missing found;
+  rewrite_left = left_by c.args.self.rewrite.missing known;
+  append_ready = are.append.missing.ready;
+  rewrite_ready = are.rewrite.missing.ready;
+  append_of = are.append.known;
+  rewrite_of = are.rewrite.known;
   told = c.in_ok-taken.taken.at_once;
-  recovered = recovered_by version left kept c.args.appended c.args.rewritten by c.taken_away_is_told.ensures.tells c.taken_away_is_told.ensures.says
+  recovered = recovered_by version _ _ c.args.appended c.args.rewritten by c.taken_away_is_told.ensures.tells c.taken_away_is_told.ensures.says
       c.taken_away_is_told.ensures.away c.taken_away_is_told.ensures.entries c.in_ok-taken.taken c.in_ok-taken.ensures.ok c.in_ok-accessor.accessor
       (c.in_ok-accessor.ensures.overlaid by.rewrite_batches by.append_batches
-      (both_exactly version left kept c.args.appended c.args.rewritten by c.merge_append_context.new.self c.in_ok-merge_append_context.ensures.exact));
+      (both_exactly version _ _ c.args.appended c.args.rewritten by c.merge_append_context.new.self c.in_ok-merge_append_context.ensures.exact));
   writable = λ some. record {
     tiled = c.is_read_again.ensures.tiled;
     in_range = c.is_read_again.ensures.in_range;
@@ -66,8 +67,8 @@ returns-clause-ok c = λ mode version found known left kept are by. record {
     encoded = ap (λ (b : Batch). b.stage) c.in_ok-told_len.ensures.ok;
     len = c.in_ok-told_len.ensures.len ∙ ap (λ (b : Batch). encoded_length b.items b.entry_bytes) (sym c.in_ok-told_len.ensures.ok);
     short = subst (λ (n : ℕ). n < 2 ^ 56) (sym c.in_ok-told_len.ensures.len) c.in_ok-told_len.ensures.accepted;
-    room = are.room;
+    room = are.rewrite.room;
   };
-  append_told = are.append_told;
-  rewrite_told = are.rewrite_told;
+  append_told = are.append.missing.told;
+  rewrite_told = are.rewrite.missing.told;
 }

@@ -1,0 +1,6 @@
+use Rattle.std.proofs.Common.{◌≡◌, ◌+◌, drop}
+use Rattle.raft_replay.specs.WrittenParts.{bytes_of_parts}
+use Rattle.raft_engine.proofs.segments.bytes_left.Given as goal
+
+abbrev pub invariant-loop-part : goal.invariant-loop-part
+invariant-loop-part l = bytes_of_parts l.fn.segment.items + l.left ≡ l.fn.count + bytes_of_parts (drop l.part-index l.segment.items)

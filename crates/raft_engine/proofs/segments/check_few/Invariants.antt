@@ -1,0 +1,9 @@
+use Rattle.std.proofs.Common.{◌≡◌, ◌+◌, ◌<◌, ◌^◌, drop}
+use Rattle.raft_replay.specs.WrittenParts.{bytes_of_segments}
+use Rattle.raft_engine.proofs.segments.check_few.Given as goal
+
+abbrev pub invariant-loop-segment : goal.invariant-loop-segment
+invariant-loop-segment l = record {
+  bound : l.left < 2 ^ 63;
+  left : bytes_of_segments l.fn.segments + l.left + 1 ≡ 2 ^ 63 + bytes_of_segments (drop l.segment-index l.segments);
+}

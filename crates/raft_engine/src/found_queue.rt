@@ -1,0 +1,234 @@
+//! The found files of a queue.
+
+ghost use Rattle.std.specs.Prelude.{◌≡◌, ◌≢◌, ◌<◌, ◌≤◌, ◌^◌, List, [], ◌∷◌, ◌++◌, length, map, IfErr, IfOk, MatchOption, OnOk};
+ghost use Rattle.raft_files.specs.Asks.{NumberedBytes};
+ghost use Rattle.raft_files.specs.Disk.{cut_last};
+ghost use Rattle.raft_files.specs.HeldFiles.{file_shown};
+ghost use Rattle.raft_recover.specs.Files.{AreWholeFiles};
+ghost use Rattle.raft_engine.specs.CutTails.{IsTailTold};
+ghost use Rattle.raft_engine.specs.FoundFiles.{AreApartAs, IsFoundFault};
+ghost use Rattle.raft_engine.specs.FoundQueues.{IsFoundQueue, IsLastOf, IsMissingOf, IsReadyQueue, begun_or_first, known_with, left_by};
+ghost use Rattle.raft_engine.specs.QueueFilesOf.{AreOf};
+ghost use Rattle.raft_engine_fronts.specs.Done.{AreConsecutive, numbers};
+
+use crate::blocks::check_blocks;
+use crate::found::{check_numbers, check_tail, tail_of};
+use crate::limits::FIRST_SEQ;
+use crate::missing::Missing;
+use crate::queue_files::QueueFiles;
+use crate::recovered::CutTail;
+use crate::recovery_mode::RecoveryMode;
+use raft_base::{Error, FileId, FileSeq, LogQueue, Result, Version};
+use raft_records::FilePart;
+use raft_recover::file_segments;
+use raft_replay::Segment;
+
+/// The found files of a queue.
+#[derive(Drop)]
+pub struct FoundQueue {
+    /// A segment of each file, of one part, which has all its bytes.
+    pub segments: Vec<Segment>,
+    /// What is known of the files; of the first one, where there is none.
+    pub known: QueueFiles,
+}
+
+/// What is known of a queue's found files that are ready: what is missing before anything can be put behind them, and the files
+/// that are there once that was asked.
+#[derive(Drop)]
+pub struct ReadyQueue {
+    pub missing: Missing,
+    pub known: QueueFiles,
+}
+
+impl FoundQueue {
+    /// Makes found files of a queue those to be read. No byte is copied.
+    ///
+    /// # Errors
+    ///
+    /// `Corruption` where the number of a file isn't one above that of the file before it, which names the first missing one where
+    /// one is missing between two; `Memory`.
+    pub fn of(
+        queue: LogQueue,
+        version: Version,
+        files: Vec<(FileSeq, Vec<u8>)>,
+    ) -> Result<FoundQueue>
+        ensures ok { IfOk result (IsFoundQueue queue version (map file_shown files.items)) }
+        ensures fault { IfErr result (λ e. e ≢ Error.Memory → AreApartAs queue (map file_shown files.items) e) }
+    {
+        check_numbers(queue, &files)?;
+        let known = known_files(&files)?;
+        let segments = file_segments(queue, version, files)?;
+        Ok(FoundQueue { segments, known })
+    }
+
+    /// Returns the tail of the last file that can't be read, if it has one.
+    ///
+    /// # Errors
+    ///
+    /// `Memory`.
+    pub fn tail(&self) -> Result<Option<CutTail>>
+        ensures ok { (queue : LogQueue) (version : Version) (files : List NumberedBytes) → IsFoundQueue queue version files self.now
+            → IfOk result (IsTailTold queue version files) }
+        ensures memory { IfErr result (λ e. e ≡ Error.Memory) }
+    {
+        match last_part(self.segments.as_slice()) {
+            Some(last) => tail_of(last),
+            None => Ok(None),
+        }
+    }
+
+    /// Makes the files, of which the last has this tail, ready in a mode, and returns their segments too.
+    ///
+    /// # Errors
+    ///
+    /// Those of `check_tail` and of `check_blocks`.
+    pub fn ready(
+        self,
+        mode: RecoveryMode,
+        tail: Option<CutTail>,
+    ) -> Result<(ReadyQueue, Vec<Segment>)>
+        requires { (queue : LogQueue) × (version : Version) × (files : List NumberedBytes)
+            × IsFoundQueue queue version files self × IsTailTold queue version files tail }
+        ensures ok { (queue : LogQueue) (version : Version) (files : List NumberedBytes) → IsFoundQueue queue version files self
+            → IsTailTold queue version files tail → IfOk result (λ both. IsReadyQueue mode queue version files both.0) }
+        ensures segments { IfOk result (λ both. both.1.items ≡ self.segments.items) }
+        ensures fault { (queue : LogQueue) (version : Version) (files : List NumberedBytes) → IsFoundQueue queue version files self
+            → IsTailTold queue version files tail → IfErr result (λ e. e ≢ Error.Memory → IsFoundFault mode queue version files e) }
+    {
+        let FoundQueue { segments, known } = self;
+        let missing = missing_of(mode, segments.as_slice(), tail)?;
+        let known = known_with(known, &missing);
+        Ok((ReadyQueue { missing, known }, segments))
+    }
+}
+
+/// Returns what is known of found files; of the first one, where there is none.
+///
+/// # Errors
+///
+/// `Memory`.
+fn known_files(files: &Vec<(FileSeq, Vec<u8>)>) -> Result<QueueFiles>
+    ensures ok { IfOk result (AreOf (begun_or_first (map file_shown files.now.items))) }
+    ensures room { IfOk result (λ known. known.len < 2 ^ 63) }
+    ensures memory { IfErr result (λ e. e ≡ Error.Memory) }
+{
+    if files.is_empty() {
+        return Ok(QueueFiles::first(*files.allocator(), FIRST_SEQ));
+    }
+    QueueFiles::of(files)
+}
+
+/// Returns what is known of files once this was asked, which was missing of them.
+fn known_with(known: QueueFiles, missing: &Missing) -> QueueFiles
+    ensures { result ≡ known_with missing.now known }
+{
+    match missing {
+        Missing::Cut(tail) => QueueFiles {
+            len: tail.offset,
+            ..known
+        },
+        Missing::Nothing | Missing::FirstFile => known,
+    }
+}
+
+/// Returns the last file of a queue, as a part, if there is one.
+pub fn last_part(segments: &[Segment]) -> Option<&FilePart>
+    ensures { (queue : LogQueue) (version : Version) (files : List NumberedBytes) → AreWholeFiles queue version files segments.now
+        → MatchOption result (files ≡ []) (λ part. IsLastOf queue version files part.now) }
+{
+    let (last, _) = segments.split_last()?;
+    let (part, _) = last.split_last()?;
+    Some(part)
+}
+
+/// Returns what is missing of a queue's files, of which the last has this tail.
+///
+/// # Errors
+///
+/// Those of `check_tail` and of `check_blocks`.
+fn missing_of(mode: RecoveryMode, segments: &[Segment], tail: Option<CutTail>) -> Result<Missing>
+    requires { (queue : LogQueue) × (version : Version) × (files : List NumberedBytes)
+        × AreWholeFiles queue version files segments.now × IsTailTold queue version files tail }
+    ensures ok { (queue : LogQueue) (version : Version) (files : List NumberedBytes) → AreWholeFiles queue version files segments.now
+        → IsTailTold queue version files tail → AreConsecutive (numbers files) → IfOk result (IsMissingOf mode queue version files) }
+    ensures fault { (queue : LogQueue) (version : Version) (files : List NumberedBytes) → AreWholeFiles queue version files segments.now
+        → IsTailTold queue version files tail → IfErr result (λ e. e ≢ Error.Memory → IsFoundFault mode queue version files e) }
+{
+    let Some(last) = last_part(segments) else {
+        return Ok(Missing::FirstFile);
+    };
+    check_tail(mode, last, &tail)?;
+    check_blocks(last, &tail)?;
+    match tail {
+        None => Ok(Missing::Nothing),
+        Some(tail) => Ok(Missing::Cut(tail)),
+    }
+}
+
+/// Makes the segments of a queue's found files those of the files that are there once what is missing was asked. No byte is
+/// copied.
+///
+/// # Errors
+///
+/// `Memory`.
+pub fn complete_segments(
+    queue: LogQueue,
+    version: Version,
+    missing: &Missing,
+    segments: &mut Vec<Segment>,
+) -> Result<()>
+    requires { (mode : RecoveryMode) × (files : List NumberedBytes) × AreWholeFiles queue version files segments.old.items
+        × IsMissingOf mode queue version files missing.now }
+    ensures ok { (mode : RecoveryMode) (files : List NumberedBytes) → AreWholeFiles queue version files segments.old.items
+        → IsMissingOf mode queue version files missing.now
+        → OnOk result (AreWholeFiles queue version (left_by missing.now files) segments.new.items) }
+    ensures memory { IfErr result (λ e. e ≡ Error.Memory) }
+{
+    match missing {
+        Missing::Nothing => Ok(()),
+        Missing::FirstFile => add_first(queue, version, segments),
+        Missing::Cut(tail) => cut_last(segments, tail.offset as usize),
+    }
+}
+
+/// Adds a segment of the first file of a queue, which is empty.
+///
+/// # Errors
+///
+/// `Memory`.
+fn add_first(queue: LogQueue, version: Version, segments: &mut Vec<Segment>) -> Result<()>
+    ensures ok { OnOk result (AreWholeFiles queue version [] segments.old.items
+        → AreWholeFiles queue version ((1, []) ∷ []) segments.new.items) }
+    ensures memory { IfErr result (λ e. e ≡ Error.Memory) }
+{
+    let alloc = *segments.allocator();
+    let id = FileId::new(queue, FIRST_SEQ);
+    let bytes = Vec::new(alloc);
+    let first = FilePart::new(id, version, 0, bytes)?;
+    segments.push(vec![in alloc; first]?)?;
+    Ok(())
+}
+
+/// Cuts the last file of a queue.
+///
+/// # Errors
+///
+/// `Memory`. The file may be gone then.
+fn cut_last(segments: &mut Vec<Segment>, at: usize) -> Result<()>
+    requires { (queue : LogQueue) × (version : Version) × (closed : List NumberedBytes) × (last : NumberedBytes)
+        × AreWholeFiles queue version (closed ++ last ∷ []) segments.old.items × (at ≤ length last.1) }
+    ensures ok { (queue : LogQueue) (version : Version) (files : List NumberedBytes) → AreWholeFiles queue version files segments.old.items
+        → OnOk result (AreWholeFiles queue version (cut_last at files) segments.new.items) }
+    ensures memory { IfErr result (λ e. e ≡ Error.Memory) }
+{
+    let Some(mut segment) = segments.pop() else {
+        unreachable!()
+    };
+    let Some(mut part) = segment.pop() else {
+        unreachable!()
+    };
+    part.split_off(at)?;
+    segment.push(part)?;
+    segments.push(segment)?;
+    Ok(())
+}

@@ -1,0 +1,229 @@
+//! Whether the atomic groups of batches stand in rows.
+
+ghost use Rattle.std.specs.Prelude.{◌≡◌, ◌≢◌, ◌↔◌, ℕ, List, [], ◌∷◌, ◌++◌, IfErr, IfOk, IsTrue, OnOk, map, None};
+ghost use Rattle.raft_base.specs.declared.pipe_log.LogQueue.TheVariants.{Rewrite};
+ghost use Rattle.raft_history.specs.Batches.{Event, marker_in};
+ghost use Rattle.raft_history.specs.Histories.{HaveStatus};
+ghost use Rattle.raft_records.specs.Item.{item_of};
+ghost use Rattle.raft_engine_laws.specs.GroupsInRows.{AreGroupsInRows, MayStandBy, open_by};
+ghost use Rattle.raft_engine_laws.specs.RowSummaries.{AreJoined, IsSummaryOf};
+ghost use Rattle.raft_engine.specs.RowsShown.{AreUnmarked, IsMarkedAs, IsUnmarked, marker_shown, rows_shown};
+
+use raft_base::{Error, Factory, FileId, FileSeq, LogQueue, Result};
+use raft_history::ReplayMachine;
+use raft_records::{
+    AtomicGroupStatus, LogItem, LogItemBatch, ReadBatch, ReadContent, ReadItem, is_reserved,
+};
+use std::alloc::Global;
+
+/// Why files are refused of which a group doesn't stand in a row.
+pub const OUT_OF_ROW: &str = "the batches of an atomic group don't stand in a row, in one file";
+
+/// A batch by its group marker, if it has one, and the number of its file.
+#[derive(Clone, Copy)]
+pub struct MarkedBatch {
+    pub marker: Option<(u64, AtomicGroupStatus)>,
+    pub seq: FileSeq,
+}
+
+/// What is known of the atomic groups of batches, so that neighbors know of both together whether each group stands in a row:
+/// whether each batch that goes on with a group or ends it stands right behind one that begins that group or goes on with it,
+/// in the same file.
+#[derive(Drop)]
+pub struct GroupRows {
+    /// The first batch.
+    pub first: Option<MarkedBatch>,
+    /// The group that the last batch leaves open, and the number of its file.
+    pub left: Option<(u64, FileSeq)>,
+    /// Whether each batch behind the first may stand where it does.
+    pub rest_stands: bool,
+}
+
+impl GroupRows {
+    /// Returns what is known of no batch.
+    pub fn new() -> GroupRows
+        ensures { IsSummaryOf (rows_shown result) [] }
+    {
+        GroupRows {
+            first: None,
+            left: None,
+            rest_stands: true,
+        }
+    }
+
+    /// Returns what is known of one batch.
+    fn of_batch(batch: MarkedBatch) -> GroupRows
+        ensures { (e : Event) → IsMarkedAs e batch → IsSummaryOf (rows_shown result) (e ∷ []) }
+    {
+        GroupRows {
+            first: Some(batch),
+            left: left_open(batch),
+            rest_stands: true,
+        }
+    }
+
+    /// Tests whether each atomic group of the batches stands in a row.
+    pub fn stand(&self) -> bool
+        ensures { (h : List Event) → IsSummaryOf (rows_shown self.now) h → (IsTrue result ↔ AreGroupsInRows h) }
+    {
+        match self.first {
+            Some(first) => self.rest_stands && may_stand(first, None),
+            None => self.rest_stands,
+        }
+    }
+
+    /// Takes in what is known of the batches behind.
+    fn join(&mut self, newer: GroupRows)
+        ensures { AreJoined (rows_shown self.old) (rows_shown newer) (rows_shown self.new) }
+    {
+        let Some(first) = newer.first else {
+            self.rest_stands = self.rest_stands && newer.rest_stands;
+            return;
+        };
+        let seam = self.first.is_none() || may_stand(first, self.left);
+        self.rest_stands = self.rest_stands && seam && newer.rest_stands;
+        self.left = newer.left;
+        self.first = self.first.or(newer.first);
+    }
+}
+
+impl ReplayMachine for GroupRows {
+    ghost stands_for = { λ rows h. IsSummaryOf (rows_shown rows) h };
+
+    ghost stands_exactly = { λ rows h. IsSummaryOf (rows_shown rows) h };
+
+    fn replay(&mut self, batch: LogItemBatch, file_id: FileId) -> Result<()> {
+        let items = batch.into_items();
+        let marker = group_marker(*items.allocator(), file_id.queue, items.as_slice())?;
+        self.join(GroupRows::of_batch(MarkedBatch {
+            marker,
+            seq: file_id.seq,
+        }));
+        Ok(())
+    }
+
+    fn replay_read(&mut self, batch: &ReadBatch<'_>, file_id: FileId) -> Result<()> {
+        if is_unmarked(batch, file_id.queue) {
+            self.join(GroupRows::of_batch(MarkedBatch {
+                marker: None,
+                seq: file_id.seq,
+            }));
+            return Ok(());
+        }
+        let own = batch.to_batch(batch.allocator())?;
+        self.replay(own, file_id)
+    }
+
+    fn merge(&mut self, rhs: GroupRows, _queue: LogQueue) -> Result<()> {
+        self.join(rhs);
+        Ok(())
+    }
+
+    ghost exact_stands = { λ rows h stands. stands };
+}
+
+/// Makes machines that know of no batch.
+#[derive(Drop)]
+pub struct GroupRowsFactory;
+
+impl Factory<GroupRows> for GroupRowsFactory {
+    ghost gives = { λ _ rows. IsSummaryOf (rows_shown rows) [] };
+
+    ghost may_refuse = { λ _ e. ⊥ };
+
+    fn new_target(&self, _alloc: Global) -> Result<GroupRows> {
+        Ok(GroupRows::new())
+    }
+}
+
+/// Tests whether a batch of a queue as it was read has no group marker. `false` says nothing of it.
+fn is_unmarked(batch: &ReadBatch<'_>, queue: LogQueue) -> bool
+    ensures { IsTrue result → marker_in queue batch.now ≡ None }
+{
+    match queue {
+        LogQueue::Append => true,
+        LogQueue::Rewrite => {
+            let (_, items, _) = batch.parts();
+            have_no_marker(items)
+        }
+    }
+}
+
+fn have_no_marker(items: &[ReadItem<'_>]) -> bool
+    ensures { IsTrue result → AreUnmarked items.now }
+{
+    items.iter().all(|item| is_no_marker(item))
+}
+
+fn is_no_marker(item: &ReadItem<'_>) -> bool
+    ensures { IsTrue result → IsUnmarked item.now }
+{
+    match &item.content {
+        ReadContent::Put { key, .. } => !is_reserved(key),
+        _ => true,
+    }
+}
+
+/// Returns the group marker of a batch of a queue: its first one; none in the append queue.
+///
+/// # Errors
+///
+/// `Corruption` where its status is unknown, `Memory`.
+fn group_marker(
+    alloc: Global,
+    queue: LogQueue,
+    items: &[LogItem],
+) -> Result<Option<(u64, AtomicGroupStatus)>>
+    ensures ok { IfOk result
+        (λ marker. marker_shown marker ≡ marker_in queue (map item_of items.now)) }
+    ensures refused { IfErr result
+        (λ e. e ≢ Error.Memory → ¬ (HaveStatus queue (map item_of items.now))) }
+{
+    match queue {
+        LogQueue::Append => Ok(None),
+        LogQueue::Rewrite => first_marker(alloc, items),
+    }
+}
+
+/// Returns the first group marker of items.
+///
+/// # Errors
+///
+/// `Corruption` where its status is unknown, `Memory`.
+fn first_marker(alloc: Global, items: &[LogItem]) -> Result<Option<(u64, AtomicGroupStatus)>>
+    ensures ok { IfOk result
+        (λ marker. marker_shown marker ≡ marker_in Rewrite (map item_of items.now)) }
+    ensures refused { IfErr result
+        (λ e. e ≢ Error.Memory → ¬ (HaveStatus Rewrite (map item_of items.now))) }
+{
+    for item in items {
+        let marker = AtomicGroupStatus::parse(alloc, item)?;
+        if marker.is_some() {
+            return Ok(marker);
+        }
+    }
+    Ok(None)
+}
+
+/// Tests whether a batch may stand right behind one that leaves this open.
+fn may_stand(batch: MarkedBatch, left: Option<(u64, FileSeq)>) -> bool
+    ensures { IsTrue result ↔ MayStandBy (marker_shown batch.marker) batch.seq left }
+{
+    match batch.marker {
+        None | Some((_, AtomicGroupStatus::Begin)) => true,
+        Some((group, _)) => match left {
+            Some((other, file)) => other == group && file == batch.seq,
+            None => false,
+        },
+    }
+}
+
+/// Returns what a batch leaves open.
+fn left_open(batch: MarkedBatch) -> Option<(u64, FileSeq)>
+    ensures { result ≡ open_by (marker_shown batch.marker) batch.seq }
+{
+    match batch.marker {
+        None | Some((_, AtomicGroupStatus::End)) => None,
+        Some((group, _)) => Some((group, batch.seq)),
+    }
+}

@@ -1,0 +1,51 @@
+//! A long last file, which several workers read.
+
+use crate::batches::Part::Large;
+use crate::batches::REGION;
+use crate::calls::{LogFiles, Way, copies, holds, new_engine, open_as, write};
+use crate::engine::text_of;
+use raft_base::{LogQueue, Version};
+use raft_engine::Engine;
+use raft_files::MemoryFiles;
+use raft_records::Result;
+use std::alloc::Global;
+use std::thread::Threads;
+
+/// One of four workers reads the rewrite queue, and three the append queue.
+const BY_FOUR: Way = Way {
+    version: Version::V2,
+    workers: 4,
+};
+
+/// How many bytes the file lacks at its end, and what is opened.
+static ROWS: [(usize, &str); 3] = [(0, "[1,1201)"), (1, "[1,801)"), (1_400_000, "[1,401)")];
+
+/// Makes a file of three batches of more than a MiB each, which lacks so many bytes at its end.
+fn long(alloc: Global, lacks: usize) -> Result<LogFiles> {
+    let mut engine = new_engine(alloc)?;
+    write_long(alloc, &mut engine)?;
+    let mut append = copies(&engine, LogQueue::Append)?;
+    if let Some(last) = append.last_mut() {
+        let len = last.1.len().saturating_sub(lacks);
+        last.1.truncate(len);
+    }
+    Ok(append)
+}
+
+fn write_long(alloc: Global, engine: &mut Engine<MemoryFiles>) -> Result<()> {
+    write(alloc, engine, &[Large(1, 401)], false)?;
+    write(alloc, engine, &[Large(401, 801)], false)?;
+    write(alloc, engine, &[Large(801, 1201)], false)
+}
+
+fn is_opened<R: Threads + Sync>(rt: &R, alloc: Global, row: &(usize, &str)) -> Result<bool> {
+    let engine = open_as(rt, alloc, BY_FOUR, long(alloc, row.0)?, Vec::new(alloc))??;
+    Ok(text_of(alloc, engine.accessor().get(REGION))?.as_str() == row.1)
+}
+
+#[test]
+fn a_long_last_file_is_opened(rt: HostRuntime) {
+    for row in &ROWS {
+        assert!(rt; holds!(is_opened(&rt, rt.alloc(), row)));
+    }
+}

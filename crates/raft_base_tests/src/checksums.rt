@@ -3,7 +3,7 @@
 use raft_base::util::crc32;
 
 /// Lengths, and the checksums of as many bytes that count up and begin anew after 250.
-const CHECKSUMS: [(usize, u32); 23] = [
+static CHECKSUMS: [(usize, u32); 23] = [
     (0, 0x00000000),
     (1, 0xd202ef8d),
     (7, 0xad5809f9),
@@ -29,16 +29,33 @@ const CHECKSUMS: [(usize, u32); 23] = [
     (5000, 0xc1607408),
 ];
 
-#[test]
-fn agrees_with_other_programs(rt: HostRuntime) {
-    assert_eq!(rt; crc32(b"123456789"), 0xcbf43926);
-    assert_eq!(rt; crc32(b"\xff\xff\xff\xff"), 0xffffffff);
-    assert_eq!(rt; crc32(b"abc"), 0x352441c2);
-    let mut bytes = [0u8; 5000];
+fn checksums() -> &'static [(usize, u32)] {
+    &CHECKSUMS
+}
+
+fn checksum_of(bytes: &[u8]) -> u32 {
+    crc32(bytes)
+}
+
+/// Puts numbers that count up, and begin anew after 250, in place of bytes.
+fn count_up(bytes: &mut [u8]) {
     for (k, byte) in bytes.iter_mut().enumerate() {
         *byte = (k % 251) as u8;
     }
-    for &(len, checksum) in &CHECKSUMS {
-        assert_eq!(rt; crc32(&bytes[..len.min(5000)]), checksum, "{len} bytes");
+}
+
+#[test]
+fn agrees_with_other_programs(rt: HostRuntime) {
+    assert_eq!(rt; checksum_of(b"123456789"), 0xcbf43926);
+    assert_eq!(rt; checksum_of(b"\xff\xff\xff\xff"), 0xffffffff);
+    assert_eq!(rt; checksum_of(b"abc"), 0x352441c2);
+    let mut bytes = [0u8; 5000];
+    count_up(&mut bytes);
+    for &(len, checksum) in checksums() {
+        assert_eq!(rt;
+            checksum_of(&bytes[..len.min(5000)]),
+            checksum,
+            "{len} bytes"
+        );
     }
 }

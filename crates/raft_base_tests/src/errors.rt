@@ -16,40 +16,46 @@ fn is_text_of(alloc: Global, text: &str, error: &Error) -> bool {
         || text.ends_with(": ") && printed.starts_with(text))
 }
 
-#[test]
-fn texts(rt: HostRuntime) {
-    for (error, text) in &[
-        (Error::EntryCompacted, "Entry Compacted"),
-        (Error::EntryNotFound, "Entry Not Found"),
-        (Error::Full, "Full"),
-        (Error::Memory, "Memory"),
-        (Error::Failed, "Failed"),
-        (
+/// Returns one of eleven errors, and its text.
+fn error_with_text(number: usize) -> (Error, &'static str) {
+    match number {
+        0 => (Error::EntryCompacted, "Entry Compacted"),
+        1 => (Error::EntryNotFound, "Entry Not Found"),
+        2 => (Error::Full, "Full"),
+        3 => (Error::Memory, "Memory"),
+        4 => (Error::Failed, "Failed"),
+        5 => (
             Error::Message(MessageError::Refused(7)),
             "Message Error: refused with code 7",
         ),
-        (
+        6 => (
             Error::Codec(codec::Error::KeyLength),
             "Codec Error: bad format key(length)",
         ),
-        (
+        7 => (
             Error::Codec(codec::Error::KeyPadding),
             "Codec Error: bad format key(padding)",
         ),
-        (
+        8 => (
             Error::Codec(codec::Error::KeyNotFound),
             "Codec Error: key not found",
         ),
-        (
+        9 => (
             Error::Codec(codec::Error::unexpected_eof()),
             "Codec Error: eof",
         ),
-        (
+        _ => (
             Error::Io(io::Error::new(ErrorKind::UnexpectedEof, "eof")),
             "IO Error: ",
         ),
-    ] {
-        assert!(rt; is_text_of(rt.alloc(), text, error));
+    }
+}
+
+#[test]
+fn texts(rt: HostRuntime) {
+    for number in 0..11 {
+        let (error, text) = error_with_text(number);
+        assert!(rt; is_text_of(rt.alloc(), text, &error));
     }
 }
 

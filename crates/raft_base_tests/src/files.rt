@@ -56,20 +56,48 @@ impl EngineFiles for Deaf {
     }
 }
 
+/// What files are asked for.
+#[derive(Clone, Copy)]
+enum Ask {
+    Rotate(FileSeq),
+    Append(&'static str),
+    Sync,
+    DeleteOldest,
+    Truncate(u64),
+}
+
+/// All calls, each once.
+const ASKS: [(LogQueue, Ask); 12] = [
+    (LogQueue::Append, Ask::Rotate(1)),
+    (LogQueue::Append, Ask::Append("gone")),
+    (LogQueue::Append, Ask::Rotate(2)),
+    (LogQueue::Append, Ask::Append("ab")),
+    (LogQueue::Append, Ask::Append("cde")),
+    (LogQueue::Append, Ask::Sync),
+    (LogQueue::Append, Ask::DeleteOldest),
+    (LogQueue::Append, Ask::Rotate(4)),
+    (LogQueue::Append, Ask::Append("fghi")),
+    (LogQueue::Append, Ask::Truncate(3)),
+    (LogQueue::Rewrite, Ask::Rotate(9)),
+    (LogQueue::Rewrite, Ask::Append("xyz")),
+];
+
+fn ask_for<F: EngineFiles>(files: &mut F, queue: LogQueue, asked: Ask) -> Result<()> {
+    match asked {
+        Ask::Rotate(seq) => files.rotate(queue, seq),
+        Ask::Append(text) => files.append(queue, text.as_bytes()),
+        Ask::Sync => files.sync(queue),
+        Ask::DeleteOldest => files.delete_oldest(queue),
+        Ask::Truncate(len) => files.truncate(queue, len),
+    }
+}
+
 /// Makes all calls, each once.
 fn ask_all<F: EngineFiles>(files: &mut F) -> Result<()> {
-    files.rotate(LogQueue::Append, 1)?;
-    files.append(LogQueue::Append, b"gone")?;
-    files.rotate(LogQueue::Append, 2)?;
-    files.append(LogQueue::Append, b"ab")?;
-    files.append(LogQueue::Append, b"cde")?;
-    files.sync(LogQueue::Append)?;
-    files.delete_oldest(LogQueue::Append)?;
-    files.rotate(LogQueue::Append, 4)?;
-    files.append(LogQueue::Append, b"fghi")?;
-    files.truncate(LogQueue::Append, 3)?;
-    files.rotate(LogQueue::Rewrite, 9)?;
-    files.append(LogQueue::Rewrite, b"xyz")
+    for &(queue, asked) in &ASKS {
+        ask_for(files, queue, asked)?;
+    }
+    Ok(())
 }
 
 /// Tests whether these are the files, with their bytes as text.
@@ -153,18 +181,18 @@ fn memory_is_read_by_place(rt: HostRuntime) -> Result<()> {
 /// deletion of the last file.
 fn refuses(alloc: Global) -> Result<bool> {
     let mut files = MemoryFiles::new(alloc);
-    let bytes = files.append(LogQueue::Append, b"a");
-    let cut = files.truncate(LogQueue::Append, 0);
-    files.rotate(LogQueue::Append, 3)?;
-    let number = files.rotate(LogQueue::Append, 3);
-    let last = files.delete_oldest(LogQueue::Append);
-    let refused = |answer: &Result<()>| matches!(answer, Err(Error::InvalidArgument(_)));
-    Ok(
-        refused(&bytes)
-            && refused(&cut)
-            && refused(&number)
-            && refused(&last)
-            && are(files.files(LogQueue::Append), &[(3, "")]),
+    let bytes = is_refused(&mut files, Ask::Append("a"));
+    let cut = is_refused(&mut files, Ask::Truncate(0));
+    ask_for(&mut files, LogQueue::Append, Ask::Rotate(3))?;
+    let number = is_refused(&mut files, Ask::Rotate(3));
+    let last = is_refused(&mut files, Ask::DeleteOldest);
+    Ok(bytes && cut && number && last && are(files.files(LogQueue::Append), &[(3, "")]))
+}
+
+fn is_refused(files: &mut MemoryFiles, asked: Ask) -> bool {
+    matches!(
+        ask_for(files, LogQueue::Append, asked),
+        Err(Error::InvalidArgument(_))
     )
 }
 

@@ -55,10 +55,24 @@ fn hashes() -> &'static [HashRow] {
 
 /// Returns the multiples of the alignment, if there are any, at or above and at or below the offset.
 fn multiples_round(offset: usize, alignment: usize) -> Option<(usize, usize)> {
+    Some((
+        multiple_above(offset, alignment)?,
+        multiple_below(offset, alignment)?,
+    ))
+}
+
+fn multiple_above(offset: usize, alignment: usize) -> Option<usize> {
     if alignment == 0 || offset > usize::MAX - alignment {
         return None;
     }
-    Some((round_up(offset, alignment), round_down(offset, alignment)))
+    Some(round_up(offset, alignment))
+}
+
+fn multiple_below(offset: usize, alignment: usize) -> Option<usize> {
+    if alignment == 0 {
+        return None;
+    }
+    Some(round_down(offset, alignment))
 }
 
 #[test]

@@ -9,45 +9,69 @@ use raft_base::codec::{
     decode_u16_le, decode_u32, decode_u32_le, decode_u64, decode_u64_desc, decode_u64_le,
     decode_var_i64, decode_var_u64, read_u8,
 };
-use rows::{LongRow, ShortRow, SignedRow, fixed_rows, var_rows};
+use rows::{
+    LongRow, ShortRow, SignedRow, faults, fronts, long_rows, short_rows, short_signed_rows,
+    signed_rows, spellings,
+};
 use std::io;
 use std::io::{ErrorKind, Write};
+
+/// Returns the numbers that three times eight bytes are, the first byte highest.
+fn longs_of(bytes: &[u8; 24]) -> (u64, u64, u64) {
+    (
+        BigEndian::read_u64(&bytes[0..8]),
+        BigEndian::read_u64(&bytes[8..16]),
+        BigEndian::read_u64(&bytes[16..24]),
+    )
+}
+
+fn write_u64(number: u64, mut out: &mut [u8]) -> codec::Result<()> {
+    out.encode_u64(number)?;
+    out.encode_u64_desc(number)?;
+    out.encode_u64_le(number)
+}
+
+fn read_u64(mut buf: &[u8]) -> codec::Result<(u64, u64, u64)> {
+    Ok((
+        decode_u64(&mut buf)?,
+        decode_u64_desc(&mut buf)?,
+        decode_u64_le(&mut buf)?,
+    ))
+}
 
 /// Tests whether the row is written, and read back.
 fn is_u64_row(row: LongRow) -> codec::Result<bool> {
     let (number, ascending, descending, lowest_first) = row;
     let mut bytes = [0; 24];
-    let mut out: &mut [u8] = &mut bytes;
-    out.encode_u64(number)?;
-    out.encode_u64_desc(number)?;
-    out.encode_u64_le(number)?;
-    let mut buf: &[u8] = &bytes;
+    write_u64(number, &mut bytes)?;
     Ok(
-        BigEndian::read_u64(&buf[0..8]) == ascending
-            && BigEndian::read_u64(&buf[8..16]) == descending
-            && BigEndian::read_u64(&buf[16..24]) == lowest_first
-            && decode_u64(&mut buf)? == number
-            && decode_u64_desc(&mut buf)? == number
-            && decode_u64_le(&mut buf)? == number,
+        longs_of(&bytes) == (ascending, descending, lowest_first)
+            && read_u64(&bytes)? == (number, number, number),
     )
+}
+
+fn write_i64(number: i64, mut out: &mut [u8]) -> codec::Result<()> {
+    out.encode_i64(number)?;
+    out.encode_i64_desc(number)?;
+    out.encode_i64_le(number)
+}
+
+fn read_i64(mut buf: &[u8]) -> codec::Result<(i64, i64, i64)> {
+    Ok((
+        decode_i64(&mut buf)?,
+        decode_i64_desc(&mut buf)?,
+        decode_i64_le(&mut buf)?,
+    ))
 }
 
 /// Tests whether the row is written, and read back.
 fn is_i64_row(row: SignedRow) -> codec::Result<bool> {
     let (number, ascending, descending, lowest_first) = row;
     let mut bytes = [0; 24];
-    let mut out: &mut [u8] = &mut bytes;
-    out.encode_i64(number)?;
-    out.encode_i64_desc(number)?;
-    out.encode_i64_le(number)?;
-    let mut buf: &[u8] = &bytes;
+    write_i64(number, &mut bytes)?;
     Ok(
-        BigEndian::read_u64(&buf[0..8]) == ascending
-            && BigEndian::read_u64(&buf[8..16]) == descending
-            && BigEndian::read_u64(&buf[16..24]) == lowest_first
-            && decode_i64(&mut buf)? == number
-            && decode_i64_desc(&mut buf)? == number
-            && decode_i64_le(&mut buf)? == number,
+        longs_of(&bytes) == (ascending, descending, lowest_first)
+            && read_i64(&bytes)? == (number, number, number),
     )
 }
 
@@ -62,22 +86,43 @@ fn is_short_row(row: ShortRow) -> codec::Result<bool> {
         short_lowest_first,
     ) = row;
     let mut bytes = [0; 12];
-    let mut out: &mut [u8] = &mut bytes;
+    write_shorts(long, short, &mut bytes)?;
+    Ok(
+        shorts_of(&bytes)
+            == (
+                long_highest_first,
+                long_lowest_first,
+                short_highest_first,
+                short_lowest_first,
+            )
+            && read_shorts(&bytes)? == (long, long, short, short),
+    )
+}
+
+fn write_shorts(long: u32, short: u16, mut out: &mut [u8]) -> codec::Result<()> {
     out.encode_u32(long)?;
     out.encode_u32_le(long)?;
     out.encode_u16(short)?;
-    out.encode_u16_le(short)?;
-    let mut buf: &[u8] = &bytes;
-    Ok(
-        BigEndian::read_u32(&buf[0..4]) == long_highest_first
-            && BigEndian::read_u32(&buf[4..8]) == long_lowest_first
-            && BigEndian::read_u16(&buf[8..10]) == short_highest_first
-            && BigEndian::read_u16(&buf[10..12]) == short_lowest_first
-            && decode_u32(&mut buf)? == long
-            && decode_u32_le(&mut buf)? == long
-            && decode_u16(&mut buf)? == short
-            && decode_u16_le(&mut buf)? == short,
+    out.encode_u16_le(short)
+}
+
+/// Returns the numbers that twice four and twice two bytes are, the first byte highest.
+fn shorts_of(bytes: &[u8; 12]) -> (u32, u32, u16, u16) {
+    (
+        BigEndian::read_u32(&bytes[0..4]),
+        BigEndian::read_u32(&bytes[4..8]),
+        BigEndian::read_u16(&bytes[8..10]),
+        BigEndian::read_u16(&bytes[10..12]),
     )
+}
+
+fn read_shorts(mut buf: &[u8]) -> codec::Result<(u32, u32, u16, u16)> {
+    Ok((
+        decode_u32(&mut buf)?,
+        decode_u32_le(&mut buf)?,
+        decode_u16(&mut buf)?,
+        decode_u16_le(&mut buf)?,
+    ))
 }
 
 /// Tests whether the row is written, and read back.
@@ -92,17 +137,16 @@ fn is_i32_row(row: (i32, u32)) -> codec::Result<bool> {
 
 #[test]
 fn numbers_of_a_fixed_width(rt: HostRuntime) {
-    let (longs, signed, shorts, signed_shorts) = fixed_rows();
-    for &row in longs {
+    for &row in long_rows() {
         assert!(rt; matches!(is_u64_row(row), Ok(true)), "{}", row.0);
     }
-    for &row in signed {
+    for &row in signed_rows() {
         assert!(rt; matches!(is_i64_row(row), Ok(true)), "{}", row.0);
     }
-    for &row in shorts {
+    for &row in short_rows() {
         assert!(rt; matches!(is_short_row(row), Ok(true)), "{}", row.0);
     }
-    for &row in signed_shorts {
+    for &row in short_signed_rows() {
         assert!(rt; matches!(is_i32_row(row), Ok(true)), "{}", row.0);
     }
 }
@@ -148,16 +192,15 @@ fn are_u16_in_order(low: u16, high: u16) -> codec::Result<bool> {
 /// Tests that the numbers rise from row to row, and their bytes with them.
 #[test]
 fn bytes_are_in_the_order_of_the_numbers(rt: HostRuntime) {
-    let (longs, signed, shorts, _) = fixed_rows();
-    for pair in longs.windows(2) {
+    for pair in long_rows().windows(2) {
         let (low, high) = (pair[0].0, pair[1].0);
         assert!(rt; matches!(are_u64_in_order(low, high), Ok(true)), "{low}");
     }
-    for pair in signed.windows(2) {
+    for pair in signed_rows().windows(2) {
         let (low, high) = (pair[0].0, pair[1].0);
         assert!(rt; matches!(are_i64_in_order(low, high), Ok(true)), "{low}");
     }
-    for pair in shorts.windows(2) {
+    for pair in short_rows().windows(2) {
         let (low, high) = (pair[0].0, pair[1].0);
         assert!(rt; matches!(are_u32_in_order(low, high), Ok(true)), "{low}");
         let (low, high) = (pair[0].1, pair[1].1);
@@ -195,8 +238,7 @@ fn is_refusal<T: Drop>(read: codec::Result<T>, kind: ErrorKind) -> bool {
 
 #[test]
 fn numbers_in_base_128(rt: HostRuntime) {
-    let (spellings, fronts, faults) = var_rows();
-    for &(number, signed, spelling) in spellings {
+    for &(number, signed, spelling) in spellings() {
         assert!(rt;
             matches!(are_written(number, signed, spelling), Ok(true)),
             "{number}"
@@ -206,13 +248,13 @@ fn numbers_in_base_128(rt: HostRuntime) {
             "{number}"
         );
     }
-    for &(bytes, number, signed, left) in fronts {
+    for &(bytes, number, signed, left) in fronts() {
         assert!(rt;
             matches!(are_read(bytes, number, signed, left), Ok(true)),
             "at {bytes:?}"
         );
     }
-    for &(bytes, kind) in faults {
+    for &(bytes, kind) in faults() {
         let mut buf = bytes;
         assert!(rt; is_refusal(decode_var_u64(&mut buf), kind), "at {bytes:?}");
         assert!(rt; is_refusal(decode_var_i64(&mut buf), kind), "at {bytes:?}");
@@ -256,20 +298,28 @@ fn slices_that_are_too_short(rt: HostRuntime) {
 
 /// Writes a number by each encoder, and one that takes a byte.
 fn encode_all<W: Write>(out: &mut W) -> codec::Result<()> {
+    encode_highest_first(out)?;
+    encode_lowest_first(out)?;
+    out.encode_var_u64(1024)?;
+    out.encode_var_i64(-1024)?;
+    out.encode_var_u64(1)
+}
+
+fn encode_highest_first<W: Write>(out: &mut W) -> codec::Result<()> {
     out.encode_u64(1)?;
     out.encode_u32(1)?;
     out.encode_u16(1)?;
     out.encode_u64_desc(1)?;
     out.encode_i64(1)?;
-    out.encode_i64_desc(1)?;
+    out.encode_i64_desc(1)
+}
+
+fn encode_lowest_first<W: Write>(out: &mut W) -> codec::Result<()> {
     out.encode_u16_le(1)?;
     out.encode_u32_le(1)?;
     out.encode_u64_le(1)?;
     out.encode_i32_le(-1023)?;
-    out.encode_i64_le(1)?;
-    out.encode_var_u64(1024)?;
-    out.encode_var_i64(-1024)?;
-    out.encode_var_u64(1)
+    out.encode_i64_le(1)
 }
 
 /// What all encoders write, one after the other.

@@ -46,38 +46,70 @@ impl PipeLog for SmallPipe {
     }
 }
 
-#[test]
-fn pipes_are_asked_for_parts(rt: HostRuntime) {
-    assert_eq!(rt; SmallPipe.file_at(LogQueue::Append, 0, 1), 3);
-    assert_eq!(rt; SmallPipe.file_at(LogQueue::Append, 1, 1), 8);
-    for &(num, file) in &[(0, 3), (1, 5), (2, 8), (3, 8)] {
-        assert_eq!(rt; SmallPipe.file_at(LogQueue::Append, num, 2), file);
+fn small_file_at(num: u64, den: u64) -> FileSeq {
+    SmallPipe.file_at(LogQueue::Append, num, den.max(1))
+}
+
+/// Returns how many bytes the pipe appends.
+fn appended_len(mut bytes: &&str) -> Option<usize> {
+    match SmallPipe.append(LogQueue::Rewrite, &mut bytes) {
+        Ok(place) => Some(place.len),
+        Err(_) => None,
     }
-    let mut bytes = &"abcd";
-    assert!(rt; bytes.ready());
-    let place = SmallPipe.append(LogQueue::Rewrite, &mut bytes);
-    assert!(rt; matches!(place, Ok(place) if place.len == 4));
 }
 
 #[test]
-fn files_and_versions_have_numbers(rt: HostRuntime) {
+fn pipes_are_asked_for_parts(rt: HostRuntime) {
+    assert_eq!(rt; small_file_at(0, 1), 3);
+    assert_eq!(rt; small_file_at(1, 1), 8);
+    for &(num, file) in &[(0, 3), (1, 5), (2, 8), (3, 8)] {
+        assert_eq!(rt; small_file_at(num, 2), file);
+    }
+    let bytes = &"abcd";
+    assert!(rt; bytes.ready());
+    assert!(rt; appended_len(bytes) == Some(4));
+}
+
+fn is_before(old: FileId, new: FileId) -> bool {
+    old < new
+}
+
+fn later(old: FileId, new: FileId) -> FileId {
+    new.max(old)
+}
+
+#[test]
+fn files_and_queues_have_numbers(rt: HostRuntime) {
     let old = FileId::new(LogQueue::Rewrite, u64::MAX);
     let new = FileId::new(LogQueue::Append, 0);
-    assert!(rt; old < new);
-    assert!(rt; new < FileId::new(LogQueue::Append, 1));
-    assert_eq!(rt; new.max(old), new);
-    assert_eq!(rt; LogQueue::Append as u8, 0);
-    assert_eq!(rt; LogQueue::Rewrite as u8, 1);
+    assert!(rt; is_before(old, new));
+    assert!(rt; is_before(new, FileId::new(LogQueue::Append, 1)));
+    assert!(rt; later(old, new) == new);
+    assert!(rt; LogQueue::Append as u8 == 0);
+    assert!(rt; LogQueue::Rewrite as u8 == 1);
+}
+
+/// Tests whether a version is printed so.
+fn is_printed(version: Version, text: &str) -> bool {
+    let printed = InlineText::<32>::of(version);
+    printed.as_str() == text
+}
+
+fn version_of(number: u64) -> Option<Version> {
+    Version::from_u64(number)
+}
+
+#[test]
+fn versions_have_numbers(rt: HostRuntime) {
     for &(version, text, number, signs) in &[
         (Version::V1, "1", 1, false),
         (Version::V2, "2", 2, true),
     ] {
-        let printed = InlineText::<32>::of(version);
-        assert_eq!(rt; printed.as_str(), text);
-        assert_eq!(rt; version.to_u64(), number);
-        assert_eq!(rt; version.has_log_signing(), signs);
+        assert!(rt; is_printed(version, text));
+        assert!(rt; version.to_u64() == number);
+        assert!(rt; version.has_log_signing() == signs);
     }
-    assert_eq!(rt; Version::default(), Version::V1);
+    assert!(rt; Version::default() == Version::V1);
     for &(number, version) in &[
         (0, None),
         (1, Some(Version::V1)),
@@ -85,7 +117,7 @@ fn files_and_versions_have_numbers(rt: HostRuntime) {
         (3, None),
         (u64::MAX, None),
     ] {
-        assert_eq!(rt; Version::from_u64(number), version);
+        assert!(rt; version_of(number) == version, "{number}");
     }
 }
 

@@ -245,21 +245,37 @@ static FAULTS: [FaultRow; 9] = [
     ),
 ];
 
-/// Returns the rows of numbers whose bytes are of a fixed count.
-pub(super) fn fixed_rows() -> (
-    &'static [LongRow],
-    &'static [SignedRow],
-    &'static [ShortRow],
-    &'static [(i32, u32)],
-) {
-    (&U64_ROWS, &I64_ROWS, &SHORT_ROWS, &I32_ROWS)
+/// Returns the rows of numbers of eight bytes.
+pub(super) fn long_rows() -> &'static [LongRow] {
+    &U64_ROWS
 }
 
-/// Returns the rows of the other numbers.
-pub(super) fn var_rows() -> (
-    &'static [SpellingRow],
-    &'static [FrontRow],
-    &'static [FaultRow],
-) {
-    (&SPELLINGS, &FRONTS, &FAULTS)
+/// Returns the rows of numbers of eight bytes that have a sign.
+pub(super) fn signed_rows() -> &'static [SignedRow] {
+    &I64_ROWS
+}
+
+/// Returns the rows of numbers of four bytes and of two.
+pub(super) fn short_rows() -> &'static [ShortRow] {
+    &SHORT_ROWS
+}
+
+/// Returns the rows of numbers of four bytes that have a sign.
+pub(super) fn short_signed_rows() -> &'static [(i32, u32)] {
+    &I32_ROWS
+}
+
+/// Returns the rows of numbers whose bytes are of another count for each.
+pub(super) fn spellings() -> &'static [SpellingRow] {
+    &SPELLINGS
+}
+
+/// Returns the rows of bytes that begin with a number.
+pub(super) fn fronts() -> &'static [FrontRow] {
+    &FRONTS
+}
+
+/// Returns the rows of bytes that don't.
+pub(super) fn faults() -> &'static [FaultRow] {
+    &FAULTS
 }

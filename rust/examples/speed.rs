@@ -2,6 +2,7 @@
 //!
 //! A round writes batches of eight entries of 128 bytes and a key, each by one call, for half a second: without and with a sync, from
 //! one thread and from four. Then it recovers a log of so many megabytes from memory, and opens its folder, on 1, 2 and 4 threads.
+//! At last it reads entries of the log by one call each: of ten blocks in turn, and of a hundred regions in order.
 
 use raft_recover::{Engine, FilePart, LogBatch, LogFile, Options, Queue, Result, recover};
 use std::time::{Duration, Instant};
@@ -74,6 +75,34 @@ fn read(folder: &Path) -> Result<Vec<(LogFile, Vec<u8>)>> {
     Ok(files)
 }
 
+/// Reads these entries of regions, each by one call, and returns how many nanoseconds one takes.
+fn get(engine: &Engine, entries: impl Iterator<Item = (u64, u64)>) -> Result<f64> {
+    let (begun, mut count) = (Instant::now(), 0.0);
+    for (region, index) in entries {
+        engine.entry(region, index)?.expect("it was written");
+        count += 1.0;
+    }
+    Ok(begun.elapsed().as_secs_f64() * 1e9 / count)
+}
+
+/// Returns how many nanoseconds an entry takes of ten blocks that are read in turn, so that they are kept, and one of a hundred
+/// regions that are read in order: the best of so many rounds.
+fn get_all(log: &Path, rounds: u64) -> Result<[f64; 2]> {
+    let engine = Engine::open(log, Options::new())?;
+    let mut indexes = Vec::new();
+    for region in 0..100 {
+        let last = engine.last_index(region)?.expect("it was written");
+        indexes.extend((1..=last).map(|index| (region, index)));
+    }
+    let mut best = [f64::MAX; 2];
+    for _ in 0..rounds {
+        let kept = get(&engine, (0..100_000).map(|n| (n % 10, n % 8 + 1)))?;
+        let in_order = get(&engine, indexes.iter().copied())?;
+        best = [best[0].min(kept), best[1].min(in_order)];
+    }
+    Ok(best)
+}
+
 /// Returns how many milliseconds a call takes.
 fn time<T>(call: impl FnOnce() -> Result<T>) -> Result<f64> {
     let begun = Instant::now();
@@ -120,6 +149,8 @@ fn main() -> std::result::Result<(), Box<dyn std::error::Error>> {
         let (recovered, opened) = (recovered[i], opened[i]);
         println!("{threads} threads: recovered in {recovered:.0} ms, opened in {opened:.0} ms");
     }
+    let [kept, in_order] = get_all(&log, rounds)?;
+    println!("an entry of blocks in turn: {kept:.0} ns, of regions in order: {in_order:.0} ns");
     Ok(())
 }
 

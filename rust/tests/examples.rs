@@ -114,7 +114,11 @@ fn the_times_of_an_engine_are_told() {
         .iter()
         .filter(|line| line.ends_with(" a second") || line.ends_with(" a sync"));
     let read = said.iter().filter(|line| line.contains("ms, opened in "));
-    assert_eq!((written.count(), read.count(), said.len()), (4, 3, 7));
+    let got = said
+        .iter()
+        .filter(|line| line.starts_with("an entry of ") && line.ends_with(" ns"));
+    assert_eq!((written.count(), read.count(), got.count()), (4, 3, 1));
+    assert_eq!(said.len(), 8);
 }
 
 #[test]

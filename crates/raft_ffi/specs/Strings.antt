@@ -8,6 +8,11 @@ abbrev pub entries_from : ℕ → List ℕ → List EntryIndex
 entries_from first [] = []
 entries_from first (len ∷ lens) = entry_with_index first ∷ entries_from (first + 1) lens
 
+-- the same ones, of these lengths
+abbrev pub sized_entries : ℕ → List ℕ → List EntryIndex
+sized_entries first [] = []
+sized_entries first (len ∷ lens) = record (entry_with_index first) { entry_len = len } ∷ sized_entries (first + 1) lens
+
 -- the bytes cut into strings of these lengths, in turn
 abbrev pub strings_of : List ℕ → List ℕ → List (List ℕ)
 strings_of [] bytes = []

@@ -89,6 +89,6 @@ pub use Rattle.raft_ffi.specs.Pairs.{AreInKeyOrder, ArePairsIn, AreScanned, AreS
 pub use Rattle.raft_ffi.specs.Reads.{AreRegionsIn, IsEntryIn, IsFetched, IsSummaryIn, IsValueIn, value_in}
 pub use Rattle.raft_ffi.specs.Rooms.{AreEntriesIn, HasText, IsCopied, IsCopiedIfAny, IsRefusedFor, IsTextIn, IsTextOf, copied_over}
 pub use Rattle.raft_ffi.specs.Slots.{AcceptsShareOncePlaced, IsAppendTested, IsMoveFault, IsMoved, IsShareRefused, share_of}
-pub use Rattle.raft_ffi.specs.Strings.{HasStrings, entries_from, strings_of}
+pub use Rattle.raft_ffi.specs.Strings.{HasStrings, entries_from, sized_entries, strings_of}
 pub use Rattle.raft_ffi.specs.Summaries.{number_in}
 pub use Rattle.raft_ffi.specs.Taking.{IsTaking, IsWaiting}

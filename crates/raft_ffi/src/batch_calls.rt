@@ -1,8 +1,8 @@
 //! Calls of batches that are written: items are added to one, its bytes are made, and signed for a file.
 
 ghost use Rattle.std.specs.Prelude.{◌≡◌, ◌≢◌, ℕ, ◌+◌, ◌-◌, ◌^◌, ◌<◌, ◌≤◌, [], IsTrue, IfErr, OnOk, OnErr, Option, Some, None, is_some, length, map, IfOk};
-ghost use Rattle.raft_ffi.specs.Words.{AllHold, BothHold, HasStrings, HasText, HaveSmallNumbers, Holds, IsChangedIfMemory, IsChangedOrRefused, IsCopied, IsKeyRefusal, IsLogBatch, IsMadeIfMemory, IsRead, IsSealedStage, approximate_length};
-ghost use Rattle.raft_ffi.specs.Words.{at_stage, bare, command_item, concat, empty_batch, encoded, encoded_length, entries_from, file_of, is_open, log_batch_bytes, pair_item, place_at, reserved_key, sealed, signature_of, stage_number};
+ghost use Rattle.raft_ffi.specs.Words.{AllByRecursion, AllHold, BothHold, HasStrings, HasText, HaveSmallNumbers, Holds, IsChangedIfMemory, IsChangedOrRefused, IsCopied, IsKeyRefusal, IsLogBatch, IsMadeIfMemory, IsRead, IsSealedStage, approximate_length};
+ghost use Rattle.raft_ffi.specs.Words.{at_stage, bare, command_item, concat, empty_batch, encoded, encoded_length, entries_from, file_of, is_open, log_batch_bytes, pair_item, place_at, reserved_key, sealed, signature_of, sized_entries, stage_number};
 ghost use Rattle.raft_ffi.specs.Words.{strings_of, with_batch, with_entries_added, with_item, written_to, Clean, Compact, Truncate, Put, Del};
 
 use crate::handles::{Batch, Handle, Items, or_told, told, with};
@@ -11,6 +11,9 @@ use crate::status::{File, Status, copy_front, memory_code, queue};
 use raft_base::{CompressionType, EntryIndex, Error, FileBlockHandle, FileId, Result};
 use raft_records::{Command, LogBatch};
 use std::alloc::Global;
+
+/// How many bytes the entries of a batch have at most.
+const MOST_ENTRY_BYTES: usize = (1 << 31) - 1;
 
 /// Makes an open batch without items.
 #[unsafe(no_mangle)]
@@ -98,9 +101,12 @@ fn add_entries(
     let [_, ..] = lens else {
         return Ok(());
     };
-    let indexes = consecutive(alloc, first, lens)?;
-    let strings = strings(alloc, lens, bytes)?;
-    batch.add_raw_entries(region, indexes, strings)
+    let joined = joined(lens, bytes);
+    if joined.len() > MOST_ENTRY_BYTES {
+        return Err(Error::Full);
+    }
+    let entries = sized(alloc, first, lens)?;
+    batch.add_joined_entries(region, entries, joined)
 }
 
 /// Adds to an open batch that all records of a region go.
@@ -311,35 +317,35 @@ pub extern "C" fn raft_ffi_batch_drop(batch: Batch)
     drop(batch.into_box());
 }
 
-fn consecutive(alloc: Global, first: u64, lens: &[usize]) -> Result<Vec<EntryIndex>>
-    requires { first + length lens.now < 2 ^ 64 }
-    ensures ok { IfOk result (λ v. v.items ≡ entries_from first lens.now) }
+/// Returns the bytes of all strings of these lengths, which are the first ones.
+fn joined<'a>(lens: &[usize], bytes: &'a [u8]) -> &'a [u8]
+    requires { HasStrings lens.now bytes.now }
+    ensures { result.now ≡ concat (strings_of lens.now bytes.now) }
+{
+    let mut rest = bytes;
+    for len in lens {
+        let (_, after) = rest.split_at(*len);
+        rest = after;
+    }
+    &bytes[..bytes.len() - rest.len()]
+}
+
+/// Returns entries of these lengths, whose indexes rise by one from `first` on.
+fn sized(alloc: Global, first: u64, lens: &[usize]) -> Result<Vec<EntryIndex>>
+    requires indexes { first + length lens.now < 2 ^ 64 }
+    requires lengths { AllByRecursion (λ len. len < 2 ^ 32) lens.now }
+    ensures ok { IfOk result (λ entries. entries.items ≡ sized_entries first lens.now) }
     ensures memory { IfErr result (λ e. e ≡ Error.Memory) }
 {
-    let mut found = Vec::with_capacity(alloc, lens.len())?;
+    let mut entries = Vec::with_capacity(alloc, lens.len())?;
     for k in 0..lens.len() {
-        found.push(EntryIndex {
+        entries.push(EntryIndex {
             index: first + k as u64,
             entries: None,
             compression_type: CompressionType::None,
             entry_offset: 0,
-            entry_len: 0,
+            entry_len: lens[k] as u32,
         })?;
     }
-    Ok(found)
-}
-
-fn strings(alloc: Global, lens: &[usize], bytes: &[u8]) -> Result<Vec<Vec<u8>>>
-    requires { HasStrings lens.now bytes.now }
-    ensures ok { IfOk result (λ v. map (λ s. s.items) v.items ≡ strings_of lens.now bytes.now) }
-    ensures memory { IfErr result (λ e. e ≡ Error.Memory) }
-{
-    let mut found = Vec::with_capacity(alloc, lens.len())?;
-    let mut rest = bytes;
-    for len in lens {
-        let (string, after) = rest.split_at(*len);
-        found.push(Vec::from_slice(alloc, string)?)?;
-        rest = after;
-    }
-    Ok(found)
+    Ok(entries)
 }

@@ -26,6 +26,8 @@ struct Line {
     unsynced: Vec<Commit>,
     /// Those whose threads may go on.
     over: Vec<Commit>,
+    /// Empty batches, which stand in for those that were handed in.
+    spare: Vec<LogBatch>,
     /// Whether a thread leads.
     is_led: bool,
     /// How many threads wait for the one that leads.
@@ -75,12 +77,12 @@ impl Commits {
         sync: bool,
         lead: impl Fn(&mut Group<'_>),
     ) -> Result<()> {
-        let handed = mem::replace(batch, LogBatch::new()?);
         let mut line = locks::lock(&self.line);
-        let ticket = line.hand_in(handed, sync);
+        let spare = line.spare.pop().map_or_else(LogBatch::new, Ok)?;
+        let ticket = line.hand_in(mem::replace(batch, spare), sync);
         loop {
             if let Some(over) = line.over_of(ticket) {
-                *batch = over.batch;
+                line.spare.push(mem::replace(batch, over.batch));
                 return over.result.unwrap_or_else(|| Err(Error::failed()));
             }
             if line.is_led || (!sync && !line.unsynced.is_empty()) {

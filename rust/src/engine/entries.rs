@@ -167,6 +167,43 @@ impl fmt::Debug for Entries {
     }
 }
 
+/// The bytes of one entry, among those of its block.
+pub(super) struct EntryBytes {
+    block: Arc<Vec<u8>>,
+    bytes: Range<usize>,
+}
+
+impl EntryBytes {
+    /// Reads an entry of a region, with its block, which is kept.
+    ///
+    /// # Errors
+    ///
+    /// Those of [`Entries::read`].
+    pub(super) fn read<F: Files>(
+        engine: &Engine<F>,
+        region: u64,
+        entry: &Entry,
+    ) -> Result<EntryBytes> {
+        let of_entry = |e: Error| e.of_entry(region, entry.index);
+        let block = match engine.kept_blocks.get(entry.block) {
+            Some(kept) => kept,
+            None => {
+                let read = read_entry_bytes(engine, entry.block).map_err(of_entry)?;
+                let read = Arc::new(read);
+                engine.kept_blocks.keep(entry.block, &read);
+                read
+            }
+        };
+        let bytes = bytes_of(entry, block.len()).map_err(of_entry)?;
+        Ok(EntryBytes { block, bytes })
+    }
+
+    /// Lends them.
+    pub(super) fn as_slice(&self) -> &[u8] {
+        &self.block[self.bytes.clone()]
+    }
+}
+
 /// Returns so many zeros.
 ///
 /// # Errors

@@ -21,11 +21,12 @@ struct Kept {
 }
 
 impl KeptBlocks {
-    /// Returns the entry bytes of a block, if they are kept.
+    /// Returns the entry bytes of a block, if they are kept: it is the one that was read last then.
     pub(super) fn get(&self, block: Block) -> Option<Arc<Vec<u8>>> {
-        let all = locks::lock(&self.0);
-        let found = all.iter().rfind(|kept| kept.block == block)?;
-        Some(found.bytes.clone())
+        let mut all = locks::lock(&self.0);
+        let at = all.iter().rposition(|kept| kept.block == block)?;
+        all[at..].rotate_left(1);
+        all.last().map(|kept| kept.bytes.clone())
     }
 
     /// Keeps the entry bytes of a block that was read, in place of those that were read longest ago.

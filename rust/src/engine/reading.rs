@@ -1,5 +1,6 @@
 //! An engine is read.
 
+use super::entries::EntryBytes;
 use super::{Engine, Entries, Pairs, pairs};
 use crate::sys::EngineHandle;
 use crate::{Entry, Error, ErrorKind, Files, Result, Summary};
@@ -27,10 +28,7 @@ impl<F: Files> Engine<F> {
     /// `Corruption` where its bytes were damaged since they were written, with the file and the offset of its block; `Io`, `Memory`,
     /// `Failed`.
     pub fn entry(&self, region: u64, index: u64) -> Result<Option<Vec<u8>>> {
-        let mut entries = self.read(region, |tables| {
-            Ok(Vec::from_iter(tables.entry(region, index)))
-        })?;
-        Ok(entries.next())
+        self.entry_with(region, index, <[u8]>::to_vec)
     }
 
     /// Lends an entry of a region to a call, if there is one, and returns what that returns. The bytes aren't copied.
@@ -55,10 +53,16 @@ impl<F: Files> Engine<F> {
         index: u64,
         call: impl FnOnce(&[u8]) -> T,
     ) -> Result<Option<T>> {
-        let entries = self.read(region, |tables| {
-            Ok(Vec::from_iter(tables.entry(region, index)))
-        })?;
-        Ok(entries.iter().next().map(|(_, bytes)| call(bytes)))
+        let found = self.read(
+            |tables| Ok(tables.entry(region, index)),
+            |found| {
+                let read = found
+                    .as_ref()
+                    .map(|entry| EntryBytes::read(self, region, entry));
+                read.transpose()
+            },
+        )?;
+        Ok(found.map(|entry| call(entry.as_slice())))
     }
 
     /// Lends the entries of a range of indexes to a call, one after another, each with its index. They aren't copied, and all of
@@ -110,7 +114,10 @@ impl<F: Files> Engine<F> {
     /// begins; `EntryNotFound` where it ends behind the last one, or the region has none, with the last index of the range.
     /// `Corruption` where bytes were damaged since they were written; `Io`, `Memory`, `Failed`.
     pub fn entries(&self, region: u64, range: impl RangeBounds<u64>) -> Result<Entries> {
-        self.read(region, |tables| places(tables, region, &range, None))
+        self.read(
+            |tables| places(tables, region, &range, None),
+            |found| Entries::read(self, region, found),
+        )
     }
 
     /// Returns the entries of a range of indexes up to `max_size` bytes in all, and one at least.
@@ -135,9 +142,10 @@ impl<F: Files> Engine<F> {
         range: impl RangeBounds<u64>,
         max_size: u64,
     ) -> Result<Entries> {
-        self.read(region, |tables| {
-            places(tables, region, &range, Some(max_size))
-        })
+        self.read(
+            |tables| places(tables, region, &range, Some(max_size)),
+            |found| Entries::read(self, region, found),
+        )
     }
 
     /// Returns the value of a region's key, if there is one.
@@ -263,27 +271,26 @@ impl<F: Files> Engine<F> {
         self.look_up(EngineHandle::regions)
     }
 
-    /// Reads the entries of a region that a call finds. Their bytes may move before they are read: then they are found again, at last in a
-    /// turn, in which none moves.
-    fn read(
+    /// Reads what a call finds, by another one. It may move before it is read: then it is found again, at last in a turn, in which
+    /// nothing moves.
+    fn read<P: PartialEq, T>(
         &self,
-        region: u64,
-        find: impl Fn(&mut EngineHandle) -> Result<Vec<Entry>>,
-    ) -> Result<Entries> {
+        find: impl Fn(&mut EngineHandle) -> Result<P>,
+        read: impl Fn(&P) -> Result<T>,
+    ) -> Result<T> {
         let mut before = None;
         for _ in 0..LOOK_UPS {
             let found = self.look_up(&find)?;
             if before.as_ref() == Some(&found) {
-                break; // they haven't moved
+                break; // it hasn't moved
             }
-            if let Ok(entries) = Entries::read(self, region, &found) {
-                return Ok(entries);
+            if let Ok(answer) = read(&found) {
+                return Ok(answer);
             }
             before = Some(found);
         }
         let _turn = self.turns.take();
-        let found = self.look_up(&find)?;
-        Entries::read(self, region, &found)
+        read(&self.look_up(&find)?)
     }
 
     /// Makes a call that reads the tables.

@@ -32,10 +32,7 @@ impl LogBatch {
                 batch.handle.add_entry(region, first, entry.as_ref())
             });
         }
-        self.room.clear();
-        for entry in entries {
-            self.room.push(entry.as_ref())?;
-        }
+        self.room.pack(entries)?;
         self.add_packed(region, first)
     }
 

@@ -56,12 +56,30 @@ impl Packed {
         (&self.lens, &self.bytes)
     }
 
+    /// Packs entries in place of those that are there, in room that is made once for all.
+    ///
+    /// # Errors
+    ///
+    /// `Memory`.
+    pub(crate) fn pack<E: AsRef<[u8]>>(&mut self, entries: &[E]) -> Result<()> {
+        self.clear();
+        let mut lens = entries.iter().map(|entry| entry.as_ref().len());
+        let bytes = lens.try_fold(0usize, usize::checked_add);
+        let room = self.lens.try_reserve(entries.len());
+        room.map_err(|_| Error::memory())?;
+        let room = self.bytes.try_reserve(bytes.ok_or_else(Error::memory)?);
+        room.map_err(|_| Error::memory())?;
+        entries
+            .iter()
+            .try_for_each(|entry| self.push(entry.as_ref()))
+    }
+
     /// Packs an entry.
     ///
     /// # Errors
     ///
     /// `Memory`.
-    pub(crate) fn push(&mut self, entry: &[u8]) -> Result<()> {
+    fn push(&mut self, entry: &[u8]) -> Result<()> {
         self.lens.try_reserve(1).map_err(|_| Error::memory())?;
         self.bytes
             .try_reserve(entry.len())

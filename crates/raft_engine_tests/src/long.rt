@@ -11,7 +11,7 @@ use raft_records::Result;
 use std::alloc::Global;
 use std::thread::Threads;
 
-/// One of four workers reads the rewrite queue, and three the append queue.
+/// All four workers read the append queue, as there are no rewrite files.
 const BY_FOUR: Way = Way {
     version: Version::V2,
     workers: 4,

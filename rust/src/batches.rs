@@ -113,7 +113,7 @@ impl Iterator for Batches<'_> {
                 Some(Ok(Batch::of(handle)))
             }
             Ok(None) => None,
-            Err(e) => Some(Err(placed(e, self.part, at))),
+            Err(e) => Some(Err(with_place(e, self.part, at))),
         }
     }
 }
@@ -146,11 +146,11 @@ impl FusedIterator for Batches<'_> {}
 pub fn readable_front(part: FilePart<'_>) -> Result<(usize, Option<Error>)> {
     part.check()?;
     let (front, refused) = sys::readable_front(part);
-    Ok((front, refused.map(|e| placed(e, part, front))))
+    Ok((front, refused.map(|e| with_place(e, part, front))))
 }
 
 /// Says of a refusal where in the file the batch begins that can't be read.
-fn placed(refused: Error, part: FilePart<'_>, at: usize) -> Error {
+fn with_place(refused: Error, part: FilePart<'_>, at: usize) -> Error {
     match refused.kind {
         ErrorKind::Memory => refused,
         _ => refused.at(part.file.into(), part.offset + at as u64),

@@ -91,9 +91,13 @@ impl Context {
         })
     }
 
-    /// Gives the handle away.
+    /// Takes the handle out, to give it to the library.
+    ///
+    /// # Errors
+    ///
+    /// `Failed`, where an earlier call was refused.
     pub(crate) fn into_handle(self) -> Result<ContextHandle> {
-        self.handle.ok_or_else(Error::failed)
+        self.handle.ok_or_else(Error::of_emptied)
     }
 
     /// Replays the log batches of a part, which stand behind those that were replayed before. The bytes are lent, and
@@ -204,7 +208,10 @@ impl Context {
     ///
     /// `Memory`, `Failed`. The context stays as it is.
     pub fn kept(&mut self) -> Result<Kept> {
-        self.handle.as_mut().ok_or_else(Error::failed)?.kept()
+        self.handle
+            .as_mut()
+            .ok_or_else(Error::of_emptied)?
+            .count_kept()
     }
 
     /// Returns the tables.
@@ -232,9 +239,13 @@ impl Context {
         Ok(Tables::of(tables))
     }
 
-    /// Takes the handle out, unless an earlier call was refused.
+    /// Takes the handle out for a call, which puts it back unless it is refused.
+    ///
+    /// # Errors
+    ///
+    /// `Failed`, where an earlier call was refused.
     fn take(&mut self) -> Result<ContextHandle> {
-        self.handle.take().ok_or_else(Error::failed)
+        self.handle.take().ok_or_else(Error::of_emptied)
     }
 }
 

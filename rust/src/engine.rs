@@ -246,6 +246,10 @@ impl<F: Files> Engine<F> {
     }
 
     /// Opens an engine over files, with a listener or without.
+    ///
+    /// # Errors
+    ///
+    /// Those of [`Engine::with_files`].
     fn with_files_and(
         files: F,
         options: Options,
@@ -285,7 +289,7 @@ impl<F: Files> Engine<F> {
         let (engine, orders) = Engine::of_found(files, options)?;
         for order in orders {
             if let Order::Cut(queue, len) = order {
-                locks::lock(&engine.numbers).cut(queue, len);
+                locks::lock(&engine.numbers).note_cut(queue, len);
             }
         }
         Ok(Engine {
@@ -296,6 +300,10 @@ impl<F: Files> Engine<F> {
     }
 
     /// Reads the files, and returns an engine with what is to be done to them before it is used.
+    ///
+    /// # Errors
+    ///
+    /// Those of [`Engine::with_files`]. The files are then as they were.
     fn of_found(files: F, options: Options) -> Result<(Engine<F>, Vec<Order>)> {
         let opened = Found::read(&files, &options)?.open()?;
         let engine = Engine {
@@ -387,7 +395,7 @@ impl<F: Files> Engine<F> {
         &self.options
     }
 
-    /// Locks the tables.
+    /// Locks the tables, and waits for that.
     fn tables(&self) -> MutexGuard<'_, EngineHandle> {
         locks::lock(&self.tables)
     }

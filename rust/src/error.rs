@@ -194,7 +194,7 @@ impl Error {
         }
     }
 
-    /// Makes a refusal that is about no file.
+    /// Makes a refusal that is about no file, region or item.
     pub(crate) fn new(kind: ErrorKind, text: impl Into<String>) -> Error {
         Error {
             kind,
@@ -216,17 +216,18 @@ impl Error {
         )
     }
 
-    /// Makes the refusal for want of memory.
+    /// Makes the refusal for want of memory, which needs none.
     pub(crate) fn memory() -> Error {
         Error::new(ErrorKind::Memory, "Memory")
     }
 
     /// Makes the refusal of a value that an earlier refusal has emptied.
-    pub(crate) fn failed() -> Error {
+    pub(crate) fn of_emptied() -> Error {
         Error::new(ErrorKind::Failed, "Failed")
     }
 
-    /// Makes the refusal of a value that this one has emptied.
+    /// Makes the refusal of calls on a value that was emptied by this one: `Failed`, with its text
+    /// and place.
     pub(crate) fn as_failure(&self) -> Error {
         Error {
             kind: ErrorKind::Failed,
@@ -262,7 +263,7 @@ impl Error {
         }
     }
 
-    /// Says which item of a batch the refusal is about.
+    /// Adds to a refusal which item of a batch it is about, counted from 0.
     pub(crate) fn of_item(mut self, item: usize) -> Error {
         if let Some((kind, reason)) = self.text.split_once(": ") {
             self.text = format!("{kind}: item {item}: {reason}");
@@ -271,7 +272,7 @@ impl Error {
         self
     }
 
-    /// Says which byte of a file the refusal is about.
+    /// Adds to a refusal which byte of a file it is about.
     pub(crate) fn at(mut self, file: FileId, offset: u64) -> Error {
         if let Some((kind, reason)) = self.text.split_once(": ") {
             self.text = format!("{kind}: {file}, offset {offset}: {reason}");

@@ -231,7 +231,11 @@ impl<'a> FilePart<'a> {
         }
     }
 
-    /// Tests what the library asks of a part: the bytes end where an offset can.
+    /// Tests what the library asks of a part: the bytes end where an offset can, below 2^64.
+    ///
+    /// # Errors
+    ///
+    /// `InvalidArgument` where they don't.
     pub(crate) fn check(&self) -> Result<()> {
         match self.offset.checked_add(self.bytes.len() as u64) {
             Some(_) => Ok(()),

@@ -64,7 +64,7 @@ pub struct LogBatch {
 }
 
 impl LogBatch {
-    /// Makes one of a handle without items.
+    /// Makes a batch of a handle that holds one without items.
     fn of(handle: LogBatchHandle) -> LogBatch {
         LogBatch {
             handle,
@@ -83,12 +83,12 @@ impl LogBatch {
         batch
     }
 
-    /// Returns the handle.
+    /// Returns the library's handle, for calls that read.
     pub(crate) fn handle(&self) -> &LogBatchHandle {
         &self.handle
     }
 
-    /// Returns the handle.
+    /// Returns the library's handle, for calls that change the batch.
     pub(crate) fn handle_mut(&mut self) -> &mut LogBatchHandle {
         &mut self.handle
     }
@@ -195,7 +195,7 @@ impl LogBatch {
         Ok(())
     }
 
-    /// Notes that the library has taken all items.
+    /// Notes that the library has taken all items, so that the batch is empty.
     pub(crate) fn note_written(&mut self) {
         self.shapes.clear();
     }
@@ -342,7 +342,7 @@ impl LogBatch {
             ));
         }
         let len = self.approximate_size();
-        self.handle.written(file, offset, len)
+        self.handle.place_items(file, offset, len)
     }
 
     /// Takes the items out, to apply them to tables or to read them. Entries can be read after [`LogBatch::written`] alone.

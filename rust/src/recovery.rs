@@ -59,12 +59,20 @@ pub fn recover_both(
     both.finish()
 }
 
-/// Reads parts on this many threads.
+/// Reads parts of a queue on at most this many threads, and returns the context that has read all.
+///
+/// # Errors
+///
+/// The refusal of the first batch in order that is refused, `Memory`.
 pub(crate) fn read(parts: &[FilePart<'_>], queue: Queue, workers: usize) -> Result<Context> {
     read_stretches(&stretches(parts, workers.max(1)), queue)
 }
 
-/// Reads stretches by halves, both halves at once, and merges what was read.
+/// Reads stretches of parts by halves, both halves at once, and merges what was read.
+///
+/// # Errors
+///
+/// A refusal of one of the halves, or of the merge.
 fn read_stretches(stretches: &[&[FilePart<'_>]], queue: Queue) -> Result<Context> {
     match stretches {
         [] => Context::new(),
@@ -82,7 +90,11 @@ fn read_stretches(stretches: &[&[FilePart<'_>]], queue: Queue) -> Result<Context
     }
 }
 
-/// Reads a stretch.
+/// Reads parts one after another into a new context.
+///
+/// # Errors
+///
+/// The refusal of the first batch that is refused, `Memory`.
 fn replay(parts: &[FilePart<'_>]) -> Result<Context> {
     let mut context = Context::new()?;
     for part in parts {

@@ -104,6 +104,10 @@ impl Slot {
     }
 
     /// Tests that a region is one of the slot's.
+    ///
+    /// # Errors
+    ///
+    /// `InvalidArgument` where it isn't.
     fn check(&self, region: u64) -> Result<()> {
         if slot_of(region) == self.number {
             return Ok(());

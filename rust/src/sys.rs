@@ -46,7 +46,7 @@ pub(crate) use log_batch::LogBatchHandle;
 pub(crate) use packed::Packed;
 pub(crate) use tables::TablesHandle;
 
-use lists::{found, listed, listed_in, make_room, packed_pairs, pairs};
+use lists::{list, list_found, list_in, make_room, packed_pairs, pairs};
 use numbers::{EntryNumbers, File, Maybe, SummaryNumbers, entries, numbers};
 
 /// The pointer of a box in the library, null where there is none.
@@ -64,7 +64,12 @@ struct Status {
 }
 
 unsafe extern "C" {
+    /// Returns how long the log batch is whose header stands at the front of the bytes; 0 where
+    /// none does. So files can be cut between batches.
     fn raft_ffi_batch_len(bytes: *const u8, bytes_len: usize) -> usize;
+    /// Says how many of the bytes that stand in the file from `offset` on are readable batches, one
+    /// behind the other, from the first byte on. The status says why the batch behind them can't be
+    /// read; it is 0 where they end there.
     fn raft_ffi_readable_front(
         file: File,
         offset: u64,
@@ -74,7 +79,9 @@ unsafe extern "C" {
         text: *mut u8,
         text_len: usize,
     ) -> Status;
+    /// Returns the CRC-32 of the bytes.
     fn raft_ffi_crc32(bytes: *const u8, bytes_len: usize) -> u32;
+    /// Returns the number of the slot that holds a region's table, below 128.
     fn raft_ffi_slot_of(region: u64) -> usize;
 }
 
@@ -85,22 +92,26 @@ const TEXT_LEN: usize = 256;
 fn refusal(call: impl FnOnce(*mut u8, usize) -> Status) -> Option<Error> {
     let mut text = [0u8; TEXT_LEN];
     let status = call(text.as_mut_ptr(), text.len());
-    (status.code != 0).then(|| refused(status.code, status.text_len, &text))
+    (status.code != 0).then(|| refusal_of(status.code, status.text_len, &text))
 }
 
 /// Makes the refusal of a number that isn't 0, of whose text so many bytes were written, where there was room.
-fn refused(code: u32, text_len: usize, text: &[u8; TEXT_LEN]) -> Error {
+fn refusal_of(code: u32, text_len: usize, text: &[u8; TEXT_LEN]) -> Error {
     let text = &text[..text_len.min(TEXT_LEN)];
     Error::of(code, String::from_utf8_lossy(text).into_owned())
 }
 
 /// Makes a call that may be refused, with room for its text.
-fn checked(call: impl FnOnce(*mut u8, usize) -> Status) -> Result<()> {
+///
+/// # Errors
+///
+/// The refusal.
+fn check_call(call: impl FnOnce(*mut u8, usize) -> Status) -> Result<()> {
     refusal(call).map_or(Ok(()), Err)
 }
 
 /// Says how a call ended that is refused for want of memory alone.
-fn remembered(code: u32) -> Result<()> {
+fn memory_result(code: u32) -> Result<()> {
     match code {
         0 => Ok(()),
         _ => Err(Error::memory()),
@@ -121,7 +132,8 @@ fn with<A>(cell: &Cell<Handle>, call: impl FnOnce(*mut Handle) -> A) -> A {
     answer
 }
 
-/// Finds where the readable batches of a part end.
+/// Returns how many bytes of a part, from the first on, are readable batches, and why there is none
+/// behind them; `None` where the part ends there.
 pub(crate) fn readable_front(part: FilePart<'_>) -> (usize, Option<Error>) {
     part.check().expect("a part ends where an offset can");
     let mut len = 0;
@@ -140,7 +152,8 @@ pub(crate) fn readable_front(part: FilePart<'_>) -> (usize, Option<Error>) {
     (len, refused)
 }
 
-/// Reads the length of a batch in its header.
+/// Returns how many bytes a batch has by the header at the front of the bytes; `None` where none
+/// stands there.
 pub(crate) fn batch_len(bytes: &[u8]) -> Option<usize> {
     // SAFETY: the bytes are lent for the call.
     let len = unsafe { raft_ffi_batch_len(bytes.as_ptr(), bytes.len()) };

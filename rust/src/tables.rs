@@ -68,7 +68,7 @@ pub struct Tables {
 }
 
 impl Tables {
-    /// Makes tables of a handle.
+    /// Makes tables of the library's handle.
     pub(crate) fn of(handle: TablesHandle) -> Tables {
         Tables { handle }
     }
@@ -156,7 +156,11 @@ impl Tables {
         self.handle.merge_append(append.handle)
     }
 
-    /// Writes the line of a region.
+    /// Writes the line of a region: its entries, keys and least files.
+    ///
+    /// # Errors
+    ///
+    /// The writer's.
     fn write_region(&self, region: u64, f: &mut fmt::Formatter<'_>) -> fmt::Result {
         let Some(summary) = self.summary(region) else {
             return Ok(());

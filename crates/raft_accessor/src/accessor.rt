@@ -32,6 +32,7 @@ pub fn slot_of(id: u64) -> usize
     (hash_u64(id) % 128) as usize
 }
 
+/// Turns a refusal that owns no memory into `Memory`.
 fn lent<'a>(table: AllocResult<&'a MemTable>) -> Result<&'a MemTable>
     ensures { result ≡ lent_as table.entry }
 {
@@ -101,7 +102,7 @@ impl MemTableAccessor {
         let _ = &self.stats;
     }
 
-    /// Returns the table of a region.
+    /// Returns the table of a region, `None` where it has none.
     pub fn get(&self, id: u64) -> Option<&MemTable>
         ensures value { option_map (λ t. t.now) result ≡ finite.get self.now.tables id }
         ensures own { IfSome result (λ t. t.now.region_id ≡ id) }
@@ -133,12 +134,14 @@ impl MemTableAccessor {
         Ok(self.made(id))
     }
 
+    /// Does what `make` does, with an error that owns no memory.
     fn make_table(&mut self, id: u64) -> AllocResult<()>
         ensures { IsTableMade id result self.old self.new }
     {
         self.make(id).map_err(|_| AllocError)
     }
 
+    /// Returns the table of a region that has one.
     fn made(&self, id: u64) -> &MemTable
         requires { IsTrue (is_some (finite.get self.now.tables id)) }
         ensures { result.now ≡ table_in self.now.tables id }
@@ -149,6 +152,11 @@ impl MemTableAccessor {
         }
     }
 
+    /// Makes an empty table for a region that has none.
+    ///
+    /// # Errors
+    ///
+    /// `Memory`. All tables are then as they were.
     fn make(&mut self, id: u64) -> Result<()>
         ensures changed { IsTableChanged (Some (table_in self.old.tables id)) (λ e. ⊥) id result
             self.old self.new }
@@ -373,6 +381,12 @@ impl MemTableAccessor {
         self.slots[slot_of(id)].take(id, &mut self.stats)
     }
 
+    /// Merges the tables of another accessor, each into the table of its region.
+    ///
+    /// # Errors
+    ///
+    /// Those of [`MemTable::merge_newer_neighbor`] or [`MemTable::merge_append_table`] at one
+    /// table. Other tables are then merged or as they were, and the rest of `rhs` is lost.
     fn merge_neighbors(&mut self, kind: Neighbor, rhs: MemTableAccessor) -> Result<()>
         ensures { AreMerged kind self.old rhs.tables result self.new }
     {
@@ -382,6 +396,11 @@ impl MemTableAccessor {
         Ok(())
     }
 
+    /// Merges the tables of a slot, each into the table of its region.
+    ///
+    /// # Errors
+    ///
+    /// Those of `merge_neighbors`. Some tables are then merged, and the rest of `newer` is lost.
     fn merge_slot(&mut self, kind: Neighbor, newer: RegionTables) -> Result<()>
         ensures { AreMerged kind self.old newer result self.new }
     {
@@ -391,6 +410,11 @@ impl MemTableAccessor {
         Ok(())
     }
 
+    /// Merges a table into the table of its region, which is made where there is none.
+    ///
+    /// # Errors
+    ///
+    /// Those of `merge_neighbors`. The region's table is then as it was, but for want of memory.
     fn merge_table(&mut self, kind: Neighbor, id: u64, newer: BoxedTable) -> Result<()>
         requires { newer.region_id ≡ id }
         ensures { IsMergedIn kind id newer self.old result self.new }
@@ -399,6 +423,11 @@ impl MemTableAccessor {
     }
 }
 
+/// Makes 128 slots without tables.
+///
+/// # Errors
+///
+/// `Memory`.
 fn empty_slots(alloc: Global) -> Result<Vec<RegionTables>>
     ensures ok { IfOk result (λ slots. slots.items ≡ replicate 128 finite.empty) }
     ensures memory { IfErr result (λ e. e ≡ Error.Memory) }

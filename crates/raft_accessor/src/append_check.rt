@@ -17,12 +17,14 @@ pub(crate) struct Extent {
 }
 
 impl Extent {
+    /// Returns the extent of no entries.
     fn of_none() -> Extent
         ensures { IsExtentOf result [] }
     {
         Extent { first: 0, end: 0 }
     }
 
+    /// Returns the extent of a table's entries; without a table there are none.
     fn of_table(table: Option<&MemTable>) -> Extent
         ensures { (id : ℕ) → IsExtentOf result
             (table_of id (option_map (λ t. t.now) table.entry)).entries }
@@ -40,6 +42,7 @@ impl Extent {
         }
     }
 
+    /// Returns the extent that a compaction to an index leaves of this one.
     fn compacted(self, index: u64) -> Extent
         ensures { (es : List EntryIndex) → IsExtentOf self es → IsExtentOf result (from index es) }
     {
@@ -52,6 +55,7 @@ impl Extent {
         }
     }
 
+    /// Returns the extent that a truncation from an index on leaves of this one.
     fn truncated(self, index: u64) -> Extent
         ensures { (es : List EntryIndex) → IsExtentOf self es → IsExtentOf result (below index es) }
     {
@@ -64,6 +68,7 @@ impl Extent {
         }
     }
 
+    /// Returns the extent that a command leaves of this one.
     fn commanded(self, command: &Command) -> Extent
         ensures { (es : List EntryIndex) → IsExtentOf self es
             → IsExtentOf result (commanded command.now es) }
@@ -75,6 +80,12 @@ impl Extent {
         }
     }
 
+    /// Returns the extent with a run behind, as [`MemTable::append`] would put it.
+    ///
+    /// # Errors
+    ///
+    /// `Corruption` where its indexes aren't consecutive, or where it begins in front of the first
+    /// entry or leaves a hole behind the last one; `Memory` for its text.
     fn with_run(self, alloc: Global, id: u64, run: &[EntryIndex]) -> Result<Extent>
         ensures ok { IfOk result (TakesRun self run.now) }
         ensures fault { IfErr result (IsRunCheckFault self run.now) }
@@ -114,6 +125,7 @@ pub(crate) struct AppendCheck {
 }
 
 impl AppendCheck {
+    /// Makes one that no item was shown to.
     pub(crate) fn new(alloc: Global) -> AppendCheck
         ensures { result.extents.entries ≡ [] }
     {
@@ -124,6 +136,11 @@ impl AppendCheck {
     }
 
     /// Takes in the next item, whose region had this table in front of all items.
+    ///
+    /// # Errors
+    ///
+    /// `Corruption` where the tables would refuse the item: the text names region and reason.
+    /// `Memory`.
     pub(crate) fn take(&mut self, item: &LogItem, table: Option<&MemTable>) -> Result<()>
         ensures ok { OnOk result (TakesNext self.old.extents.entries
             (option_map (λ t. t.now) table.entry) (item_of item.now) self.new.extents.entries) }
@@ -146,6 +163,8 @@ impl AppendCheck {
         }
     }
 
+    /// Returns the extent of a region's entries behind the items so far. `table` is the region's
+    /// table in front of them.
     fn extent(&self, id: u64, table: Option<&MemTable>) -> Extent
         ensures { (before now : Tables)
             → AreBefore self.now.extents.entries id (option_map (λ t. t.now) table.entry) before now
@@ -158,6 +177,11 @@ impl AppendCheck {
     }
 }
 
+/// Refuses a `Put` without a value, but for the key of the group markers.
+///
+/// # Errors
+///
+/// `Corruption`, and `Memory` for its text.
 fn check_pair(alloc: Global, id: u64, kv: &KeyValue) -> Result<()>
     ensures ok { OnOk result (IsPairAccepted (pair_of kv.now)) }
     ensures fault { IfErr result (IsPairCheckFault (pair_of kv.now)) }

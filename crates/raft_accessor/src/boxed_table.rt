@@ -26,6 +26,11 @@ impl Model for BoxedTable {
 }
 
 impl BoxedTable {
+    /// Puts a table in a box.
+    ///
+    /// # Errors
+    ///
+    /// Where there is no memory for it. The table is then lost.
     pub(crate) fn new(alloc: Global, table: MemTable) -> AllocResult<BoxedTable>
         ensures { IfOk result (λ boxed. boxed ≡ table) }
     {
@@ -33,13 +38,18 @@ impl BoxedTable {
         Ok(BoxedTable { boxed })
     }
 
+    /// Makes an empty table of a region in a box.
+    ///
+    /// # Errors
+    ///
+    /// Where there is no memory for it.
     pub(crate) fn empty(alloc: Global, id: u64) -> AllocResult<BoxedTable>
         ensures { IfOk result (λ boxed. boxed ≡ empty_table id) }
     {
         BoxedTable::new(alloc, MemTable::new(alloc, id))
     }
 
-    /// Returns the table.
+    /// Lends the table that stands in the box.
     #[doc(hidden)]
     pub fn get(&self) -> &MemTable
         ensures { result.now ≡ self.now }
@@ -47,6 +57,7 @@ impl BoxedTable {
         &self.boxed
     }
 
+    /// Takes the table out of its box.
     pub(crate) fn into_table(self) -> MemTable
         ensures { result ≡ self }
     {
@@ -54,6 +65,7 @@ impl BoxedTable {
     }
 }
 
+/// Takes the table out of its box, if there is one.
 pub(crate) fn unboxed(table: Option<BoxedTable>) -> Option<MemTable>
     ensures { result ≡ table }
 {

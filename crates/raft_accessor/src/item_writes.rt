@@ -39,7 +39,13 @@ impl RegionTables {
         Ok(())
     }
 
-    /// Writes an item to its region's table by the call for items that are written so.
+    /// Writes an item to its region's table, as `how` says, and lists the region where it is
+    /// cleaned in the append queue.
+    ///
+    /// # Errors
+    ///
+    /// Those of [`RegionTables::append_item`], [`RegionTables::replay_item`] or
+    /// [`RegionTables::rewrite_item`]. Tables, counts and list are then as they were.
     #[inline(always)]
     pub fn write_item(
         &mut self,
@@ -157,12 +163,19 @@ impl RegionTables {
         }
     }
 
+    /// Makes a `Corruption` with this text; `Memory` where there is none for it.
     fn corruption(&self, text: &str) -> Error
         ensures { IsCorruption text.now result }
     {
         Error::corruption(self.alloc, text)
     }
 
+    /// Writes new entries of the append queue to a region's table.
+    ///
+    /// # Errors
+    ///
+    /// `Corruption` where they are no run of the append queue or [`MemTable::append`] refuses them
+    /// so; `Full`; `Memory`. The tables are then as they were.
     fn append_entries(
         &mut self,
         id: u64,
@@ -182,6 +195,12 @@ impl RegionTables {
         self.append_run(id, run, stats)
     }
 
+    /// Gives the entries of a region's table the places of rewritten ones.
+    ///
+    /// # Errors
+    ///
+    /// `Corruption` where they are no run of the rewrite queue or [`MemTable::rewrite`] refuses
+    /// them so; `Full`; `Memory`. The tables are then as they were.
     fn rewrite_entries(
         &mut self,
         id: u64,
@@ -203,6 +222,11 @@ impl RegionTables {
         self.rewrite_run(id, run, gate, stats)
     }
 
+    /// Refuses a command in the rewrite queue but for a `Clean`, which changes nothing there.
+    ///
+    /// # Errors
+    ///
+    /// `Corruption`, and `Memory` for its text.
     fn rewrite_command(&self, id: u64, command: Command) -> Result<()>
         ensures { (gate : Option ℕ) (seq : ℕ) (counts : Counts) (list : List ℕ)
             → IsItemWritten (Rewriting gate seq) (command_item id command)
@@ -215,6 +239,12 @@ impl RegionTables {
         }
     }
 
+    /// Refuses an item that can't stand in this queue.
+    ///
+    /// # Errors
+    ///
+    /// `Corruption` where its entries are no run of the queue, or a `Put`, but for the key of the
+    /// group markers, has no value, no file or a file of the other queue; `Memory` for its text.
     fn check_replayed(&self, queue: LogQueue, item: &LogItem) -> Result<()>
         ensures ok { OnOk result (IsReplayed queue (content_of item.now.content)) }
         ensures fault { (id : ℕ) (o : Option Table) (live : ℕ) → IfErr result
@@ -232,6 +262,12 @@ impl RegionTables {
         }
     }
 
+    /// Refuses a `Put` without a value, without a file or with a file of the other queue, but for
+    /// the key of the group markers.
+    ///
+    /// # Errors
+    ///
+    /// `Corruption`, and `Memory` for its text.
     fn check_replayed_pair(&self, queue: LogQueue, kv: &KeyValue) -> Result<()>
         ensures ok { OnOk result (IsReplayed queue (pair (pair_of kv.now))) }
         ensures fault { (id : ℕ) (o : Option Table) (live : ℕ) → IfErr result
@@ -253,6 +289,13 @@ impl RegionTables {
         }
     }
 
+    /// Moves a key that was rewritten to the file of number `seq`, if the gate lets it. A group marker
+    /// changes nothing.
+    ///
+    /// # Errors
+    ///
+    /// `Corruption` for a deletion or a `Put` without a value, and where [`MemTable::rewrite_key`]
+    /// refuses it; `Full`; `Memory`. The tables are then as they were.
     fn rewrite_pair(
         &mut self,
         id: u64,

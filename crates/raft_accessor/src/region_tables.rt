@@ -63,7 +63,7 @@ impl RegionTables {
         self.tables.is_empty()
     }
 
-    /// Returns the table of a region.
+    /// Returns the table of a region, `None` where it has none.
     pub fn get(&self, id: u64) -> Option<&MemTable>
         ensures value { option_map (λ t. t.now) result ≡ finite.get self.now id }
         ensures own { IfSome result (λ t. t.now.region_id ≡ id) }
@@ -96,6 +96,7 @@ impl RegionTables {
         Ok(())
     }
 
+    /// Counts the entries of all tables.
     pub(crate) fn entries_count(&self) -> u128
         ensures entries { result ≡ total (λ (t : Table). length t.entries) self.now }
         ensures others { result + total (λ (t : Table). finite.len t.keys) self.now
@@ -169,7 +170,9 @@ impl RegionTables {
         self.update(id, stats, move |table, stats| table.change(change, stats))
     }
 
-    /// Puts a run that is read again, and returns where the entries of its region's table began and ended before.
+    /// Puts a run that is read again into its region's table, which is made where there is none,
+    /// and returns where the entries of the table began and ended before. Nothing is returned, and
+    /// nothing has changed, where the table refuses the run or there is no memory.
     #[inline(always)]
     pub(crate) fn try_replay(
         &mut self,
@@ -193,6 +196,7 @@ impl RegionTables {
         Some(ends)
     }
 
+    /// Does what `try_replay` does, for a region without a table.
     #[inline(always)]
     fn try_replay_first(
         &mut self,
@@ -252,6 +256,12 @@ impl RegionTables {
         self.tables.into_iter()
     }
 
+    /// Merges a table into the one of its region, which is made where there is none.
+    ///
+    /// # Errors
+    ///
+    /// Those of [`MemTable::merge_newer_neighbor`] or [`MemTable::merge_append_table`]. The
+    /// region's table is then as it was, but for want of memory.
     pub(crate) fn merge_neighbor(
         &mut self,
         kind: Neighbor,
@@ -298,6 +308,10 @@ impl RegionTables {
     }
 
     /// Changes a region's table, which is made where there is none. It is looked up once.
+    ///
+    /// # Errors
+    ///
+    /// Those of the change, and `Memory`. A table that wasn't there is then not made.
     #[inline(always)]
     pub(crate) fn update<R: Drop, F: FnOnce(&mut MemTable, &mut GlobalStats) -> Result<R>>(
         &mut self,
@@ -324,6 +338,11 @@ impl RegionTables {
     }
 }
 
+/// Merges a table into an older one, or an appended one into a rewritten one.
+///
+/// # Errors
+///
+/// Those of [`MemTable::merge_newer_neighbor`] or [`MemTable::merge_append_table`].
 fn merge(
     kind: Neighbor,
     table: &mut MemTable,

@@ -1,6 +1,6 @@
 //! Times log batches: their bytes are made and signed, and read again.
 
-use crate::timing::{Noise, best_of, print_line, timed};
+use crate::timing::{Noise, best_of, print_line, time_work};
 use raft_records::codec::BytesSlice;
 use raft_records::{
     Command, FileBlockHandle, FileId, LogBatch, LogFileContext, LogItemBatch, LogQueue, Message,
@@ -102,7 +102,7 @@ fn time_writing(rt: &HostRuntime, shape: Shape) -> Result<Vec<Vec<u8>>> {
 /// Returns how long it takes to make and sign the bytes of batches, and these bytes.
 fn write(rt: &HostRuntime, shape: Shape, messages: &[Entry]) -> Result<(u64, Vec<Vec<u8>>)> {
     let mut batches = fill(rt.alloc(), shape, messages)?;
-    let (taken, sealed) = timed(rt, || seal(&mut batches))?;
+    let (taken, sealed) = time_work(rt, || seal(&mut batches))?;
     sealed?;
     Ok((taken, bytes_of(rt.alloc(), batches.as_slice())?))
 }
@@ -110,7 +110,7 @@ fn write(rt: &HostRuntime, shape: Shape, messages: &[Entry]) -> Result<(u64, Vec
 /// Times how items are read of the bytes of batches.
 fn time_reading(rt: &HostRuntime, encoded: &[Vec<u8>]) -> Result<()> {
     let (best, (items, bytes)) = best_of(|| -> Result<_> {
-        let (taken, decoded) = timed(rt, || decode(rt.alloc(), encoded))?;
+        let (taken, decoded) = time_work(rt, || decode(rt.alloc(), encoded))?;
         Ok((taken, decoded?))
     })?;
     print_line(

@@ -1,9 +1,9 @@
 //! Times tables by how many entries each of their blocks has, and counts the bytes of what is kept.
 
 use crate::tables::{
-    APPENDED, REGIONS, REWRITTEN, Region, append_all, empty_regions, found, run, runs,
+    APPENDED, REGIONS, REWRITTEN, Region, append_all, count_found, empty_regions, run, runs,
 };
-use crate::timing::{Noise, best_of, print_each, timed};
+use crate::timing::{Noise, best_of, print_time_per_unit, time_work};
 use raft_memtable::{AllocResult, Block, EntryIndex};
 use std::alloc::Global;
 use std::io;
@@ -53,6 +53,8 @@ fn kept_bytes(region: &Region) -> usize {
     bytes
 }
 
+/// Times appends of runs of `len` entries, each a block, and prints the bytes that are kept for an
+/// entry.
 fn time_appends(rt: &HostRuntime, len: u64) -> io::Result<()> {
     let (best, bytes) = best_of(|| append(rt, len))?;
     let entries = REGIONS * ENTRIES;
@@ -60,7 +62,7 @@ fn time_appends(rt: &HostRuntime, len: u64) -> io::Result<()> {
         "2,048,000 entries, {len} a call, {len} a block: {} bytes an entry",
         bytes as u64 / entries
     )?;
-    print_each(rt, "append", best, "entry", entries)
+    print_time_per_unit(rt, "append", best, "entry", entries)
 }
 
 /// Returns how long it takes to append all runs to regions without records, and how many bytes are
@@ -68,7 +70,7 @@ fn time_appends(rt: &HostRuntime, len: u64) -> io::Result<()> {
 fn append(rt: &HostRuntime, len: u64) -> io::Result<(u64, usize)> {
     let mut regions = empty_regions(rt.alloc())?;
     let runs = runs(rt.alloc(), REGIONS, ENTRIES, len, APPENDED)?;
-    let (taken, _) = timed(rt, || append_all(&mut regions, runs))?;
+    let (taken, _) = time_work(rt, || append_all(&mut regions, runs))?;
     let mut bytes = 0usize;
     for region in &regions {
         bytes = bytes.saturating_add(kept_bytes(region));
@@ -77,7 +79,7 @@ fn append(rt: &HostRuntime, len: u64) -> io::Result<(u64, usize)> {
 }
 
 /// Returns a table of many blocks, from an index on.
-fn long(alloc: Global, first: u64) -> AllocResult<Region> {
+fn long_table(alloc: Global, first: u64) -> AllocResult<Region> {
     let mut region = Region::new(alloc, 1);
     let mut next = first;
     for _ in 0..BLOCKS {
@@ -90,16 +92,20 @@ fn long(alloc: Global, first: u64) -> AllocResult<Region> {
     Ok(region)
 }
 
+/// Times look-ups of entries in one table of many blocks.
 fn time_get(rt: &HostRuntime) -> io::Result<()> {
     let mut regions = Vec::new(rt.alloc());
-    regions.push(long(rt.alloc(), 1)?)?;
+    regions.push(long_table(rt.alloc(), 1)?)?;
     let mut noise = Noise::new();
     let mut picks = Vec::new(rt.alloc());
     for _ in 0..LOOKUPS {
         picks.push((0usize, 1 + noise.next_u64() % (BLOCKS * SPANS)))?;
     }
-    let (best, got) = best_of(|| timed(rt, || found(regions.as_slice(), picks.as_slice())))?;
-    print_each(
+    let (best, got) = best_of(|| time_work(
+        rt,
+        || count_found(regions.as_slice(), picks.as_slice()),
+    ))?;
+    print_time_per_unit(
         rt,
         "get_entry, one table of 1,000 blocks",
         best,
@@ -117,13 +123,14 @@ fn rewrite_by_steps(region: &mut Region, runs: Vec<Vec<EntryIndex>>) {
     }
 }
 
+/// Times rewritings of one table of many blocks, some entries a call.
 fn time_rewrite(rt: &HostRuntime) -> io::Result<()> {
     let (best, ()) = best_of(|| {
-        let mut region = long(rt.alloc(), 1)?;
+        let mut region = long_table(rt.alloc(), 1)?;
         let runs = runs(rt.alloc(), 1, BLOCKS * SPANS, STEP, REWRITTEN)?;
-        timed(rt, || rewrite_by_steps(&mut region, runs))
+        time_work(rt, || rewrite_by_steps(&mut region, runs))
     })?;
-    print_each(
+    print_time_per_unit(
         rt,
         "rewrite, 64 entries a call, one table of 1,000 blocks",
         best,
@@ -136,7 +143,7 @@ fn time_rewrite(rt: &HostRuntime) -> io::Result<()> {
 fn long_tables(alloc: Global, first: u64) -> AllocResult<Vec<Region>> {
     let mut regions = Vec::new(alloc);
     for _ in 0..PAIRS {
-        regions.push(long(alloc, first)?)?;
+        regions.push(long_table(alloc, first)?)?;
     }
     Ok(regions)
 }
@@ -150,13 +157,14 @@ fn merge_all(older: &mut Vec<Region>, newer: Vec<Region>) {
     }
 }
 
+/// Times merges of tables of many blocks with their newer neighbors.
 fn time_merge(rt: &HostRuntime) -> io::Result<()> {
     let (best, ()) = best_of(|| {
         let mut older = long_tables(rt.alloc(), 1)?;
         let newer = long_tables(rt.alloc(), 1 + BLOCKS * SPANS)?;
-        timed(rt, || merge_all(&mut older, newer))
+        time_work(rt, || merge_all(&mut older, newer))
     })?;
-    print_each(
+    print_time_per_unit(
         rt,
         "merge_newer_neighbor, two tables of 1,000 blocks",
         best,

@@ -1,6 +1,6 @@
 //! Times checksums.
 
-use crate::timing::{Noise, best_of, print_line, timed};
+use crate::timing::{Noise, best_of, print_line, time_work};
 use raft_records::Result;
 use raft_records::util::crc32;
 
@@ -14,8 +14,9 @@ pub(crate) fn time(rt: &HostRuntime) -> Result<()> {
     Ok(())
 }
 
+/// Times the checksums of chunks of `size` bytes.
 fn time_size(rt: &HostRuntime, bytes: &[u8], size: usize) -> Result<()> {
-    let (best, last) = best_of(|| timed(rt, || checksums(bytes, size)))?;
+    let (best, last) = best_of(|| time_work(rt, || checksums(bytes, size)))?;
     let count = bytes.len() / size.max(1);
     let name = format!(in rt.alloc(); "crc32 of {size} bytes ({last:08x})")?;
     print_line(rt, name.as_str(), best, "call", count, bytes.len())?;

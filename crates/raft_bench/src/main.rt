@@ -19,6 +19,7 @@ use raft_records::Result;
 use raft_recover::command_words;
 use std::io;
 
+/// Times what the words name, and prints the times.
 fn main(rt: HostRuntime) -> io::Result<()> {
     let words = command_words(&rt)?;
     match words.as_slice().split_first() {

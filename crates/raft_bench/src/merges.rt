@@ -1,7 +1,7 @@
 //! Times the merging of contexts beside the reading of their batches, all on one thread.
 
 use crate::logs::{LogTimes, read_log};
-use crate::timing::{best_of, timed};
+use crate::timing::{best_of, time_work};
 use raft_memtable::{LogQueue, MemTableRecoverContext};
 use raft_records::Result;
 use raft_recover::shares::equal_shares;
@@ -41,9 +41,9 @@ fn time_run<R: AllocGlobal + Clock>(
     quarters: &[Segment; CONTEXTS],
     queue: LogQueue,
 ) -> Result<([u64; 2], ())> {
-    let (reading, contexts) = timed(rt, || read_quarters(rt.alloc(), quarters))?;
+    let (reading, contexts) = time_work(rt, || read_quarters(rt.alloc(), quarters))?;
     let (older, newer) = contexts?;
-    let (merging, done) = timed(rt, || merge_by_halves(older, newer, queue))?;
+    let (merging, done) = time_work(rt, || merge_by_halves(older, newer, queue))?;
     done?;
     Ok(([reading, merging], ()))
 }
@@ -53,13 +53,19 @@ type Half = (MemTableRecoverContext, MemTableRecoverContext);
 
 /// Returns a context for each quarter of the files.
 fn read_quarters(alloc: Global, quarters: &[Segment; CONTEXTS]) -> Result<(Half, Half)> {
-    let older = (read(alloc, &quarters[0])?, read(alloc, &quarters[1])?);
-    let newer = (read(alloc, &quarters[2])?, read(alloc, &quarters[3])?);
+    let older = (
+        read_segment(alloc, &quarters[0])?,
+        read_segment(alloc, &quarters[1])?,
+    );
+    let newer = (
+        read_segment(alloc, &quarters[2])?,
+        read_segment(alloc, &quarters[3])?,
+    );
     Ok((older, newer))
 }
 
 /// Returns a context of this segment.
-fn read(alloc: Global, segment: &Segment) -> Result<MemTableRecoverContext> {
+fn read_segment(alloc: Global, segment: &Segment) -> Result<MemTableRecoverContext> {
     let mut context = MemTableRecoverContext::new(alloc)?;
     replay_segment(&mut context, segment)?;
     Ok(context)
@@ -67,12 +73,12 @@ fn read(alloc: Global, segment: &Segment) -> Result<MemTableRecoverContext> {
 
 /// Merges the contexts of each half, and then both of these.
 fn merge_by_halves(older: Half, newer: Half, queue: LogQueue) -> Result<()> {
-    let mut older = merged(older, queue)?;
-    older.merge(merged(newer, queue)?, queue)
+    let mut older = merge_half(older, queue)?;
+    older.merge(merge_half(newer, queue)?, queue)
 }
 
 /// Merges the contexts of a half.
-fn merged(half: Half, queue: LogQueue) -> Result<MemTableRecoverContext> {
+fn merge_half(half: Half, queue: LogQueue) -> Result<MemTableRecoverContext> {
     let (mut older, newer) = half;
     older.merge(newer, queue)?;
     Ok(older)

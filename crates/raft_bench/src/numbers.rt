@@ -1,6 +1,6 @@
 //! Times numbers in base 128.
 
-use crate::timing::{Noise, best_of, print_line, timed};
+use crate::timing::{Noise, best_of, print_line, time_work};
 use raft_records::Result;
 use raft_records::codec::{BytesSlice, NumberEncoder, decode_var_u64};
 use std::io;
@@ -21,12 +21,13 @@ pub(crate) fn time(rt: &HostRuntime) -> Result<()> {
     Ok(())
 }
 
+/// Times the writing and reading of numbers of `bits` bits.
 fn time_length(rt: &HostRuntime, bits: u32, numbers: &[u64]) -> Result<()> {
     let mut bytes = Vec::with_capacity(rt.alloc(), 10 * COUNT)?;
     let ([writing, reading], sum) = best_of(|| -> io::Result<_> {
         bytes.clear();
-        let (writing, ()) = timed(rt, || write(&mut bytes, numbers))?;
-        let (reading, sum) = timed(rt, || read(bytes.as_slice()))?;
+        let (writing, ()) = time_work(rt, || write(&mut bytes, numbers))?;
+        let (reading, sum) = time_work(rt, || read(bytes.as_slice()))?;
         Ok(([writing, reading], sum))
     })?;
     let len = bytes.len();
@@ -37,6 +38,7 @@ fn time_length(rt: &HostRuntime, bits: u32, numbers: &[u64]) -> Result<()> {
     Ok(())
 }
 
+/// Appends the bytes of the numbers, up to the first one that can't be written.
 fn write(bytes: &mut Vec<u8>, numbers: &[u64]) {
     for number in numbers {
         if bytes.encode_var_u64(*number).is_err() {

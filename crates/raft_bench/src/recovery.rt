@@ -1,7 +1,7 @@
 //! Times the recovery of log files.
 
 use crate::logs::{Log, LogTimes, read_log};
-use crate::timing::timed;
+use crate::timing::time_work;
 use raft_records::Result;
 use raft_recover::recover;
 use std::rt::Files;
@@ -37,6 +37,6 @@ pub(crate) fn time<R: Threads + Files + AllocGlobal + Clock + Sync>(
 /// Returns how long a recovery takes, and how many regions have a table then.
 fn time_run<R: Threads + AllocGlobal + Clock + Sync>(rt: &R, log: &Log) -> Result<(u64, usize)> {
     let (alloc, segments) = (rt.alloc(), log.segments.as_slice());
-    let (taken, tables) = timed(rt, || recover(rt, alloc, segments, log.queue, log.workers))?;
+    let (taken, tables) = time_work(rt, || recover(rt, alloc, segments, log.queue, log.workers))?;
     Ok((taken, tables?.tables()?.len()))
 }

@@ -1,7 +1,7 @@
 //! Times tables that threads share.
 
 use crate::tables::{APPENDED, run};
-use crate::timing::{Noise, best_of, print_each, timed};
+use crate::timing::{Noise, best_of, print_time_per_unit, time_work};
 use raft_memtable::{AllocResult, MemTable, MemTableAccessor, Result, TableChange};
 use raft_recover::SharedAccessor;
 use std::alloc::Global;
@@ -29,7 +29,7 @@ pub(crate) fn time<R: Threads + Wait + Clock + Print + Sync>(rt: &R, alloc: Glob
         let name = format!(in alloc;
             "append to shared tables by {threads} threads, 8 entries a call"
         )?;
-        print_each(rt, name.as_str(), best, "entry", REGIONS * ROUNDS * RUN)?;
+        print_time_per_unit(rt, name.as_str(), best, "entry", REGIONS * ROUNDS * RUN)?;
     }
     time_looks(rt, alloc)
 }
@@ -42,7 +42,7 @@ fn append_once<R: Threads + Wait + Clock + Sync>(
 ) -> Result<(u64, ())> {
     let shared = SharedAccessor::new(alloc);
     let append = |thread: usize| append_share(rt, alloc, &shared, thread as u64, threads);
-    let (taken, all) = timed(
+    let (taken, all) = time_work(
         rt,
         || thread::map_indices(rt, alloc, threads as usize, &append),
     )?;
@@ -132,11 +132,11 @@ fn look<R: Wait + Clock + Print>(
     picks: &[u64],
 ) -> Result<()> {
     let ([get, with_table], (got, seen)) = best_of(|| -> Result<_> {
-        let (get, got) = timed(rt, || last_of_all(core, picks))?;
-        let (with_table, seen) = timed(rt, || shared_last_of_all(rt, shared, picks))?;
+        let (get, got) = time_work(rt, || last_of_all(core, picks))?;
+        let (with_table, seen) = time_work(rt, || shared_last_of_all(rt, shared, picks))?;
         Ok(([get, with_table], (got, seen)))
     })?;
     let looked = LOOKUPS.min(got).min(seen);
-    print_each(rt, "get of an accessor, at random", get, "call", looked)?;
-    Ok(print_each(rt, "with_table, at random", with_table, "call", looked)?)
+    print_time_per_unit(rt, "get of an accessor, at random", get, "call", looked)?;
+    Ok(print_time_per_unit(rt, "with_table, at random", with_table, "call", looked)?)
 }

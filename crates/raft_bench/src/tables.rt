@@ -2,7 +2,7 @@
 
 ghost use Rattle.raft_memtable.specs.Table.{IsCounted};
 
-use crate::timing::{Noise, best_of, print_each, timed};
+use crate::timing::{Noise, best_of, print_time_per_unit, time_work};
 use raft_memtable::{
     AllocResult, Block, EntryIndex, FileBlockHandle, FileId, GlobalStats, LogQueue, MemTable,
     Result, is_run,
@@ -53,6 +53,7 @@ pub(crate) struct Region {
 type Pair = (Vec<u8>, Vec<u8>);
 
 impl Region {
+    /// Makes a region without records.
     pub(crate) fn new(alloc: Global, region_id: u64) -> Region {
         Region {
             table: MemTable::new(alloc, region_id),
@@ -86,18 +87,22 @@ impl Region {
         Ok(())
     }
 
+    /// Returns the blocks of the region's table.
     pub(crate) fn blocks(&self) -> &VecDeque<Block> {
         self.table.blocks()
     }
 
+    /// Drops the entries below an index, and returns how many they are.
     fn compact_to(&mut self, index: u64) -> u64 {
         self.table.compact_to(index, &mut self.stats)
     }
 
+    /// Puts a pair as one of the append file 1.
     fn put(&mut self, pair: Pair) -> Result<()> {
         self.table.put(pair.0, pair.1, APPENDED, &mut self.stats)
     }
 
+    /// Deletes a key.
     fn delete(&mut self, key: &[u8]) {
         self.table.delete(key, &mut self.stats);
     }
@@ -189,13 +194,14 @@ fn full_regions(alloc: Global) -> AllocResult<Vec<Region>> {
     Ok(regions)
 }
 
+/// Times appends of runs to all regions in turn.
 fn time_append(rt: &HostRuntime) -> io::Result<()> {
     let (best, _) = best_of(|| {
         let mut regions = empty_regions(rt.alloc())?;
         let runs = all_runs(rt.alloc())?;
-        timed(rt, || append_all(&mut regions, runs))
+        time_work(rt, || append_all(&mut regions, runs))
     })?;
-    print_each(
+    print_time_per_unit(
         rt,
         "append, 8 entries a call",
         best,
@@ -222,12 +228,13 @@ fn compact_all(regions: &mut Vec<Region>) -> u64 {
     dropped
 }
 
+/// Times compactions of all regions, step by step.
 fn time_compact_to(rt: &HostRuntime) -> io::Result<()> {
     let (best, dropped) = best_of(|| {
         let mut regions = full_regions(rt.alloc())?;
-        timed(rt, || compact_all(&mut regions))
+        time_work(rt, || compact_all(&mut regions))
     })?;
-    print_each(
+    print_time_per_unit(
         rt,
         "compact_to, 32 entries a call",
         best,
@@ -254,7 +261,7 @@ fn picks(
 }
 
 /// Returns how many of these entries there are.
-pub(crate) fn found(regions: &[Region], picks: &[(usize, u64)]) -> u64 {
+pub(crate) fn count_found(regions: &[Region], picks: &[(usize, u64)]) -> u64 {
     let mut count = 0u64;
     for (region, index) in picks {
         if let Some(region) = regions.get(*region)
@@ -267,7 +274,7 @@ pub(crate) fn found(regions: &[Region], picks: &[(usize, u64)]) -> u64 {
 }
 
 /// Returns how many entries fetches from these places on give.
-fn fetched(regions: &[Region], picks: &[(usize, u64)], entries: &mut Vec<EntryIndex>) -> u64 {
+fn count_fetched(regions: &[Region], picks: &[(usize, u64)], entries: &mut Vec<EntryIndex>) -> u64 {
     let mut count = 0u64;
     for (region, index) in picks {
         entries.clear();
@@ -285,12 +292,13 @@ fn fetched(regions: &[Region], picks: &[(usize, u64)], entries: &mut Vec<EntryIn
     count
 }
 
+/// Times look-ups and fetches of entries at places without a pattern.
 fn time_reads(rt: &HostRuntime) -> io::Result<()> {
     let regions = full_regions(rt.alloc())?;
     let mut noise = Noise::new();
     let entries = picks(rt.alloc(), &mut noise, REGIONS * ENTRIES, 0)?;
     let fetches = picks(rt.alloc(), &mut noise, REGIONS * ENTRIES / FETCH, FETCH)?;
-    read(
+    time_lookups(
         rt,
         regions.as_slice(),
         entries.as_slice(),
@@ -299,7 +307,7 @@ fn time_reads(rt: &HostRuntime) -> io::Result<()> {
 }
 
 /// Times look-ups and fetches of entries in turn.
-fn read(
+fn time_lookups(
     rt: &HostRuntime,
     regions: &[Region],
     entries: &[(usize, u64)],
@@ -307,12 +315,12 @@ fn read(
 ) -> io::Result<()> {
     let mut out = Vec::with_capacity(rt.alloc(), FETCH as usize)?;
     let ([get, fetch], (got, given)) = best_of(|| -> io::Result<_> {
-        let (get, got) = timed(rt, || found(regions, entries))?;
-        let (fetch, given) = timed(rt, || fetched(regions, fetches, &mut out))?;
+        let (get, got) = time_work(rt, || count_found(regions, entries))?;
+        let (fetch, given) = time_work(rt, || count_fetched(regions, fetches, &mut out))?;
         Ok(([get, fetch], (got, given)))
     })?;
-    print_each(rt, "get_entry, at random", get, "call", got)?;
-    print_each(rt, "fetch_entries_to, 64 a call", fetch, "entry", given)
+    print_time_per_unit(rt, "get_entry, at random", get, "call", got)?;
+    print_time_per_unit(rt, "fetch_entries_to, 64 a call", fetch, "entry", given)
 }
 
 /// Rewrites each region whole.
@@ -324,13 +332,14 @@ fn rewrite_all(regions: &mut Vec<Region>, runs: Vec<Vec<EntryIndex>>) {
     }
 }
 
+/// Times rewritings of whole tables.
 fn time_rewrite(rt: &HostRuntime) -> io::Result<()> {
     let (best, ()) = best_of(|| {
         let mut regions = full_regions(rt.alloc())?;
         let runs = runs(rt.alloc(), REGIONS, ENTRIES, ENTRIES, REWRITTEN)?;
-        timed(rt, || rewrite_all(&mut regions, runs))
+        time_work(rt, || rewrite_all(&mut regions, runs))
     })?;
-    print_each(
+    print_time_per_unit(
         rt,
         "rewrite, whole tables",
         best,
@@ -350,7 +359,7 @@ fn pairs(alloc: Global) -> AllocResult<Vec<Pair>> {
     Ok(pairs)
 }
 
-/// Puts each pair.
+/// Puts each pair into the region's table, as far as none is refused.
 fn put_all(region: &mut Region, pairs: Vec<Pair>) {
     for pair in pairs {
         if region.put(pair).is_err() {
@@ -359,7 +368,7 @@ fn put_all(region: &mut Region, pairs: Vec<Pair>) {
     }
 }
 
-/// Deletes each key.
+/// Deletes the key of each pair from the region's table.
 fn delete_all(region: &mut Region, pairs: &[Pair]) {
     for (key, _) in pairs {
         region.delete(key);
@@ -375,23 +384,26 @@ fn change_keys(rt: &HostRuntime) -> io::Result<([u64; 3], ())> {
     Ok(([new, old, delete_pairs(rt, &mut region)?], ()))
 }
 
+/// Returns how many nanoseconds it takes to put all pairs.
 fn put_pairs(rt: &HostRuntime, region: &mut Region) -> io::Result<u64> {
     let pairs = pairs(rt.alloc())?;
-    let (taken, ()) = timed(rt, || put_all(region, pairs))?;
+    let (taken, ()) = time_work(rt, || put_all(region, pairs))?;
     Ok(taken)
 }
 
+/// Returns how many nanoseconds it takes to delete all keys.
 fn delete_pairs(rt: &HostRuntime, region: &mut Region) -> io::Result<u64> {
     let pairs = pairs(rt.alloc())?;
-    let (taken, ()) = timed(rt, || delete_all(region, pairs.as_slice()))?;
+    let (taken, ()) = time_work(rt, || delete_all(region, pairs.as_slice()))?;
     Ok(taken)
 }
 
+/// Times puts of new keys, puts of keys that stand, and deletions.
 fn time_puts(rt: &HostRuntime) -> io::Result<()> {
     let ([new, old, delete], ()) = best_of(|| change_keys(rt))?;
-    print_each(rt, "put, new keys, one table", new, "call", KEYS as u64)?;
-    print_each(rt, "put, keys that stand", old, "call", KEYS as u64)?;
-    print_each(rt, "delete", delete, "call", KEYS as u64)
+    print_time_per_unit(rt, "put, new keys, one table", new, "call", KEYS as u64)?;
+    print_time_per_unit(rt, "put, keys that stand", old, "call", KEYS as u64)?;
+    print_time_per_unit(rt, "delete", delete, "call", KEYS as u64)
 }
 
 /// Returns how many bytes the values of these keys have.
@@ -416,6 +428,7 @@ fn scanned_bytes(table: &MemTable) -> usize {
     }
 }
 
+/// Times look-ups of keys and scans in one table.
 fn time_key_reads(rt: &HostRuntime) -> io::Result<()> {
     let mut region = Region::new(rt.alloc(), 1);
     put_all(&mut region, pairs(rt.alloc())?);
@@ -426,12 +439,12 @@ fn time_key_reads(rt: &HostRuntime) -> io::Result<()> {
 /// Times look-ups of keys.
 fn time_gets(rt: &HostRuntime, table: &MemTable) -> io::Result<()> {
     let keys = pairs(rt.alloc())?;
-    let (best, got) = best_of(|| timed(rt, || value_bytes(table, keys.as_slice())))?;
-    print_each(rt, "get", best, "call", (got / 32) as u64)
+    let (best, got) = best_of(|| time_work(rt, || value_bytes(table, keys.as_slice())))?;
+    print_time_per_unit(rt, "get", best, "call", (got / 32) as u64)
 }
 
 /// Times a scan of all pairs.
 fn time_scans(rt: &HostRuntime, table: &MemTable) -> io::Result<()> {
-    let (best, scanned) = best_of(|| timed(rt, || scanned_bytes(table)))?;
-    print_each(rt, "scan", best, "pair", (scanned / 40) as u64)
+    let (best, scanned) = best_of(|| time_work(rt, || scanned_bytes(table)))?;
+    print_time_per_unit(rt, "scan", best, "pair", (scanned / 40) as u64)
 }

@@ -14,6 +14,7 @@ pub(crate) struct FileRange {
 }
 
 impl FileRange {
+    /// Returns the range of one file.
     pub(crate) fn of(file: FileId) -> FileRange
         ensures { range_shown result
             ≡ record { queue = file.queue; first_seq = file.seq; last_seq = file.seq } }
@@ -25,6 +26,7 @@ impl FileRange {
         }
     }
 
+    /// Tests whether the files are of this queue; where there are none it is true.
     pub(crate) fn suits(files: Option<FileRange>, queue: LogQueue) -> bool
         ensures { IsTrue result ↔ Suits queue (ranges_shown files) }
     {
@@ -34,6 +36,8 @@ impl FileRange {
         }
     }
 
+    /// Tests whether the newer files begin at or above the last of the older ones; where there are
+    /// no older or no newer ones it is true.
     pub(crate) fn follows(older: Option<FileRange>, newer: Option<FileRange>) -> bool
         ensures { result ≡ follows (ranges_shown older) (ranges_shown newer) }
     {
@@ -43,6 +47,7 @@ impl FileRange {
         }
     }
 
+    /// Returns the range of older files and of newer ones that follow them.
     pub(crate) fn joined(older: Option<FileRange>, newer: Option<FileRange>) -> Option<FileRange>
         ensures { ranges_shown result ≡ joined_files (ranges_shown older) (ranges_shown newer) }
     {

@@ -29,6 +29,11 @@ pub(crate) struct MarkedTables {
 }
 
 impl MarkedTables {
+    /// Makes one without tables.
+    ///
+    /// # Errors
+    ///
+    /// `Memory`.
     pub(crate) fn new(alloc: Global) -> Result<MarkedTables>
         ensures regions { IfOk result (λ tables. regions_in tables ≡ no_regions) }
         ensures cleaned { IfOk result (λ tables. tables.accessor.cleaned ≡ []) }
@@ -41,7 +46,13 @@ impl MarkedTables {
         })
     }
 
-    /// After an `Err` some items are taken in.
+    /// Takes in the items of a batch of this file, in order.
+    ///
+    /// # Errors
+    ///
+    /// `Corruption` where entries leave a hole in the append queue; `InvalidArgument` where a table
+    /// has records of the other queue; `Full` where the live records and those that the items name
+    /// are more than 2^64 - 1; `Memory`. Some items may then be taken in.
     pub(crate) fn take_items(&mut self, file: FileId, items: LogItemBatch) -> Result<()>
         requires { AreInFile file items }
         ensures ok { OnOk result
@@ -60,7 +71,12 @@ impl MarkedTables {
         self.take_each(file.queue, items.into_items())
     }
 
-    /// After an `Err` some steps are taken in.
+    /// Takes in the steps of a group that became whole, and then the numbers of its first and its
+    /// last file for each of its regions.
+    ///
+    /// # Errors
+    ///
+    /// Those of [`take_items`](MarkedTables::take_items). Some steps are then taken in.
     pub(crate) fn take_group(&mut self, whole: WholeGroup) -> Result<()>
         requires steps { AreStepsOfQueue Rewrite (whole_shown whole).steps }
         requires seqs { (whole_shown whole).first_seq ≤ (whole_shown whole).last_seq }
@@ -86,6 +102,7 @@ impl MarkedTables {
         self.take_seqs(&regions, first_seq, last_seq)
     }
 
+    /// Counts the regions that have a region mark, kept or implied by their table.
     pub(crate) fn marks_count(&self) -> u128
         ensures value { result ≡ finite.len (regions_in self.now).marks }
         ensures few { result < 2 ^ 73 }
@@ -93,12 +110,18 @@ impl MarkedTables {
         self.accessor.tables_count() + self.marks.count_absent(&self.accessor) as u128
     }
 
+    /// Counts the deleted keys of all region marks.
     pub(crate) fn deleted_keys(&self) -> u128
         ensures { result ≡ total (λ (m : Mark). finset.len m.deleted) (regions_in self.now).marks }
     {
         self.marks.deleted_keys()
     }
 
+    /// Takes in items, one after another.
+    ///
+    /// # Errors
+    ///
+    /// Those of [`take_items`](MarkedTables::take_items). Some items are then taken in.
     fn take_each(&mut self, queue: LogQueue, items: Vec<LogItem>) -> Result<()>
         requires { AreStepsOfQueue queue (steps_of_items (map item_of items.items)) }
         ensures { AreStepsTaken queue (steps_of_items (map item_of items.items)) result self.old
@@ -112,7 +135,14 @@ impl MarkedTables {
         Ok(())
     }
 
-    /// After an `Err` the run is in its table, and not in the region mark.
+    /// Takes in an item that is a run of entries, and returns whether it did. `false` comes for
+    /// another item, for a run without entries, and for one that the table refuses, as for want of
+    /// memory; nothing has then changed.
+    ///
+    /// # Errors
+    ///
+    /// Where there is no memory for the region mark. The run is then in its table, and not in the
+    /// mark.
     fn try_run(&mut self, queue: LogQueue, item: &LogItem) -> AllocResult<bool>
         requires { AreStepsOfQueue queue (steps_of_items (item_of item.now ∷ [])) }
         ensures { IfOk result (λ taken. MatchBool taken
@@ -134,6 +164,11 @@ impl MarkedTables {
         Ok(true)
     }
 
+    /// Sets the numbers of the first and the last file of a group for each of its regions.
+    ///
+    /// # Errors
+    ///
+    /// `Memory`. Some regions then have them.
     fn take_seqs(&mut self, regions: &[u64], first_seq: FileSeq, last_seq: FileSeq) -> Result<()>
         ensures { AreStepsTaken Rewrite (on_each regions.now (AtomicGroup first_seq last_seq))
             result self.old self.new }
@@ -148,6 +183,12 @@ impl MarkedTables {
         Ok(())
     }
 
+    /// Takes in an item, if it has a step.
+    ///
+    /// # Errors
+    ///
+    /// Those of [`take_items`](MarkedTables::take_items). The step may then be in the region mark
+    /// alone.
     fn take_item(&mut self, queue: LogQueue, item: LogItem) -> Result<()>
         requires { AreStepsOfQueue queue (steps_of_items (item_of item ∷ [])) }
         ensures { AreStepsTaken queue (steps_of_items (item_of item ∷ [])) result self.old
@@ -159,6 +200,11 @@ impl MarkedTables {
         }
     }
 
+    /// Takes in steps, one after another.
+    ///
+    /// # Errors
+    ///
+    /// Those of [`take_items`](MarkedTables::take_items). Some steps are then taken in.
     fn take_steps(&mut self, queue: LogQueue, steps: Vec<RegionStep>) -> Result<()>
         requires { AreStepsOfQueue queue (map region_step_shown steps.items) }
         ensures { AreStepsTaken queue (map region_step_shown steps.items) result self.old self.new }
@@ -169,6 +215,13 @@ impl MarkedTables {
         Ok(())
     }
 
+    /// Takes a step into the region mark of its region, but for a put, and then into the table, which
+    /// keeps what the step owns without a copy.
+    ///
+    /// # Errors
+    ///
+    /// Those of [`take_items`](MarkedTables::take_items). The step may then be in the region mark
+    /// alone.
     fn take_step(&mut self, queue: LogQueue, id: u64, step: Step) -> Result<()>
         requires { IsStepOfQueue queue (step_shown step) }
         ensures { AreStepsTaken queue (one_step id (step_shown step)) result self.old self.new }
@@ -195,6 +248,8 @@ impl MarkedTables {
         }
     }
 
+    /// Returns the first index of a region's entries, and the last one plus one; both are 0 without
+    /// entries.
     fn ends_of(&self, id: u64) -> (u64, u64)
         ensures ends { result ≡ (
           start_of (table_in self.now.accessor.tables id).entries,
@@ -212,6 +267,7 @@ impl MarkedTables {
     }
 }
 
+/// Tests whether a step puts a value under a key.
 fn is_put(step: &Step) -> bool
     ensures { result ≡ is_put (step_shown step.now) }
 {

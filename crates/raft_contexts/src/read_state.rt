@@ -28,6 +28,11 @@ pub(crate) struct ReadState {
 }
 
 impl ReadState {
+    /// Makes one that has read nothing.
+    ///
+    /// # Errors
+    ///
+    /// `Memory`.
     pub(crate) fn new(alloc: Global) -> Result<ReadState>
         ensures ok { IfOk result (λ state. context_in state ≡ new_context) }
         ensures counts { IfOk result (λ state. state.regions.accessor.counts ≡ no_counts) }
@@ -41,6 +46,12 @@ impl ReadState {
         })
     }
 
+    /// Replays one more batch, which was written to this file.
+    ///
+    /// # Errors
+    ///
+    /// Those of [`MemTableRecoverContext::replay`](crate::MemTableRecoverContext::replay) but for
+    /// `Failed`. A part of the batch may then be taken in.
     pub(crate) fn replay(&mut self, batch: LogItemBatch, file: FileId) -> Result<()>
         requires { IsOfHistory (context_in self.old) }
         ensures { IsTakenIn (event batch file) result self.old self.new }
@@ -52,6 +63,11 @@ impl ReadState {
         }
     }
 
+    /// Does what `replay` does, with a batch as it was read.
+    ///
+    /// # Errors
+    ///
+    /// Those of `replay`.
     pub(crate) fn replay_read(&mut self, batch: &ReadBatch<'_>, file: FileId) -> Result<()>
         requires { IsOfHistory (context_in self.old) }
         ensures { IsTakenIn (event batch.now file) result self.old self.new }
@@ -66,6 +82,11 @@ impl ReadState {
         Ok(())
     }
 
+    /// Refuses a batch of the other queue, or of a file below the last one.
+    ///
+    /// # Errors
+    ///
+    /// `Corruption`, or `Memory` where its text finds none.
     fn check_file(&self, file: FileId) -> Result<()>
         ensures queue { OnOk result (Suits file.queue (context_in self.now).files) }
         ensures files { OnOk result ((items : List Item)
@@ -82,6 +103,11 @@ impl ReadState {
         Ok(())
     }
 
+    /// Takes in a batch without a group marker, which takes effect at once.
+    ///
+    /// # Errors
+    ///
+    /// Those of `replay`.
     fn take_lone_batch(&mut self, batch: LogItemBatch, file: FileId) -> Result<()>
         requires history { IsOfHistory (context_in self.old) }
         requires next { MayFollow (context_in self.old) (event batch file) }
@@ -93,6 +119,12 @@ impl ReadState {
         Ok(())
     }
 
+    /// Takes in a batch with a group marker. Where the group becomes whole by it, that takes
+    /// effect.
+    ///
+    /// # Errors
+    ///
+    /// Those of `replay`. The group may then be forgotten.
     fn take_group_batch(
         &mut self,
         id: u64,
@@ -112,6 +144,13 @@ impl ReadState {
         Ok(())
     }
 
+    /// Takes in what was read of the batches that follow. Groups that become whole between the two
+    /// take effect first.
+    ///
+    /// # Errors
+    ///
+    /// Those of [`MemTableRecoverContext::merge`](crate::MemTableRecoverContext::merge) but for
+    /// `Failed`. Some of it may then be taken in.
     pub(crate) fn merge(&mut self, newer: ReadState, queue: LogQueue) -> Result<()>
         requires older { IsOfHistory (context_in self.old) }
         requires newer { IsOfHistory (context_in newer) }
@@ -139,6 +178,8 @@ impl ReadState {
         Ok(())
     }
 
+    /// Counts the records, region marks and groups, deleted keys, cleaned regions and waiting items
+    /// that are held.
     pub(crate) fn kept(&self) -> Kept
         ensures { kept_shown result ≡ kept_of (context_in self.now) }
     {
@@ -154,6 +195,7 @@ impl ReadState {
         }
     }
 
+    /// Counts what is held once the append queue was put over it: tables imply no region mark then.
     pub(crate) fn kept_overlaid(&self) -> Kept
         ensures { kept_shown result ≡ kept_of (shown_with self.now.regions.marks self.now) }
     {
@@ -165,6 +207,12 @@ impl ReadState {
         }
     }
 
+    /// Refuses a newer neighbor of another queue, or one that begins in a file below the last one.
+    ///
+    /// # Errors
+    ///
+    /// `InvalidArgument` for another queue, `Corruption` for the file, `Memory` where the text
+    /// finds none.
     fn check_neighbor(&self, newer: &ReadState, queue: LogQueue) -> Result<()>
         ensures ok { OnOk result (AreNeighbors queue (context_in self.now)
             (context_in newer.now)) }
@@ -184,6 +232,11 @@ impl ReadState {
     }
 }
 
+/// Takes in a group, if one became whole.
+///
+/// # Errors
+///
+/// Those of [`MarkedTables::take_group`].
 fn take_whole(regions: &mut MarkedTables, whole: Option<WholeGroup>) -> Result<()>
     requires { CanTakeEffectIfAny (option_map whole_shown whole) }
     ensures wholes { AreWholesTaken (region_steps_or (option_map whole_shown whole)) result
@@ -198,6 +251,11 @@ fn take_whole(regions: &mut MarkedTables, whole: Option<WholeGroup>) -> Result<(
     }
 }
 
+/// Takes in groups that became whole, one after another.
+///
+/// # Errors
+///
+/// Those of [`MarkedTables::take_group`]. Some groups are then taken in.
 fn take_wholes(regions: &mut MarkedTables, wholes: Vec<WholeGroup>) -> Result<()>
     requires { AllByRecursion CanTakeEffect (map whole_shown wholes.items) }
     ensures wholes { AreWholesTaken (region_steps_of_wholes (map whole_shown wholes.items)) result

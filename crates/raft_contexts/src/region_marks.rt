@@ -75,6 +75,7 @@ impl RegionMarks {
         count
     }
 
+    /// Counts the regions whose region mark is kept and that have no table.
     pub(crate) fn count_absent(&self, tables: &MemTableAccessor) -> u64
         ensures { result ≡ count_absent tables.now.tables (keys_of (finite.entries self.now)) }
     {
@@ -138,6 +139,7 @@ impl RegionMarks {
         self.slots[slot_of(id)].join(id, queue, end_at_reach, newer)
     }
 
+    /// Tests whether the region mark of a region is kept.
     fn has(&self, id: u64) -> bool
         ensures { result ≡ is_some (finite.get self.now id) }
     {
@@ -157,6 +159,11 @@ impl RegionMarks {
         self.slots[slot_of(id)].get(id)
     }
 
+    /// Keeps the region mark of a run from `start` on as that of a region.
+    ///
+    /// # Errors
+    ///
+    /// Where there is no memory for it. The region marks are then as they were.
     fn put_run(&mut self, id: u64, start: u64) -> AllocResult<()>
         ensures ok { OnOk result (self.new ≡ finite.insert self.old id (run_at start)) }
         ensures err { OnErr result (self.new ≡ self.old) }
@@ -166,6 +173,10 @@ impl RegionMarks {
     }
 
     /// Keeps the region mark of a region, if its table has implied it so far.
+    ///
+    /// # Errors
+    ///
+    /// Where there is no memory for it. It is then implied still.
     pub(crate) fn keep(&mut self, id: u64, tables: &MemTableAccessor) -> AllocResult<()>
         ensures same { all_marks tables.now.tables self.new ≡ all_marks tables.now.tables self.old }
         ensures kept { OnOk result (mark_in self.new id ≡ mark_in (all_marks tables.now.tables self.old) id) }
@@ -182,8 +193,12 @@ impl RegionMarks {
         }
     }
 
-    /// Joins the region mark of a run from `first` on to that of its region, whose entries went from `start` to `end`
-    /// in front of the run, where the table doesn't imply it still.
+    /// Joins the region mark of a run from `first` on to that of its region, whose entries went
+    /// from `start` to `end` in front of the run, where the table doesn't imply it still.
+    ///
+    /// # Errors
+    ///
+    /// Where there is no memory for it. The region mark then lacks the run.
     #[inline(always)]
     pub(crate) fn mark_run(
         &mut self,
@@ -208,6 +223,7 @@ impl RegionMarks {
         self.add_run(id, queue, end, first)
     }
 
+    /// Returns the region mark that a table implies: that of one run of all its entries.
     pub(crate) fn implied_by(&self, table: &MemTable) -> Mark
         ensures { result ≡ implied_mark table.now }
     {
@@ -225,6 +241,10 @@ impl RegionMarks {
     }
 
     /// Makes room in a slot, up to `count` region marks.
+    ///
+    /// # Errors
+    ///
+    /// Where there is no memory for it. No region mark changes in either case.
     pub(crate) fn make_room(&mut self, slot: usize, count: usize) -> AllocResult<()>
         requires { slot < 128 }
         ensures { self.new ≡ self.old }
@@ -233,6 +253,7 @@ impl RegionMarks {
         self.slots[slot].make_room(count)
     }
 
+    /// Returns the region marks by slots, 128 of them or none.
     pub(crate) fn into_slots(self) -> Vec<SlotMarks>
         ensures marks { together result.items ≡ self }
         ensures slots { AreSlots 0 result.items }
@@ -242,6 +263,11 @@ impl RegionMarks {
     }
 }
 
+/// Makes empty slots where there are none.
+///
+/// # Errors
+///
+/// Where there is no memory for them. There are none then.
 fn make_slots(slots: &mut Vec<SlotMarks>, alloc: Global) -> AllocResult<()>
     ensures ok { OnOk result (slots.new.items ≡ with_slots slots.old.items) }
     ensures err { OnErr result (slots.new.items ≡ slots.old.items) }
@@ -252,6 +278,11 @@ fn make_slots(slots: &mut Vec<SlotMarks>, alloc: Global) -> AllocResult<()>
     Ok(())
 }
 
+/// Makes 128 slots without region marks.
+///
+/// # Errors
+///
+/// Where there is no memory for them.
 fn empty_slots(alloc: Global) -> AllocResult<Vec<SlotMarks>>
     ensures { IfOk result (λ slots. slots.items ≡ replicate 128 finite.empty) }
 {

@@ -31,6 +31,10 @@ pub struct TakenAway {
 
 impl MarkedTables {
     /// Returns what the region marks take away of rewritten tables, as batches that tell it.
+    ///
+    /// # Errors
+    ///
+    /// `Memory`.
     pub(crate) fn taken_away(
         &self,
         alloc: Global,
@@ -50,6 +54,11 @@ impl MarkedTables {
         Ok(taken)
     }
 
+    /// Adds what the append queue takes away of a rewritten table.
+    ///
+    /// # Errors
+    ///
+    /// `Memory`. Some of it may then be added.
     fn tell_table(&self, table: &MemTable, taken: &mut TakenAway) -> Result<()>
         requires { AreOpen taken.old }
         ensures ok { OnOk result (taken.new ≡ with_table_told (regions_in self.now) table.now taken.old) }
@@ -62,6 +71,12 @@ impl MarkedTables {
         }
     }
 
+    /// Adds what the append queue takes away of a rewritten table whose region has no kept region
+    /// mark: it is that which the appended table implies, if there is one.
+    ///
+    /// # Errors
+    ///
+    /// `Memory`. Some of it may then be added.
     fn tell_unmarked(&self, table: &MemTable, taken: &mut TakenAway) -> Result<()>
         requires none_kept { finite.get self.now.marks table.now.region_id ≡ None }
         requires open { AreOpen taken.old }
@@ -186,6 +201,11 @@ fn tell_steps(mark: &Mark, table: &MemTable, told: &mut LogBatch) -> Result<()>
     tell_deletions(table.region_id(), keys, told)
 }
 
+/// Adds what a region mark's clean, floor and cut take away of a rewritten table to a batch.
+///
+/// # Errors
+///
+/// `Memory`. Some of it may then be added.
 fn tell_bounds(mark: &Mark, table: &MemTable, told: &mut LogBatch) -> Result<()>
     requires { told.old.stage ≡ is_open }
     ensures ok { OnOk result (told.new ≡ record told.old {
@@ -210,6 +230,11 @@ fn tell_bounds(mark: &Mark, table: &MemTable, told: &mut LogBatch) -> Result<()>
     }
 }
 
+/// Adds a command to a batch, where it takes something away.
+///
+/// # Errors
+///
+/// `Memory`. The batch is then as it was.
 fn tell_if(takes: bool, region: u64, command: Command, told: &mut LogBatch) -> Result<()>
     requires { told.old.stage ≡ is_open }
     ensures ok { OnOk result (told.new ≡ record told.old {
@@ -223,6 +248,11 @@ fn tell_if(takes: bool, region: u64, command: Command, told: &mut LogBatch) -> R
     Ok(())
 }
 
+/// Adds the deletions of a region's keys to a batch.
+///
+/// # Errors
+///
+/// `Memory`. Some of them may then be added.
 fn tell_deletions(region: u64, keys: Vec<Vec<u8>>, told: &mut LogBatch) -> Result<()>
     requires { told.old.stage ≡ is_open }
     ensures ok { OnOk result (told.new ≡ record told.old {
@@ -236,12 +266,14 @@ fn tell_deletions(region: u64, keys: Vec<Vec<u8>>, told: &mut LogBatch) -> Resul
     Ok(())
 }
 
+/// Tests whether a table has an entry or a key value.
 fn has_records(table: &MemTable) -> bool
     ensures { result ≡ takes_of table.now Clean }
 {
     table.entries_count() > 0 || table.key_count() > 0
 }
 
+/// Tests whether a table has an entry below an index.
 fn begins_below(table: &MemTable, index: u64) -> bool
     ensures { result ≡ takes_of table.now (Compact index) }
 {
@@ -252,6 +284,7 @@ fn begins_below(table: &MemTable, index: u64) -> bool
     }
 }
 
+/// Tests whether a table has an entry at or above an index.
 fn ends_behind(table: &MemTable, index: u64) -> bool
     ensures { result ≡ takes_of table.now (Truncate index) }
 {

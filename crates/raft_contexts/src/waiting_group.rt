@@ -46,6 +46,7 @@ pub struct WholeGroup {
 }
 
 impl GroupFront {
+    /// Returns how many items wait in front of the first `Begin`.
     fn len(&self) -> usize
         ensures { result ≡ length (front_steps (front_shown self.now)) }
     {
@@ -56,6 +57,11 @@ impl GroupFront {
         }
     }
 
+    /// Puts older items in front of these. Where a `Begin` came first they are dropped.
+    ///
+    /// # Errors
+    ///
+    /// Where there is no memory for them.
     fn led_by(self, mut items: WaitingItems) -> AllocResult<GroupFront>
         ensures { IfOk result (λ r. front_shown r ≡ led_by items (front_shown self)) }
     {
@@ -99,7 +105,7 @@ impl WaitingGroup {
         WaitingGroup { front, stretch }
     }
 
-    /// Returns how many items wait.
+    /// Returns how many items wait, in front of the first `Begin` and in the open stretch.
     pub fn len(&self) -> u128
         ensures items { result ≡ length (held_steps (group_shown self.now)) }
         ensures bound { result < 2 ^ 65 }
@@ -136,6 +142,11 @@ impl WaitingGroup {
     }
 }
 
+/// Puts items behind those of a stretch, if one is open.
+///
+/// # Errors
+///
+/// Where there is no memory for them.
 fn going_on(stretch: Option<OpenStretch>, items: WaitingItems) -> AllocResult<Option<OpenStretch>>
     ensures { IfOk result (λ r. stretch_shown r ≡ carried_stretch (stretch_shown stretch) items) }
 {
@@ -146,6 +157,12 @@ fn going_on(stretch: Option<OpenStretch>, items: WaitingItems) -> AllocResult<Op
     Ok(Some(open))
 }
 
+/// Ends a stretch, if one is open, with these items, and returns the whole group. `last_seq` is the
+/// number of the file of its `End`.
+///
+/// # Errors
+///
+/// Where there is no memory for the items.
 fn ended(
     stretch: Option<OpenStretch>,
     items: WaitingItems,

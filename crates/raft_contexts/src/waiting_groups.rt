@@ -117,6 +117,11 @@ impl WaitingGroups {
         Ok(wholes)
     }
 
+    /// Joins what a newer history says of a group. Returns the group if the two make it whole.
+    ///
+    /// # Errors
+    ///
+    /// Where there is no memory. The group may then be forgotten.
     fn join_one(&mut self, id: u64, newer: WaitingGroup) -> AllocResult<Option<WholeGroup>>
         ensures known { OnOk result (self.new
             ≡ finite.insert self.old id (joined_group (known_of self.old id) (group_shown newer))) }
@@ -129,6 +134,7 @@ impl WaitingGroups {
         Ok(whole)
     }
 
+    /// Takes the group of the least id out, `None` where there is none.
     fn take_first(&mut self) -> Option<(u64, WaitingGroup)>
         ensures first { IfSome result (λ p. finite.entries self.old
             ≡ (p.0, group_shown p.1) ∷ finite.entries self.new) }
@@ -140,6 +146,7 @@ impl WaitingGroups {
     }
 }
 
+/// Takes what is known of a group out. Of one that isn't there it is nothing.
 fn take_out(groups: &mut BTreeMap<u64, WaitingGroup>, alloc: Global, id: u64) -> WaitingGroup
     requires { IsOrdered nat_cmp groups.old }
     ensures known { group_shown result ≡ known_of (seen_entries groups.old.entries) id }
@@ -152,6 +159,11 @@ fn take_out(groups: &mut BTreeMap<u64, WaitingGroup>, alloc: Global, id: u64) ->
     }
 }
 
+/// Pushes a group, if there is one.
+///
+/// # Errors
+///
+/// Where there is no memory for it.
 fn push_some(wholes: &mut Vec<WholeGroup>, whole: Option<WholeGroup>) -> AllocResult<()>
     ensures { OnOk result (map whole_shown wholes.new.items
         ≡ map whole_shown wholes.old.items ++ option_to_list (option_map whole_shown whole)) }

@@ -102,6 +102,7 @@ impl WaitingItems {
     }
 }
 
+/// Tests whether an id is the last one of a list.
 fn is_last(ids: &[u64], id: u64) -> bool
     ensures { (r : ℕ) → IsTrue result → list_any (λ i. r == i) (ids.now ++ id ∷ []) ≡ list_any
         (λ i. r == i) ids.now }

@@ -58,6 +58,7 @@ fn draw_long(alloc: Global, dice: &mut Dice, records: &Records, len: usize) -> R
     one_entry(end, vec![in alloc; dice.letter(); len]?)
 }
 
+/// Returns the change that appends one entry of this text.
 fn one_entry(index: u64, text: Vec<u8>) -> Result<Change> {
     let alloc = *text.allocator();
     Ok(Change::Append(vec![in alloc; Proposal { index, text }]?))

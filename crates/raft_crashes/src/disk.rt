@@ -1,7 +1,7 @@
-//! What a disk holds of the files of both queues, and what a stop of the machine may leave of them.
+//! What a disk holds of the files of both queues, and what a crash may leave of them.
 
 use crate::noted_files::{Act, Ask, LogFiles};
-use crate::queue_disk::{Left, QueueDisk};
+use crate::queue_disk::{QueueDisk, Rest};
 use raft_base::{LogQueue, Result};
 use raft_samples::Dice;
 use std::alloc::Global;
@@ -9,11 +9,11 @@ use std::alloc::Global;
 /// How many bytes the header of a batch has.
 const HEADER_LEN: usize = 16;
 
-/// What a stop leaves of the files of both queues. What is left of one says nothing of the other.
+/// What a crash leaves of the files of both queues. What is left of one says nothing of the other.
 #[derive(Clone, Copy)]
-pub(crate) struct Stop {
-    append: Left,
-    rewrite: Left,
+pub(crate) struct Crash {
+    append: Rest,
+    rewrite: Rest,
 }
 
 /// The files of both queues, and which records they have.
@@ -22,7 +22,7 @@ pub(crate) struct Disk {
     append: QueueDisk,
     rewrite: QueueDisk,
     /// The records by the batches that are synced, and by each further one.
-    fronts: Vec<String>,
+    prefix_records: Vec<String>,
 }
 
 impl Disk {
@@ -31,24 +31,28 @@ impl Disk {
         Ok(Disk {
             append: QueueDisk::new(alloc),
             rewrite: QueueDisk::new(alloc),
-            fronts: vec![in alloc; String::new(alloc)]?,
+            prefix_records: vec![in alloc; String::new(alloc)]?,
         })
     }
 
-    /// Returns the disk that a stop leaves.
-    pub(crate) fn left_by(&self, stop: Stop) -> Result<Disk> {
+    /// Returns the disk that a crash leaves.
+    pub(crate) fn disk_after(&self, crash: Crash) -> Result<Disk> {
         let alloc = self.append.alloc();
-        let records = match self.fronts.get(self.append.batches_in(stop.append)) {
+        let records = match self
+            .prefix_records
+            .get(self.append.batches_in(crash.append))
+        {
             Some(records) => String::from_str(alloc, records)?,
             None => String::new(alloc),
         };
         Ok(Disk {
-            append: self.append.left_by(stop.append)?,
-            rewrite: self.rewrite.left_by(stop.rewrite)?,
-            fronts: vec![in alloc; records]?,
+            append: self.append.disk_after(crash.append)?,
+            rewrite: self.rewrite.disk_after(crash.rewrite)?,
+            prefix_records: vec![in alloc; records]?,
         })
     }
 
+    /// Returns the disk of a queue.
     fn queue(&self, queue: LogQueue) -> &QueueDisk {
         match queue {
             LogQueue::Append => &self.append,
@@ -57,24 +61,26 @@ impl Disk {
     }
 
     /// Takes in an ask. Where it puts a batch in the append queue the records are these from then on.
-    pub(crate) fn take(&mut self, ask: &Ask, records: &str) -> Result<()> {
+    pub(crate) fn take_ask(&mut self, ask: &Ask, records: &str) -> Result<()> {
         match ask.queue {
-            LogQueue::Append => self.append.take(&ask.act)?,
-            LogQueue::Rewrite => self.rewrite.take(&ask.act)?,
+            LogQueue::Append => self.append.take_act(&ask.act)?,
+            LogQueue::Rewrite => self.rewrite.take_act(&ask.act)?,
         }
         if ask.queue == LogQueue::Append {
-            self.take_front(&ask.act, records)?;
+            self.note_records(&ask.act, records)?;
         }
         Ok(())
     }
 
-    fn take_front(&mut self, act: &Act, records: &str) -> Result<()> {
+    /// Notes which records stand by the batches of the append queue, after an act on its files: one
+    /// more where a batch is put, the last ones alone after a sync.
+    fn note_records(&mut self, act: &Act, records: &str) -> Result<()> {
         let alloc = self.append.alloc();
         match act {
-            Act::Put(_) => self.fronts.push(String::from_str(alloc, records)?)?,
+            Act::Put(_) => self.prefix_records.push(String::from_str(alloc, records)?)?,
             Act::Begin(_) | Act::Sync => {
-                if let Some(last) = self.fronts.pop() {
-                    self.fronts = vec![in alloc; last]?;
+                if let Some(last) = self.prefix_records.pop() {
+                    self.prefix_records = vec![in alloc; last]?;
                 }
             }
             Act::Delete | Act::Cut(_) => {}
@@ -82,47 +88,47 @@ impl Disk {
         Ok(())
     }
 
-    /// Returns the stop that loses nothing.
-    pub(crate) fn nothing_lost(&self) -> Stop {
-        Stop {
+    /// Returns the crash that loses nothing.
+    pub(crate) fn lossless_crash(&self) -> Crash {
+        Crash {
             append: self.append.whole(),
             rewrite: self.rewrite.whole(),
         }
     }
 
-    /// Draws a stop.
-    pub(crate) fn draw(&self, dice: &mut Dice) -> Stop {
-        Stop {
+    /// Draws a crash.
+    pub(crate) fn draw(&self, dice: &mut Dice) -> Crash {
+        Crash {
             append: self.append.draw(dice),
             rewrite: self.rewrite.draw(dice),
         }
     }
 
-    /// Returns the stops that leave more and more of what a queue was asked last: each byte of the last batch, while the other
+    /// Returns the crashes that leave more and more of what a queue was asked last: each byte of the last batch, while the other
     /// queue loses all that it may, and while it loses nothing.
-    pub(crate) fn stops_in(&self, queue: LogQueue) -> Result<Vec<Stop>> {
-        let mut stops = Vec::new(self.append.alloc());
-        for left in self.queue(queue).lefts()? {
+    pub(crate) fn crashes_in(&self, queue: LogQueue) -> Result<Vec<Crash>> {
+        let mut crashes = Vec::new(self.append.alloc());
+        for left in self.queue(queue).possible_rests()? {
             let other = self.queue(queue.other());
-            for end in [other.front(other.synced), other.whole()] {
-                stops.push(match queue {
-                    LogQueue::Append => Stop {
+            for end in [other.prefix(other.synced), other.whole()] {
+                crashes.push(match queue {
+                    LogQueue::Append => Crash {
                         append: left,
                         rewrite: end,
                     },
-                    LogQueue::Rewrite => Stop {
+                    LogQueue::Rewrite => Crash {
                         append: end,
                         rewrite: left,
                     },
                 })?;
             }
         }
-        Ok(stops)
+        Ok(crashes)
     }
 
     /// Returns the records by the batches that are synced.
     pub(crate) fn records(&self) -> &str {
-        match self.fronts.first() {
+        match self.prefix_records.first() {
             Some(records) => records.as_str(),
             None => "",
         }

@@ -3,12 +3,12 @@
 
 use crate::choice::Choice;
 use crate::choice::Choice::{Clean, Compact, Delete, Entries, Put, SoundBatch, Truncate};
+use crate::crashes::{Crashes, Host};
 use crate::faults::Step::{
     Again, Purge, PurgeRewrites, Restart, Rewrite, Rotate, Sync, Synced, Write,
 };
 use crate::found::{Way, open};
 use crate::history::History;
-use crate::stops::{Host, Stops};
 use raft_base::{Error, FileSeq, LogQueue, Result, Version};
 
 /// A step of a history of region 1.
@@ -210,13 +210,13 @@ static FAULTS: [&[Step]; 14] = [
 ];
 
 /// Goes through all of them, in both versions, with one worker and with four, and returns how many they are.
-pub(crate) fn go_through<R: Host>(stops: &mut Stops<'_, R>) -> Result<u64> {
+pub(crate) fn go_through<R: Host>(crashes: &mut Crashes<'_, R>) -> Result<u64> {
     let mut count = 0u64;
     for version in [Version::V1, Version::V2] {
         for workers in [1, 4] {
             for steps in &FAULTS {
                 let way = Way { version, workers };
-                take_all(stops, way, steps, count)?;
+                take_history(crashes, way, steps, count)?;
                 count = count.saturating_add(1);
             }
         }
@@ -225,70 +225,78 @@ pub(crate) fn go_through<R: Host>(stops: &mut Stops<'_, R>) -> Result<u64> {
 }
 
 /// Takes the steps of a history, the one of this number.
-fn take_all<R: Host>(
-    stops: &mut Stops<'_, R>,
+fn take_history<R: Host>(
+    crashes: &mut Crashes<'_, R>,
     way: Way,
     steps: &[Step],
     number: u64,
 ) -> Result<()> {
-    let different = stops.different;
-    let mut history = History::begin(stops, number, way, way.workers == 1)?;
-    take_each(stops, &mut history, steps, number, different)
+    let different = crashes.different;
+    let mut history = History::begin(crashes, number, way, way.workers == 1)?;
+    take_steps(crashes, &mut history, steps, number, different)
 }
 
-fn take_each<R: Host>(
-    stops: &mut Stops<'_, R>,
+/// Takes the steps of a history one after another, until more is different than `different`, and
+/// prints where that was. In the end a page of an unsynced batch is lost.
+fn take_steps<R: Host>(
+    crashes: &mut Crashes<'_, R>,
     history: &mut History,
     steps: &[Step],
     number: u64,
     different: u64,
 ) -> Result<()> {
     for (at, step) in steps.iter().enumerate() {
-        let taken = take(stops, history, *step);
-        stops.succeeds(taken)?;
-        if stops.different > different {
-            return stops.differs_in("fault", number, at as u64);
+        let taken = take_step(crashes, history, *step);
+        crashes.check_success(taken)?;
+        if crashes.different > different {
+            return crashes.print_where("fault", number, at as u64);
         }
     }
-    lose_page(stops, history)
+    lose_page(crashes, history)
 }
 
-fn take<R: Host>(stops: &mut Stops<'_, R>, history: &mut History, step: Step) -> Result<()> {
+/// Takes a step.
+fn take_step<R: Host>(
+    crashes: &mut Crashes<'_, R>,
+    history: &mut History,
+    step: Step,
+) -> Result<()> {
     match step {
-        Write(choices) => write(stops, history, choices, false),
-        Synced(choices) => write(stops, history, choices, true),
-        Sync => history.sync(stops),
-        Rotate => history.rotate(stops),
-        Rewrite(gate) => history.rewrite(stops, gate),
-        Again => history.rewrite_again(stops),
-        Purge => history.purge(stops, LogQueue::Append),
-        PurgeRewrites => history.purge(stops, LogQueue::Rewrite),
-        Restart => history.restart(stops),
+        Write(choices) => write(crashes, history, choices, false),
+        Synced(choices) => write(crashes, history, choices, true),
+        Sync => history.sync(crashes),
+        Rotate => history.rotate(crashes),
+        Rewrite(gate) => history.rewrite(crashes, gate),
+        Again => history.rewrite_again(crashes),
+        Purge => history.purge(crashes, LogQueue::Append),
+        PurgeRewrites => history.purge(crashes, LogQueue::Rewrite),
+        Restart => history.restart(crashes),
     }
 }
 
+/// Writes a batch of these changes of region 1, and syncs it where that is asked for.
 fn write<R: Host>(
-    stops: &mut Stops<'_, R>,
+    crashes: &mut Crashes<'_, R>,
     history: &mut History,
     choices: &[Choice],
     sync: bool,
 ) -> Result<()> {
-    let mut changes = Vec::new(stops.rt.alloc());
+    let mut changes = Vec::new(crashes.rt.alloc());
     for choice in choices {
         changes.push((1, *choice))?;
     }
-    history.write(stops, changes.as_slice(), sync)
+    history.write(crashes, changes.as_slice(), sync)
 }
 
-/// Opens the files where the first of two batches that aren't synced has lost what stands behind its header, which no front does:
+/// Opens the files where the first of two batches that aren't synced has lost what stands behind its header, which no prefix does:
 /// that has to be refused as damage.
-fn lose_page<R: Host>(stops: &mut Stops<'_, R>, history: &History) -> Result<()> {
+fn lose_page<R: Host>(crashes: &mut Crashes<'_, R>, history: &History) -> Result<()> {
     let Some((append, rewrite)) = history.disk.with_lost_page()? else {
         return Ok(());
     };
-    match open(stops.rt, stops.rt.alloc(), history.way, append, rewrite) {
+    match open(crashes.rt, crashes.rt.alloc(), history.way, append, rewrite) {
         Err(Error::Corruption(_)) => Ok(()),
         Err(e) => Err(e),
-        Ok(_) => stops.differs("a page was lost, and the files were opened"),
+        Ok(_) => crashes.count_difference("a page was lost, and the files were opened"),
     }
 }

@@ -56,13 +56,14 @@ fn records_of_region(
     read_entries(alloc, engine, region, &mut records)?;
     let mut kept = Ok(());
     engine.scan(region, None, None, false, |key, value| {
-        kept = put(alloc, &mut records, key, value);
+        kept = put_copy(alloc, &mut records, key, value);
         kept.is_ok()
     })?;
     kept?;
     Ok(records)
 }
 
+/// Reads the entries of a region into its records.
 fn read_entries(
     alloc: Global,
     engine: &mut Engine<NotedFiles>,
@@ -70,7 +71,7 @@ fn read_entries(
     records: &mut Records,
 ) -> Result<()> {
     if let (Some(first), Some(last)) = (engine.first_index(region), engine.last_index(region)) {
-        let entries = fetched(alloc, engine, region, first, last.saturating_add(1))?;
+        let entries = fetch_entries(alloc, engine, region, first, last.saturating_add(1))?;
         for (index, text) in (first..).zip(entries) {
             let _ = records.entries.insert(index, text)?;
         }
@@ -78,7 +79,8 @@ fn read_entries(
     Ok(())
 }
 
-fn fetched(
+/// Returns the bytes of a region's entries from `first` on and below `end`.
+fn fetch_entries(
     alloc: Global,
     engine: &mut Engine<NotedFiles>,
     region: u64,
@@ -91,7 +93,7 @@ fn fetched(
 }
 
 /// Recovers the tables of both queues, and reads their records in the files.
-pub(crate) fn recovered<R: Threads + Sync>(
+pub(crate) fn recover_records<R: Threads + Sync>(
     rt: &R,
     alloc: Global,
     way: Way,
@@ -99,10 +101,11 @@ pub(crate) fn recovered<R: Threads + Sync>(
     rewrite: LogFiles,
 ) -> Result<Contents> {
     let files = MemoryFiles::found(append, rewrite);
-    recovered_from(rt, alloc, way, &files)
+    recover_records_of(rt, alloc, way, &files)
 }
 
-fn recovered_from<R: Threads + Sync>(
+/// Recovers the tables of these files, and reads their records there.
+fn recover_records_of<R: Threads + Sync>(
     rt: &R,
     alloc: Global,
     way: Way,
@@ -130,6 +133,7 @@ fn tables_of<R: Threads + Sync>(
     )
 }
 
+/// Returns the files of a queue, a segment each.
 fn segments_of(way: Way, files: &MemoryFiles, queue: LogQueue) -> Result<Vec<Segment>> {
     file_segments(queue, way.version, files.copies(queue)?)
 }
@@ -155,7 +159,8 @@ fn regions_of(alloc: Global, accessor: &MemTableAccessor) -> Result<Vec<u64>> {
     Ok(regions)
 }
 
-fn put(alloc: Global, records: &mut Records, key: &[u8], value: &[u8]) -> Result<()> {
+/// Puts copies of a key and its value.
+fn put_copy(alloc: Global, records: &mut Records, key: &[u8], value: &[u8]) -> Result<()> {
     let (key, value) = (Vec::from_slice(alloc, key)?, Vec::from_slice(alloc, value)?);
     let _ = records.pairs.insert(key, value)?;
     Ok(())
@@ -184,6 +189,7 @@ fn bytes_of(alloc: Global, files: &MemoryFiles, entry: &EntryIndex) -> Result<Ve
     Ok(Vec::from_slice(alloc, entry_bytes(alloc, block.as_slice(), entry)?)?)
 }
 
+/// Returns the bytes of a file, if it is there.
 fn bytes_in(files: &MemoryFiles, id: FileId) -> Option<&[u8]> {
     for (seq, bytes) in files.files(id.queue) {
         if *seq == id.seq {

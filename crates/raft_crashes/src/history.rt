@@ -4,10 +4,10 @@ ghost use Rattle.std.specs.Prelude.{◌≡◌, OnOk};
 ghost use Rattle.raft_records.specs.LogBatch.{is_open};
 
 use crate::choice::Choice;
-use crate::disk::{Disk, Stop};
+use crate::crashes::{Crashes, Host};
+use crate::disk::{Crash, Disk};
 use crate::found::{Way, open, records_of};
 use crate::noted_files::NotedFiles;
-use crate::stops::{Host, Stops};
 use raft_base::{FileSeq, LogQueue, Result, Version};
 use raft_engine::Engine;
 use raft_files::MemoryFiles;
@@ -34,16 +34,17 @@ pub(crate) struct History {
 impl History {
     /// Begins a history with an engine without records.
     pub(crate) fn begin<R: Host>(
-        stops: &mut Stops<'_, R>,
+        crashes: &mut Crashes<'_, R>,
         seed: u64,
         way: Way,
         by_bytes: bool,
     ) -> Result<History> {
-        let mut history = History::new(stops.rt.alloc(), seed, way, by_bytes)?;
-        history.follow(stops)?;
+        let mut history = History::new(crashes.rt.alloc(), seed, way, by_bytes)?;
+        history.follow(crashes)?;
         Ok(history)
     }
 
+    /// Makes a history with an engine without files and records, and the dice of this seed.
     fn new(alloc: Global, seed: u64, way: Way, by_bytes: bool) -> Result<History> {
         let disk = Disk::new(alloc)?;
         Ok(History {
@@ -58,26 +59,28 @@ impl History {
         })
     }
 
-    /// Looks whether the engine has the records that it has to have, lets the disk take in what was asked, and tries stops after
+    /// Looks whether the engine has the records that it has to have, lets the disk take in what was asked, and tries crashes after
     /// each ask.
-    fn follow<R: Host>(&mut self, stops: &mut Stops<'_, R>) -> Result<()> {
+    fn follow<R: Host>(&mut self, crashes: &mut Crashes<'_, R>) -> Result<()> {
         let wanted = text_of(self.alloc, &self.kept)?;
-        self.compare(stops, wanted.as_str())?;
-        self.take_asks(stops, wanted.as_str())
+        self.compare(crashes, wanted.as_str())?;
+        self.take_asks(crashes, wanted.as_str())
     }
 
-    fn compare<R: Host>(&mut self, stops: &mut Stops<'_, R>, wanted: &str) -> Result<()> {
+    /// Compares the records that the engine has with those that it has to have.
+    fn compare<R: Host>(&mut self, crashes: &mut Crashes<'_, R>, wanted: &str) -> Result<()> {
         let contents = records_of(self.alloc, &mut self.engine)?;
         let found = text_of(self.alloc, &contents)?;
-        stops.compare(found.as_str(), wanted, "kept")
+        crashes.compare(found.as_str(), wanted, "kept")
     }
 
-    fn take_asks<R: Host>(&mut self, stops: &mut Stops<'_, R>, wanted: &str) -> Result<()> {
+    /// Lets the disk take in what was asked since, and tries crashes after each ask.
+    fn take_asks<R: Host>(&mut self, crashes: &mut Crashes<'_, R>, wanted: &str) -> Result<()> {
         let asks = &self.engine.files().asks;
         for ask in asks.iter().skip(self.taken) {
-            self.disk.take(ask, wanted)?;
+            self.disk.take_ask(ask, wanted)?;
             let by_bytes = if self.by_bytes { Some(ask.queue) } else { None };
-            stops.try_some(self.way, &self.disk, by_bytes, &mut self.dice)?;
+            crashes.try_crashes(self.way, &self.disk, by_bytes, &mut self.dice)?;
         }
         self.taken = asks.len();
         Ok(())
@@ -86,7 +89,7 @@ impl History {
     /// Writes a batch of these changes, each of a region.
     pub(crate) fn write<R: Host>(
         &mut self,
-        stops: &mut Stops<'_, R>,
+        crashes: &mut Crashes<'_, R>,
         choices: &[(u64, Choice)],
         sync: bool,
     ) -> Result<()> {
@@ -95,7 +98,7 @@ impl History {
             self.add(&mut batch, choice.0, choice.1)?;
         }
         self.engine.write(&mut batch, sync)?;
-        self.follow(stops)
+        self.follow(crashes)
     }
 
     /// Adds a change to a batch, and makes it in the maps.
@@ -108,76 +111,84 @@ impl History {
         change.make(batch, region, records)
     }
 
-    pub(crate) fn sync<R: Host>(&mut self, stops: &mut Stops<'_, R>) -> Result<()> {
+    /// Syncs the engine.
+    pub(crate) fn sync<R: Host>(&mut self, crashes: &mut Crashes<'_, R>) -> Result<()> {
         self.engine.sync()?;
-        self.follow(stops)
+        self.follow(crashes)
     }
 
-    pub(crate) fn rotate<R: Host>(&mut self, stops: &mut Stops<'_, R>) -> Result<()> {
+    /// Begins a new append file.
+    pub(crate) fn rotate<R: Host>(&mut self, crashes: &mut Crashes<'_, R>) -> Result<()> {
         self.engine.rotate()?;
-        self.follow(stops)
+        self.follow(crashes)
     }
 
+    /// Moves the records in append files up to the gate.
     pub(crate) fn rewrite<R: Host>(
         &mut self,
-        stops: &mut Stops<'_, R>,
+        crashes: &mut Crashes<'_, R>,
         gate: FileSeq,
     ) -> Result<()> {
         self.engine.rewrite(gate)?;
-        self.follow(stops)
+        self.follow(crashes)
     }
 
-    pub(crate) fn rewrite_again<R: Host>(&mut self, stops: &mut Stops<'_, R>) -> Result<()> {
+    /// Moves the records in rewrite files.
+    pub(crate) fn rewrite_again<R: Host>(&mut self, crashes: &mut Crashes<'_, R>) -> Result<()> {
         self.engine.rewrite_again()?;
-        self.follow(stops)
+        self.follow(crashes)
     }
 
+    /// Deletes the files of a queue that no table needs.
     pub(crate) fn purge<R: Host>(
         &mut self,
-        stops: &mut Stops<'_, R>,
+        crashes: &mut Crashes<'_, R>,
         queue: LogQueue,
     ) -> Result<()> {
         let _ = match queue {
             LogQueue::Append => self.engine.purge_expired_files()?,
             LogQueue::Rewrite => self.engine.purge_rewrite_files()?,
         };
-        self.follow(stops)
+        self.follow(crashes)
     }
 
     /// Opens all that the files have.
-    pub(crate) fn restart<R: Host>(&mut self, stops: &mut Stops<'_, R>) -> Result<()> {
-        let stop = self.disk.nothing_lost();
-        self.reopen(stops, stop)
+    pub(crate) fn restart<R: Host>(&mut self, crashes: &mut Crashes<'_, R>) -> Result<()> {
+        let crash = self.disk.lossless_crash();
+        self.reopen(crashes, crash)
     }
 
-    /// Opens what a stop leaves that is drawn.
-    pub(crate) fn stop<R: Host>(&mut self, stops: &mut Stops<'_, R>) -> Result<()> {
-        let stop = self.disk.draw(&mut self.dice);
-        self.reopen(stops, stop)
+    /// Opens what a crash leaves that is drawn.
+    pub(crate) fn crash<R: Host>(&mut self, crashes: &mut Crashes<'_, R>) -> Result<()> {
+        let crash = self.disk.draw(&mut self.dice);
+        self.reopen(crashes, crash)
     }
 
-    fn reopen<R: Host>(&mut self, stops: &mut Stops<'_, R>, stop: Stop) -> Result<()> {
-        self.disk = self.disk.left_by(stop)?;
-        self.open_disk(stops.rt)?;
+    /// Opens what this crash leaves, and goes on with it.
+    fn reopen<R: Host>(&mut self, crashes: &mut Crashes<'_, R>, crash: Crash) -> Result<()> {
+        self.disk = self.disk.disk_after(crash)?;
+        self.open_disk(crashes.rt)?;
         self.taken = 0;
         self.kept = records_of(self.alloc, &mut self.engine)?;
-        self.compare_opened(stops)?;
-        self.follow(stops)
+        self.compare_opened(crashes)?;
+        self.follow(crashes)
     }
 
+    /// Opens an engine over the files that the disk has, in place of the old one.
     fn open_disk<R: Host>(&mut self, rt: &R) -> Result<()> {
         let (append, rewrite) = self.disk.files()?;
         self.engine = open(rt, self.alloc, self.way, append, rewrite)?;
         Ok(())
     }
 
-    fn compare_opened<R: Host>(&self, stops: &mut Stops<'_, R>) -> Result<()> {
+    /// Compares the records that the opened engine has with those of the disk.
+    fn compare_opened<R: Host>(&self, crashes: &mut Crashes<'_, R>) -> Result<()> {
         let found = text_of(self.alloc, &self.kept)?;
-        stops.compare(found.as_str(), self.disk.records(), "opened again")
+        crashes.compare(found.as_str(), self.disk.records(), "opened again")
     }
 
     /// Returns the number of the append file that is written to.
-    pub(crate) fn last(&self) -> FileSeq {
+    pub(crate) fn last_append_seq(&self) -> FileSeq {
         match self.engine.files().files.files(LogQueue::Append).last() {
             Some((seq, _)) => *seq,
             None => 0,

@@ -1,13 +1,14 @@
-//! Stops an engine's machine in histories of all that the engine does, and opens what is left.
+//! Crashes an engine in histories of all that the engine does, and opens what is left.
 //!
 //! `raft_crashes SEED COUNT` goes through some histories that are written down, each of which lost records or brought some back in an
-//! engine that broke a rule, and then through COUNT random ones from a seed on. After each ask of an engine's files it stops the
-//! machine: what was synced is left, and of the rest a front of each queue. What is left is recovered and opened, and the openings
-//! are stopped in turn. The records have to be those of the batches that are left, by plain maps that know nothing of the engine.
+//! engine that broke a rule, and then through COUNT random ones from a seed on. After each ask of an engine's files it crashes:
+//! what was synced is left, and of the rest a prefix of each queue. What is left is recovered and opened, and the openings
+//! crash in turn. The records have to be those of the batches that are left, by plain maps that know nothing of the engine.
 //! Its status is 1 where something else was read.
 #![tactic(auto)]
 
 mod choice;
+mod crashes;
 mod disk;
 mod faults;
 mod found;
@@ -15,17 +16,27 @@ mod history;
 mod noted_files;
 mod queue_disk;
 mod random;
-mod stops;
 
-use raft_base::{Error, Result};
+use crashes::{Crashes, Host};
+use raft_base::Result;
 use raft_recover::command_words;
 use std::process::ExitCode;
-use stops::{Host, Stops};
+
+/// What `--help` prints, and other words that ask for nothing.
+const USAGE: &str =
+    "usage: raft_crashes SEED COUNT   (crashes an engine anywhere in COUNT random histories from a seed on)";
 
 fn main(rt: HostRuntime) -> Result<ExitCode> {
     let words = command_words(&rt)?;
+    if words.first().is_some_and(|word: &String| word.as_str() == "--help"
+        || word.as_str() == "-h")
+    {
+        println!(rt; "{USAGE}")?;
+        return Ok(ExitCode::SUCCESS);
+    }
     let Some((seed, count)) = numbers(words.as_slice()) else {
-        return Err(Error::invalid_argument(rt.alloc(), "usage: raft_crashes SEED COUNT"));
+        eprintln!(rt; "{USAGE}")?;
+        return Ok(ExitCode::from(2));
     };
     if try_all(&rt, seed, count)? {
         Ok(ExitCode::SUCCESS)
@@ -47,20 +58,23 @@ fn numbers(words: &[String]) -> Option<(u64, u64)> {
 
 /// Goes through all histories, and prints how much was tried. Returns whether all was as it had to be.
 fn try_all<R: Host>(rt: &R, seed: u64, count: u64) -> Result<bool> {
-    let mut stops = Stops {
+    let mut crashes = Crashes {
         rt,
         tried: 0,
         recoveries: 0,
         different: 0,
     };
-    let faults = faults::go_through(&mut stops)?;
+    let faults = faults::go_through(&mut crashes)?;
     for number in 0..count {
-        random::go_through(&mut stops, seed.wrapping_add(number))?;
+        random::go_through(&mut crashes, seed.wrapping_add(number))?;
     }
-    eprintln!(rt; "{} stops, {} recoveries", stops.tried, stops.recoveries)?;
-    let different = stops.different;
+    eprintln!(rt;
+        "{} crashes, {} recoveries",
+        crashes.tried, crashes.recoveries
+    )?;
+    let different = crashes.different;
     println!(rt;
         "{faults} histories of faults, {count} from seed {seed} on: {different} different"
     )?;
-    Ok(stops.different == 0)
+    Ok(crashes.different == 0)
 }

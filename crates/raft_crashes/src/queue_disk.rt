@@ -1,11 +1,11 @@
-//! What a disk holds of the files of a queue, and what a stop of the machine may leave of them.
+//! What a disk holds of the files of a queue, and what a crash may leave of them.
 
 use crate::noted_files::{Act, LogFiles};
 use raft_base::Result;
 use raft_samples::Dice;
 use std::alloc::Global;
 
-/// The files of a queue. A stop leaves what was synced, and of what was asked since then a front: of the bytes that were put,
+/// The files of a queue. A crash leaves what was synced, and of what was asked since then a prefix: of the bytes that were put,
 /// of the deletions, and a new file or not.
 #[derive(Drop)]
 pub(crate) struct QueueDisk {
@@ -15,7 +15,7 @@ pub(crate) struct QueueDisk {
     deleted: usize,
     /// How many bytes of the last file were synced.
     pub(crate) synced: usize,
-    /// How many of them are those of whole batches: fewer where a stop left a torn one.
+    /// How many of them are those of whole batches: fewer where a crash left a torn one.
     whole: usize,
     /// Where each batch ends that was put in the last file since.
     pub(crate) ends: Vec<usize>,
@@ -25,20 +25,20 @@ pub(crate) struct QueueDisk {
     uncut: Option<Vec<u8>>,
 }
 
-/// What a stop leaves of a queue's last file.
+/// What a crash leaves of a queue's last file.
 #[derive(Clone, Copy)]
 pub(crate) enum Tail {
     /// So many bytes.
-    Front(usize),
+    Prefix(usize),
     /// Nothing: the file isn't there.
     Unbegun,
     /// The bytes before a cut.
     Uncut,
 }
 
-/// What a stop leaves of a queue: all files but so many of the oldest ones, and so much of the last one.
+/// What a crash leaves of a queue: all files but so many of the oldest ones, and so much of the last one.
 #[derive(Clone, Copy)]
-pub(crate) struct Left {
+pub(crate) struct Rest {
     gone: usize,
     tail: Tail,
 }
@@ -57,8 +57,8 @@ impl QueueDisk {
         }
     }
 
-    /// Returns the disk that a stop leaves.
-    pub(crate) fn left_by(&self, left: Left) -> Result<QueueDisk> {
+    /// Returns the disk that a crash leaves.
+    pub(crate) fn disk_after(&self, left: Rest) -> Result<QueueDisk> {
         let mut disk = QueueDisk::new(self.alloc());
         disk.files = self.files_in(left)?;
         disk.synced = disk.len();
@@ -66,6 +66,7 @@ impl QueueDisk {
         Ok(disk)
     }
 
+    /// Returns the allocator of the files.
     pub(crate) fn alloc(&self) -> Global {
         *self.files.allocator()
     }
@@ -76,27 +77,28 @@ impl QueueDisk {
     }
 
     /// Takes in an act.
-    pub(crate) fn take(&mut self, act: &Act) -> Result<()> {
+    pub(crate) fn take_act(&mut self, act: &Act) -> Result<()> {
         match act {
-            Act::Put(bytes) => self.put(bytes)?,
+            Act::Put(bytes) => self.put_batch(bytes)?,
             Act::Begin(seq) => {
                 let file = Vec::new(self.alloc());
                 self.files.push((*seq, file))?;
-                self.lasts(0);
+                self.note_lasting(0);
                 self.is_new = true;
             }
             Act::Sync => {
                 self.drop_deleted();
                 let len = self.len();
-                self.lasts(len);
+                self.note_lasting(len);
             }
             Act::Delete => self.deleted = self.deleted.saturating_add(1),
-            Act::Cut(len) => self.cut(*len as usize)?,
+            Act::Cut(len) => self.cut_last_file(*len as usize)?,
         }
         Ok(())
     }
 
-    fn put(&mut self, bytes: &[u8]) -> Result<()> {
+    /// Puts the bytes of a batch behind those of the last file.
+    fn put_batch(&mut self, bytes: &[u8]) -> Result<()> {
         if let Some(last) = self.files.last_mut() {
             last.1.extend_from_slice(bytes)?;
             self.ends.push(last.1.len())?;
@@ -104,8 +106,8 @@ impl QueueDisk {
         Ok(())
     }
 
-    /// Notes that so many bytes of the last file last, and that it does itself.
-    fn lasts(&mut self, synced: usize) {
+    /// Notes that so many bytes of the last file outlast a crash, and that the file does.
+    fn note_lasting(&mut self, synced: usize) {
         self.synced = synced;
         self.whole = synced;
         self.ends.clear();
@@ -113,6 +115,7 @@ impl QueueDisk {
         self.uncut = None;
     }
 
+    /// Drops the files whose deletion is synced now.
     fn drop_deleted(&mut self) {
         for _ in 0..self.deleted {
             if !self.files.is_empty() {
@@ -122,39 +125,41 @@ impl QueueDisk {
         self.deleted = 0;
     }
 
-    fn cut(&mut self, len: usize) -> Result<()> {
+    /// Cuts the last file to `len` bytes, and keeps what it had: a crash may bring that back.
+    fn cut_last_file(&mut self, len: usize) -> Result<()> {
         let alloc = self.alloc();
         if let Some(last) = self.files.last_mut() {
             let uncut = Vec::from_slice(alloc, &last.1)?;
             last.1.truncate(len);
-            self.lasts(len);
+            self.note_lasting(len);
             self.uncut = Some(uncut);
         }
         Ok(())
     }
 
-    /// Returns what a stop leaves that loses nothing.
-    pub(crate) fn whole(&self) -> Left {
-        self.front(self.len())
+    /// Returns what a crash leaves that loses nothing.
+    pub(crate) fn whole(&self) -> Rest {
+        self.prefix(self.len())
     }
 
-    /// Returns what a stop leaves that loses no deletion, and of the last file has so many bytes.
-    pub(crate) fn front(&self, len: usize) -> Left {
-        Left {
+    /// Returns what a crash leaves that loses no deletion, and of the last file has so many bytes.
+    pub(crate) fn prefix(&self, len: usize) -> Rest {
+        Rest {
             gone: self.deleted,
-            tail: Tail::Front(len),
+            tail: Tail::Prefix(len),
         }
     }
 
-    /// Draws what a stop leaves.
-    pub(crate) fn draw(&self, dice: &mut Dice) -> Left {
+    /// Draws what a crash leaves.
+    pub(crate) fn draw(&self, dice: &mut Dice) -> Rest {
         let gone = dice.below((self.deleted as u64).saturating_add(1)) as usize;
-        Left {
+        Rest {
             gone,
             tail: self.draw_tail(dice),
         }
     }
 
+    /// Draws what a crash leaves of the last file.
     fn draw_tail(&self, dice: &mut Dice) -> Tail {
         let unsynced = self.len().saturating_sub(self.synced) as u64;
         let drawn = dice.below(unsynced.saturating_add(1)) as usize;
@@ -162,45 +167,45 @@ impl QueueDisk {
         match dice.below(8) {
             0 | 1 if self.is_new => Tail::Unbegun,
             0 | 1 if self.uncut.is_some() => Tail::Uncut,
-            2 | 3 => Tail::Front(self.synced),
-            4 => Tail::Front(len),
-            5 | 6 => Tail::Front(self.whole_front(len)),
-            _ => Tail::Front(self.len()),
+            2 | 3 => Tail::Prefix(self.synced),
+            4 => Tail::Prefix(len),
+            5 | 6 => Tail::Prefix(self.whole_prefix_len(len)),
+            _ => Tail::Prefix(self.len()),
         }
     }
 
-    /// Returns what a stop may leave that loses no deletion: each front of the last file from where its last batch begins on; and
+    /// Returns what a crash may leave that loses no deletion: each prefix of the last file from where its last batch begins on; and
     /// what it may leave that loses some and nothing else.
-    pub(crate) fn lefts(&self) -> Result<Vec<Left>> {
-        let mut lefts = Vec::new(self.alloc());
+    pub(crate) fn possible_rests(&self) -> Result<Vec<Rest>> {
+        let mut rests = Vec::new(self.alloc());
         let gone = self.deleted;
         for gone in 0..gone {
-            lefts.push(Left {
+            rests.push(Rest {
                 gone,
-                tail: Tail::Front(self.len()),
+                tail: Tail::Prefix(self.len()),
             })?;
         }
         if self.is_new {
-            lefts.push(Left {
+            rests.push(Rest {
                 gone,
                 tail: Tail::Unbegun,
             })?;
         }
         if self.uncut.is_some() {
-            lefts.push(Left {
+            rests.push(Rest {
                 gone,
                 tail: Tail::Uncut,
             })?;
         }
-        let begin = self.whole_front(self.len().saturating_sub(1));
+        let begin = self.whole_prefix_len(self.len().saturating_sub(1));
         for len in begin..=self.len() {
-            lefts.push(self.front(len))?;
+            rests.push(self.prefix(len))?;
         }
-        Ok(lefts)
+        Ok(rests)
     }
 
     /// Returns how many of the first bytes of the last file are those of whole batches.
-    fn whole_front(&self, len: usize) -> usize {
+    fn whole_prefix_len(&self, len: usize) -> usize {
         let mut whole = self.whole;
         for end in &self.ends {
             if *end <= len {
@@ -211,22 +216,22 @@ impl QueueDisk {
     }
 
     /// Returns how many of the batches that weren't synced are left.
-    pub(crate) fn batches_in(&self, left: Left) -> usize {
-        let Tail::Front(len) = left.tail else {
+    pub(crate) fn batches_in(&self, left: Rest) -> usize {
+        let Tail::Prefix(len) = left.tail else {
             return 0;
         };
         self.ends.iter().filter(|end| **end <= len).count()
     }
 
     /// Returns the files that are left.
-    pub(crate) fn files_in(&self, left: Left) -> Result<LogFiles> {
+    pub(crate) fn files_in(&self, left: Rest) -> Result<LogFiles> {
         let alloc = self.alloc();
         let mut files = Vec::new(alloc);
         for (seq, bytes) in self.files.iter().skip(left.gone) {
             files.push((*seq, Vec::from_slice(alloc, bytes)?))?;
         }
         match left.tail {
-            Tail::Front(len) => {
+            Tail::Prefix(len) => {
                 if let Some(last) = files.last_mut() {
                     last.1.truncate(len);
                 }
@@ -244,9 +249,9 @@ impl QueueDisk {
     }
 
     /// Returns how many bytes of the last file that is left are those of whole batches, at most.
-    fn whole_in(&self, left: Left) -> usize {
+    fn whole_in(&self, left: Rest) -> usize {
         match left.tail {
-            Tail::Front(len) => self.whole_front(len),
+            Tail::Prefix(len) => self.whole_prefix_len(len),
             Tail::Uncut => self.whole,
             Tail::Unbegun => usize::MAX,
         }
@@ -254,6 +259,6 @@ impl QueueDisk {
 
     /// Returns the files with whole batches alone.
     pub(crate) fn untorn_files(&self) -> Result<LogFiles> {
-        self.files_in(self.front(self.whole))
+        self.files_in(self.prefix(self.whole))
     }
 }

@@ -1,9 +1,9 @@
 //! Random histories.
 
 use crate::choice::Choice;
+use crate::crashes::{Crashes, Host};
 use crate::found::Way;
 use crate::history::History;
-use crate::stops::{Host, Stops};
 use raft_base::{LogQueue, Result, Version};
 use raft_samples::Dice;
 
@@ -29,19 +29,19 @@ const PART: usize = 64 << 10;
 const BY_BYTES: u64 = 250;
 
 /// Goes through the history of a seed, until something is different.
-pub(crate) fn go_through<R: Host>(stops: &mut Stops<'_, R>, seed: u64) -> Result<()> {
+pub(crate) fn go_through<R: Host>(crashes: &mut Crashes<'_, R>, seed: u64) -> Result<()> {
     let mut dice = Dice::new(!seed);
     let long = draw_long(&mut dice);
     let way = draw_way(&mut dice, long);
     let by_bytes = long.is_none() && dice.hits(BY_BYTES);
-    let different = stops.different;
-    let mut history = History::begin(stops, seed, way, by_bytes)?;
-    take_steps(stops, &mut history, long, seed, different)
+    let different = crashes.different;
+    let mut history = History::begin(crashes, seed, way, by_bytes)?;
+    take_steps(crashes, &mut history, long, seed, different)
 }
 
 /// Takes steps, until more is different than this.
 fn take_steps<R: Host>(
-    stops: &mut Stops<'_, R>,
+    crashes: &mut Crashes<'_, R>,
     history: &mut History,
     long: Option<usize>,
     seed: u64,
@@ -49,12 +49,12 @@ fn take_steps<R: Host>(
 ) -> Result<()> {
     for step in 0..STEPS {
         let taken = match long {
-            Some(len) => take_long_step(stops, history, len),
-            None => take_step(stops, history),
+            Some(len) => take_long_step(crashes, history, len),
+            None => take_step(crashes, history),
         };
-        stops.succeeds(taken)?;
-        if stops.different > different {
-            return stops.differs_in("seed", seed, step);
+        crashes.check_success(taken)?;
+        if crashes.different > different {
+            return crashes.print_where("seed", seed, step);
         }
     }
     Ok(())
@@ -88,94 +88,101 @@ fn draw_way(dice: &mut Dice, long: Option<usize>) -> Way {
 
 /// Takes a step of a history with entries of so many bytes: half of them write one, and one in four moves all records again.
 fn take_long_step<R: Host>(
-    stops: &mut Stops<'_, R>,
+    crashes: &mut Crashes<'_, R>,
     history: &mut History,
     len: usize,
 ) -> Result<()> {
     match history.dice.below(8) {
-        0..=3 => write_long(stops, history, len),
-        4 | 5 => move_again(stops, history),
-        _ => take_step(stops, history),
+        0..=3 => write_long(crashes, history, len),
+        4 | 5 => move_again(crashes, history),
+        _ => take_step(crashes, history),
     }
 }
 
 /// Writes an entry of so many bytes to region 3, and beside it a value or any change of that region, or any of another one.
-fn write_long<R: Host>(stops: &mut Stops<'_, R>, history: &mut History, len: usize) -> Result<()> {
+fn write_long<R: Host>(
+    crashes: &mut Crashes<'_, R>,
+    history: &mut History,
+    len: usize,
+) -> Result<()> {
     let other = match history.dice.below(8) {
         0 => (3, Choice::Any),
         1..=3 => (1, Choice::Any),
         _ => (3, Choice::Put("long")),
     };
-    history.write(stops, &[(3, Choice::Long(len)), other], false)
+    history.write(crashes, &[(3, Choice::Long(len)), other], false)
 }
 
 /// Takes a step.
-fn take_step<R: Host>(stops: &mut Stops<'_, R>, history: &mut History) -> Result<()> {
+fn take_step<R: Host>(crashes: &mut Crashes<'_, R>, history: &mut History) -> Result<()> {
     match history.dice.below(24) {
-        0..=8 => write(stops, history),
-        9 => history.sync(stops),
-        10 => history.rotate(stops),
-        11..=13 => rewrite(stops, history),
-        14 | 15 => history.rewrite_again(stops),
-        16 | 17 => history.purge(stops, LogQueue::Append),
-        18 => history.purge(stops, LogQueue::Rewrite),
-        19 => history.restart(stops),
-        20 | 21 => history.stop(stops),
-        22 => replace(stops, history),
-        _ => move_again(stops, history),
+        0..=8 => write(crashes, history),
+        9 => history.sync(crashes),
+        10 => history.rotate(crashes),
+        11..=13 => rewrite(crashes, history),
+        14 | 15 => history.rewrite_again(crashes),
+        16 | 17 => history.purge(crashes, LogQueue::Append),
+        18 => history.purge(crashes, LogQueue::Rewrite),
+        19 => history.restart(crashes),
+        20 | 21 => history.crash(crashes),
+        22 => replace(crashes, history),
+        _ => move_again(crashes, history),
     }
 }
 
 /// Writes one to three changes of two regions, of which one batch in four is synced.
-fn write<R: Host>(stops: &mut Stops<'_, R>, history: &mut History) -> Result<()> {
+fn write<R: Host>(crashes: &mut Crashes<'_, R>, history: &mut History) -> Result<()> {
     let first = (history.dice.below(2) + 1, Choice::Any);
     let second = (history.dice.below(2) + 1, Choice::Any);
     let third = (history.dice.below(2) + 1, Choice::Any);
     let sync = history.dice.hits(4);
     match history.dice.below(3) {
-        0 => history.write(stops, &[first], sync),
-        1 => history.write(stops, &[first, second], sync),
-        _ => history.write(stops, &[first, second, third], sync),
+        0 => history.write(crashes, &[first], sync),
+        1 => history.write(crashes, &[first, second], sync),
+        _ => history.write(crashes, &[first, second, third], sync),
     }
 }
 
 /// Moves the records of some append files, in half of the steps of all of them.
-fn rewrite<R: Host>(stops: &mut Stops<'_, R>, history: &mut History) -> Result<()> {
+fn rewrite<R: Host>(crashes: &mut Crashes<'_, R>, history: &mut History) -> Result<()> {
     if history.dice.hits(2) {
-        return rewrite_all(stops, history);
+        return rewrite_all(crashes, history);
     }
-    let gate = history.last().saturating_sub(history.dice.below(3));
-    history.rewrite(stops, gate)
+    let gate = history
+        .last_append_seq()
+        .saturating_sub(history.dice.below(3));
+    history.rewrite(crashes, gate)
 }
 
-fn rewrite_all<R: Host>(stops: &mut Stops<'_, R>, history: &mut History) -> Result<()> {
-    let gate = history.last();
-    history.rotate(stops)?;
-    history.rewrite(stops, gate)
+/// Moves the records of all append files, after a new one was begun.
+fn rewrite_all<R: Host>(crashes: &mut Crashes<'_, R>, history: &mut History) -> Result<()> {
+    let gate = history.last_append_seq();
+    history.rotate(crashes)?;
+    history.rewrite(crashes, gate)
 }
 
 /// Takes steps in a row that lose or bring back entries where the rewrite queue isn't told of runs that replace some: all records
 /// move, entries are replaced and compacted to their end, and all append files go, in half of the cases after a restart that finds
 /// them.
-fn replace<R: Host>(stops: &mut Stops<'_, R>, history: &mut History) -> Result<()> {
-    rewrite_all(stops, history)?;
+fn replace<R: Host>(crashes: &mut Crashes<'_, R>, history: &mut History) -> Result<()> {
+    rewrite_all(crashes, history)?;
     history.write(
-        stops,
+        crashes,
         &[(1, Choice::Replacement), (2, Choice::Replacement)],
         false,
     )?;
     if history.dice.hits(2) {
-        history.restart(stops)?;
-        rewrite_all(stops, history)?;
+        history.restart(crashes)?;
+        rewrite_all(crashes, history)?;
     }
-    history.rotate(stops)?;
-    history.purge(stops, LogQueue::Append)
+    history.rotate(crashes)?;
+    history.purge(crashes, LogQueue::Append)
 }
 
 /// Moves all records to a new rewrite file, and deletes the older files of both queues.
-fn move_again<R: Host>(stops: &mut Stops<'_, R>, history: &mut History) -> Result<()> {
-    rewrite_all(stops, history)?;
-    history.purge(stops, LogQueue::Append)?;
-    history.rewrite_again(stops)?;
-    history.purge(stops, LogQueue::Rewrite)
+fn move_again<R: Host>(crashes: &mut Crashes<'_, R>, history: &mut History) -> Result<()> {
+    rewrite_all(crashes, history)?;
+    history.purge(crashes, LogQueue::Append)?;
+    history.rewrite_again(crashes)?;
+    history.purge(crashes, LogQueue::Rewrite)
 }

@@ -117,12 +117,12 @@ fn read_cut<R: Threads + AllocGlobal + Sync>(
     cutting: u64,
     way: Way,
 ) -> Result<Answer> {
-    let segments = cut(rt.alloc(), batches, cutting)?;
+    let segments = cut_segments(rt.alloc(), batches, cutting)?;
     let read = match way {
         Way::Workers(workers) => {
             recover_segments(rt, rt.alloc(), segments.as_slice(), queue, workers)
         }
-        _ => merged(rt, segments.as_slice(), queue, way),
+        _ => merge_by_plan(rt, segments.as_slice(), queue, way),
     };
     match read {
         Ok(tables) => Ok(Answer::Lines(lines_of(rt.alloc(), &tables)?)),
@@ -132,28 +132,28 @@ fn read_cut<R: Threads + AllocGlobal + Sync>(
 }
 
 /// Returns the tables of segments that are read one by one and merged by a plan.
-fn merged<R: Threads + AllocGlobal + Sync>(
+fn merge_by_plan<R: Threads + AllocGlobal + Sync>(
     rt: &R,
     segments: &[Segment],
     queue: LogQueue,
     way: Way,
 ) -> Result<MemTableAccessor> {
-    let pieces = read_each(rt.alloc(), segments)?;
+    let pieces = read_segments(rt.alloc(), segments)?;
     let plan = plan_of(rt.alloc(), pieces.len(), way)?;
     merge_pieces(rt, pieces, &plan, queue)?.finish()
 }
 
 /// Returns a context for each segment.
-fn read_each(alloc: Global, segments: &[Segment]) -> Result<Vec<MemTableRecoverContext>> {
+fn read_segments(alloc: Global, segments: &[Segment]) -> Result<Vec<MemTableRecoverContext>> {
     let mut pieces = Vec::new(alloc);
     for segment in segments {
-        pieces.push(read(alloc, segment)?)?;
+        pieces.push(read_segment(alloc, segment)?)?;
     }
     Ok(pieces)
 }
 
 /// Returns a context of a segment.
-fn read(alloc: Global, segment: &Segment) -> Result<MemTableRecoverContext> {
+fn read_segment(alloc: Global, segment: &Segment) -> Result<MemTableRecoverContext> {
     let mut context = MemTableRecoverContext::new(alloc)?;
     replay_segment(&mut context, segment)?;
     Ok(context)
@@ -181,7 +181,7 @@ fn plan_of(alloc: Global, count: usize, way: Way) -> Result<Plan> {
 
 /// Returns the batches as segments: one ends after batch `n` where bit `n` of the number is set, and one at
 /// the end.
-fn cut(alloc: Global, batches: &[FilePart], cutting: u64) -> Result<Vec<Segment>> {
+fn cut_segments(alloc: Global, batches: &[FilePart], cutting: u64) -> Result<Vec<Segment>> {
     let mut segments = Vec::new(alloc);
     let mut segment = Vec::new(alloc);
     let mut rest = cutting;

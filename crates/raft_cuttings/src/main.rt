@@ -20,10 +20,20 @@ const MISUSED: u8 = 2;
 
 const DIFFERENT: u8 = 3;
 
+/// What `--help` prints, and other words that ask for nothing.
+const USAGE: &str =
+    "usage: raft_cuttings recover <queue> <version> <workers> <seq>=<path>..   (recovers files of at most 16 batches at every cutting)";
+
 fn main(rt: HostRuntime) -> ExitCode {
     let Ok(words) = command_words(&rt) else {
         return ExitCode::from(MISUSED);
     };
+    if words.first().is_some_and(|word: &String| word.as_str() == "--help"
+        || word.as_str() == "-h")
+    {
+        let _ = println!(rt; "{USAGE}");
+        return ExitCode::from(DONE);
+    }
     let found = cuttings::of_words(&rt, words.as_slice());
     ExitCode::from(status_of(&rt, found))
 }
@@ -33,7 +43,10 @@ fn status_of(rt: &HostRuntime, found: Result<Option<Found>>) -> u8 {
     match found {
         Ok(Some(Found::Same(answer))) => print(rt, answer),
         Ok(Some(Found::Different { cutting, way })) => tell(rt, cutting, way),
-        Ok(None) => MISUSED,
+        Ok(None) => {
+            let _ = eprintln!(rt; "{USAGE}");
+            MISUSED
+        }
         Err(_) => REFUSED,
     }
 }

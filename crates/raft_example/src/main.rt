@@ -23,6 +23,10 @@ type FolderEngine<'a, R> = Engine<FolderFiles<'a, R>>;
 /// The folder where no other one is named.
 const FOLDER: &str = "raft_example_logs";
 
+/// What `--help` prints.
+const USAGE: &str =
+    "usage: raft_example [<folder>]   (an engine over the folder; without one, over a folder of its own, which it removes)";
+
 /// How many threads read the files at most.
 const WORKERS: usize = 2;
 
@@ -31,6 +35,7 @@ const REGIONS: [u64; 2] = [7, 8];
 
 fn main(rt: HostRuntime) -> Result<()> {
     match env::args(&rt)?.nth(1) {
+        Some(word) if is_help(word.as_str()) => Ok(println!(rt; "{USAGE}")?),
         Some(folder) => run(&rt, folder.as_str()),
         None => {
             clear(&rt)?;
@@ -38,6 +43,11 @@ fn main(rt: HostRuntime) -> Result<()> {
             clear(&rt)
         }
     }
+}
+
+/// Tests whether a word asks for the usage.
+fn is_help(word: &str) -> bool {
+    word == "--help" || word == "-h"
 }
 
 /// Removes the program's own folder, if it is there.
@@ -53,7 +63,7 @@ fn run<R: Host>(rt: &R, folder: &str) -> Result<()> {
     write_and_move(rt, folder)?;
     write_torn(rt, folder)?;
     write_again(rt, folder)?;
-    show(rt, &open(rt, folder)?, "opened")
+    print_tables(rt, &open(rt, folder)?, "opened")
 }
 
 /// Opens the engine of a folder, and prints what that cut off the files.
@@ -70,13 +80,13 @@ fn open<'a, R: Host>(rt: &'a R, folder: &'a str) -> Result<FolderEngine<'a, R>> 
 /// Writes to two append files, moves what the first one has, and deletes it.
 fn write_and_move<'a, R: Host>(rt: &'a R, folder: &'a str) -> Result<()> {
     let mut engine = open(rt, folder)?;
-    show(rt, &engine, "opened")?;
+    print_tables(rt, &engine, "opened")?;
     open_twice(rt, folder)?;
     write_both(rt, &mut engine)?;
-    show(rt, &engine, "written")?;
+    print_tables(rt, &engine, "written")?;
     let deleted = move_closed(&mut engine)?;
     println!(rt; "append files deleted: {deleted}")?;
-    show(rt, &engine, "moved")
+    print_tables(rt, &engine, "moved")
 }
 
 /// Tries to open a folder that an engine has open.
@@ -99,13 +109,13 @@ fn write_both<R: Host>(rt: &R, engine: &mut FolderEngine<'_, R>) -> Result<()> {
 
 /// Moves what the closed append files have to the rewrite queue, deletes those that aren't needed, and returns how many.
 fn move_closed<R: Host>(engine: &mut FolderEngine<'_, R>) -> Result<usize> {
-    let gate = last_closed(engine)?;
+    let gate = last_closed_seq(engine)?;
     engine.rewrite(gate)?;
     engine.purge_expired_files()
 }
 
 /// Returns the number below that of the append file that is written to.
-fn last_closed<R: Host>(engine: &FolderEngine<'_, R>) -> Result<FileSeq> {
+fn last_closed_seq<R: Host>(engine: &FolderEngine<'_, R>) -> Result<FileSeq> {
     let files = engine.files().list(LogQueue::Append)?;
     match files.last() {
         Some(last) => Ok(last.seq.saturating_sub(1)),
@@ -113,12 +123,12 @@ fn last_closed<R: Host>(engine: &FolderEngine<'_, R>) -> Result<FileSeq> {
     }
 }
 
-/// Writes a batch that isn't synced, and takes its last bytes away, as a machine may that stops before they are on the disk.
+/// Writes a batch that isn't synced, and takes its last bytes away, as a crash may before they are on the disk.
 fn write_torn<R: Host>(rt: &R, folder: &str) -> Result<()> {
     let mut engine = open(rt, folder)?;
-    show(rt, &engine, "opened")?;
+    print_tables(rt, &engine, "opened")?;
     write(rt, &mut engine, 8, &["put w 6"], "c", false)?;
-    show(rt, &engine, "written")?;
+    print_tables(rt, &engine, "written")?;
     let files = engine.files().list(LogQueue::Append)?;
     if let Some(last) = files.last() {
         let path = engine
@@ -135,9 +145,9 @@ fn write_torn<R: Host>(rt: &R, folder: &str) -> Result<()> {
 /// Writes again what was lost.
 fn write_again<R: Host>(rt: &R, folder: &str) -> Result<()> {
     let mut engine = open(rt, folder)?;
-    show(rt, &engine, "opened")?;
+    print_tables(rt, &engine, "opened")?;
     write(rt, &mut engine, 8, &["put w 6"], "c", true)?;
-    show(rt, &engine, "written")
+    print_tables(rt, &engine, "written")
 }
 
 /// Writes proposals behind the last one of a region, and who leads it.
@@ -172,7 +182,7 @@ fn keep_two<R: Host>(rt: &R, engine: &mut FolderEngine<'_, R>, region: u64) -> R
 }
 
 /// Prints what an engine has after a step: how many files; and of each region the first index and the last one, and who leads it.
-fn show<R: Host>(rt: &R, engine: &FolderEngine<'_, R>, step: &str) -> Result<()> {
+fn print_tables<R: Host>(rt: &R, engine: &FolderEngine<'_, R>, step: &str) -> Result<()> {
     let append = engine.files().list(LogQueue::Append)?.len();
     let rewrite = engine.files().list(LogQueue::Rewrite)?.len();
     println!(rt; "{step}: append files {append}, rewrite files {rewrite}")?;

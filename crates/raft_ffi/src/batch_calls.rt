@@ -78,6 +78,13 @@ pub extern "C" fn raft_ffi_batch_add_entries(
     told!(held in batch, alloc, text; add_entries(alloc, &mut *held, region, first, lens, bytes))
 }
 
+/// Adds entries to an open batch, whose indexes rise by one from `first` on. No entries add
+/// nothing.
+///
+/// # Errors
+///
+/// `Full` where the entry bytes of the batch would pass 2^31 - 1, `Memory`. The batch is then as it
+/// was.
 fn add_entries(
     alloc: Global,
     batch: &mut LogBatch,
@@ -172,6 +179,11 @@ pub extern "C" fn raft_ffi_batch_put(
     told!(held in batch, alloc, text; put(alloc, &mut *held, region, key, value))
 }
 
+/// Adds copies of a key and its value to an open batch.
+///
+/// # Errors
+///
+/// `InvalidArgument` for the key of the group markers, `Memory`. The batch is then as it was.
 fn put(alloc: Global, batch: &mut LogBatch, region: u64, key: &[u8], value: &[u8]) -> Result<()>
     requires { batch.old.stage ≡ is_open }
     ensures ok { OnOk result (batch.new ≡ with_item batch.old (pair_item region Put key.now (Some value.now))) }
@@ -331,6 +343,10 @@ fn joined<'a>(lens: &[usize], bytes: &'a [u8]) -> &'a [u8]
 }
 
 /// Returns entries of these lengths, whose indexes rise by one from `first` on.
+///
+/// # Errors
+///
+/// `Memory`.
 fn sized(alloc: Global, first: u64, lens: &[usize]) -> Result<Vec<EntryIndex>>
     requires indexes { first + length lens.now < 2 ^ 64 }
     requires lengths { AllByRecursion (λ len. len < 2 ^ 32) lens.now }

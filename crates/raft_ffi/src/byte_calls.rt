@@ -45,6 +45,8 @@ pub extern "C" fn raft_ffi_readable_front(
     answered(alloc, &answer, text)
 }
 
+/// Returns how many of the bytes, from the first on, are readable batches, and why there is none
+/// behind them; `Ok` where they end there.
 fn walk(alloc: Global, file: &LogFileContext, offset: u64, bytes: &[u8]) -> (usize, Result<()>)
     requires ends { offset + length bytes.now < 2 ^ 64 }
     ensures readable { AreBatchesUpTo (part_of file.now offset bytes.now) result.0 }
@@ -87,6 +89,12 @@ pub extern "C" fn raft_ffi_block_entries(
     answered_with(alloc, entries_len(alloc, bytes), len, text)
 }
 
+/// Returns how many bytes of a whole entry block, from the first on, are its entry bytes; none of
+/// one without bytes.
+///
+/// # Errors
+///
+/// `Corruption` where it has one to four bytes, or the checksum is another; `Memory` for its text.
 fn entries_len(alloc: Global, bytes: &[u8]) -> Result<usize>
     ensures ok { IfOk result (λ n. IsEntryBlockOf (length bytes.now) bytes.now (take n bytes.now)) }
     ensures refused { OnErr result ((entries : List ℕ) → IsEntryBlockOf (length bytes.now) bytes.now entries → ⊥) }

@@ -148,6 +148,12 @@ pub extern "C" fn raft_ffi_tables_rewrite_key(
     told!(held in tables, alloc, text; rewrite_key(alloc, &mut *held, region, key, gate.number(), seq))
 }
 
+/// Does what a change says to a region's table, and returns how many entries a compaction or a
+/// truncation drops, else 0.
+///
+/// # Errors
+///
+/// Those of [`MemTableAccessor::change`]. The tables are then as they were.
 fn change_table(tables: &mut MemTableAccessor, region: u64, change: TableChange) -> Result<u64>
     ensures ok { OnOk result (IsChangedTo (after_change (table_in tables.old.tables region) change)
         region tables.old tables.new) }
@@ -161,6 +167,11 @@ fn change_table(tables: &mut MemTableAccessor, region: u64, change: TableChange)
     answer
 }
 
+/// Puts copies of a key and its value into a region's table, as from this file.
+///
+/// # Errors
+///
+/// Those of [`MemTableAccessor::change`]. The tables are then as they were.
 fn put(
     alloc: Global,
     tables: &mut MemTableAccessor,
@@ -185,6 +196,11 @@ fn put(
     )
 }
 
+/// Moves a region's key to the file of number `seq` of the rewrite queue, if the gate lets it.
+///
+/// # Errors
+///
+/// Those of [`MemTableAccessor::change`]. The tables are then as they were.
 fn rewrite_key(
     alloc: Global,
     tables: &mut MemTableAccessor,

@@ -65,6 +65,12 @@ pub extern "C" fn raft_ffi_context_replay(
     told_or_gone!(held in context, alloc, text; replay(&mut *held, alloc, &file.context(), offset, bytes))
 }
 
+/// Replays the batches of bytes that stand in the file from `offset` on.
+///
+/// # Errors
+///
+/// `Failed` where the context doesn't read on; those of [`replay_bytes`]. The context may then have
+/// taken in some of the batches.
 fn replay(
     context: &mut MemTableRecoverContext,
     alloc: Global,
@@ -115,6 +121,12 @@ pub extern "C" fn raft_ffi_context_merge(
     told_or_gone!(held in context, alloc, text; merge(&mut *held, newer.into_held(), queue(is_rewrite)))
 }
 
+/// Takes in the context of the batches that follow.
+///
+/// # Errors
+///
+/// Those of [`MemTableRecoverContext::merge`]. A context that read on has failed then; one that
+/// didn't stays as it is.
 fn merge(
     context: &mut MemTableRecoverContext,
     newer: MemTableRecoverContext,
@@ -154,6 +166,12 @@ pub extern "C" fn raft_ffi_context_overlay(
     told_or_gone!(held in context, alloc, text; overlay(&mut *held, append.into_held()))
 }
 
+/// Takes in the context of the append queue over this one, that of the rewrite queue.
+///
+/// # Errors
+///
+/// Those of [`MemTableRecoverContext::merge_append_context`]. A context that read on has failed
+/// then; one that didn't stays as it is.
 fn overlay(context: &mut MemTableRecoverContext, append: MemTableRecoverContext) -> Result<()>
     ensures ok { OnOk result (IsOverlaidWith append context.old context.new) }
     ensures exact { OnOk result (IsOverlaidExactly append context.old context.new) }
@@ -180,6 +198,11 @@ pub extern "C" fn raft_ffi_context_kept(
     told!(held in context, alloc, text; count_kept(&*held, kept))
 }
 
+/// Counts what a context holds.
+///
+/// # Errors
+///
+/// `Failed` after a refusal, and nothing is counted then.
 fn count_kept(context: &MemTableRecoverContext, kept: &mut KeptNumbers) -> Result<()>
     ensures ok { OnOk result (AreKept (kept_of context.now.context) kept.new) }
     ensures accepted { OnOk result (context.now.stage ≢ Failed) }
@@ -197,6 +220,7 @@ fn count_kept(context: &MemTableRecoverContext, kept: &mut KeptNumbers) -> Resul
     Ok(())
 }
 
+/// Returns a number, or 2^64 - 1 where it is above.
 fn capped(number: u128) -> u64
     ensures { result ≡ capped number }
 {
@@ -231,6 +255,11 @@ pub extern "C" fn raft_ffi_context_finish(
     answered(alloc, &answer, text)
 }
 
+/// Puts the tables of a context in a box.
+///
+/// # Errors
+///
+/// `Failed` after a refusal, `Memory`. The context is then gone.
 fn finished(alloc: Global, context: MemTableRecoverContext) -> Result<Box<MemTableAccessor>>
     ensures ok { IfOk result (λ a. AreTablesOf context a.value) }
     ensures reading { IfOk result (λ a. HasTablesRead context a.value) }

@@ -67,7 +67,8 @@ pub extern "C" fn raft_ffi_engine_open(
     answered(alloc, &answer, text)
 }
 
-/// Writes down what an opening cut off, if it succeeded.
+/// Writes down what an opening cut off, if it succeeded, with the texts of the reasons as far as
+/// there is room.
 fn tell(
     alloc: Global,
     answer: &Result<Recovered>,
@@ -85,6 +86,13 @@ fn tell(
     }
 }
 
+/// Opens found files, of which each queue's context has read the batches, and puts the engine into
+/// an empty handle. Returns what was cut off.
+///
+/// # Errors
+///
+/// Those of `Engine::open_over_telling`, and `Memory`. The handle is then empty, and files and
+/// contexts are gone.
 fn open_into(
     engine: &mut Engine,
     alloc: Global,

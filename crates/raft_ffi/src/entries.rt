@@ -26,6 +26,7 @@ pub struct Entry {
     pub is_placed: bool,
 }
 
+/// Returns an entry as tables and batches take it.
 pub(crate) fn entry_index(entry: &Entry) -> EntryIndex
     ensures { result ≡ entry_of entry.now }
 {
@@ -43,6 +44,11 @@ pub(crate) fn entry_index(entry: &Entry) -> EntryIndex
     }
 }
 
+/// Returns entries as tables and batches take them.
+///
+/// # Errors
+///
+/// `Memory`.
 pub(crate) fn entry_indexes(alloc: Global, entries: &[Entry]) -> Result<Vec<EntryIndex>>
     ensures ok { IfOk result (λ v. v.items ≡ map entry_of entries.now) }
     ensures memory { IfErr result (λ e. e ≡ Error.Memory) }
@@ -54,6 +60,7 @@ pub(crate) fn entry_indexes(alloc: Global, entries: &[Entry]) -> Result<Vec<Entr
     Ok(found)
 }
 
+/// Returns an entry as plain data.
 pub(crate) fn plain(entry: &EntryIndex) -> Entry
     ensures { entry_of result ≡ entry.now }
 {
@@ -81,6 +88,7 @@ pub(crate) fn plain(entry: &EntryIndex) -> Entry
     }
 }
 
+/// Copies entries as far as there is room, and returns how many they are.
 pub(crate) fn copy_entries(found: &[EntryIndex], room: &mut [Entry]) -> usize
     ensures { AreEntriesIn found.now room.old room.new result }
 {

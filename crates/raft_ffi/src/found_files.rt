@@ -29,6 +29,7 @@ impl Model for FoundFiles {
 }
 
 impl FoundFiles {
+    /// Makes found files, of which there are none yet.
     pub(crate) fn new(alloc: Global) -> FoundFiles
         ensures { result ≡ no_files }
     {
@@ -38,6 +39,11 @@ impl FoundFiles {
         }
     }
 
+    /// Adds a file of a queue behind the others, with a copy of its bytes.
+    ///
+    /// # Errors
+    ///
+    /// `Memory`. The files are then as they were.
     pub(crate) fn add(&mut self, queue: LogQueue, seq: FileSeq, bytes: &[u8]) -> Result<()>
         ensures ok { OnOk result (self.new ≡ with_file queue (seq, bytes.now) self.old) }
         ensures err { OnErr result (self.new ≡ self.old) }

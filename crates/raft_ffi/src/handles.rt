@@ -120,16 +120,20 @@ pub(crate) trait Handle: Sized + Drop {
     /// What this one holds.
     ghost value: { Self → Option Self.Held };
 
+    /// Makes a handle that holds nothing.
     fn empty(alloc: Global) -> Self
         ensures { value result ≡ None };
 
+    /// Makes the handle of a box that was taken apart.
     fn of_parts(parts: Parts<Self::Held, Global>) -> Self
         ensures { value result ≡ Some parts.value };
 
+    /// Returns the box that a handle holds, taken apart.
     fn into_parts(self) -> Parts<Self::Held, Global>
         requires { IsTrue (is_some (value self)) }
         ensures { value self ≡ Some result.value };
 
+    /// Returns the box that a handle holds.
     final fn into_box(self) -> Box<Self::Held>
         requires { IsTrue (is_some (value self)) }
         ensures { value self ≡ Some result.value }
@@ -137,6 +141,7 @@ pub(crate) trait Handle: Sized + Drop {
         self.into_parts().into_box()
     }
 
+    /// Returns what a handle holds, out of its box.
     final fn into_held(self) -> Self::Held
         requires { IsTrue (is_some (value self)) }
         ensures { value self ≡ Some result }
@@ -144,6 +149,7 @@ pub(crate) trait Handle: Sized + Drop {
         Box::into_inner(self.into_box())
     }
 
+    /// Takes the box out of a handle, which then holds nothing.
     final fn take(&mut self, alloc: Global) -> Box<Self::Held>
         requires { IsTrue (is_some (value self.old)) }
         ensures value { value self.old ≡ Some result.value }
@@ -152,12 +158,18 @@ pub(crate) trait Handle: Sized + Drop {
         mem::replace(self, Self::empty(alloc)).into_box()
     }
 
+    /// Has a handle hold this box.
     final fn put(&mut self, held: Box<Self::Held>)
         ensures { value self.new ≡ Some held.value }
     {
         *self = Self::of_parts(Parts::of(held));
     }
 
+    /// Has a handle hold this value, in a box.
+    ///
+    /// # Errors
+    ///
+    /// `Memory`. The handle is then as it was, and the value is lost.
     final fn put_new(&mut self, alloc: Global, held: Self::Held) -> Result<()>
         ensures ok { OnOk result (value self.new ≡ Some held) }
         ensures err { OnErr result (value self.new ≡ value self.old) }

@@ -29,12 +29,14 @@ impl Model for HeldEngine {
 }
 
 impl HeldEngine {
+    /// Holds an engine.
     pub(crate) fn of(engine: Engine<HandedFiles>) -> HeldEngine
         ensures { result ≡ engine }
     {
         HeldEngine { engine }
     }
 
+    /// Takes the oldest order that waits, where there is room for its bytes.
     pub(crate) fn take_order(&mut self, room: usize) -> Taking
         ensures taking { IsTaking self.old.asks room result }
         ensures same { self.new ≡ self.old }
@@ -46,6 +48,10 @@ impl HeldEngine {
     }
 
     /// Keeps a copy of the bytes that stand at a place, for the next call that moves records.
+    ///
+    /// # Errors
+    ///
+    /// `Memory`. Nothing more is lent then.
     pub(crate) fn lend(&mut self, file: FileId, offset: u64, bytes: &[u8]) -> Result<()>
         ensures same { self.new ≡ self.old }
         ensures memory { IfErr result (λ e. e ≡ Error.Memory) }
@@ -56,7 +62,12 @@ impl HeldEngine {
         self.engine.with_files(lend)
     }
 
-    /// Moves what the tables have in append files up to the gate, and lets go of all bytes that were lent.
+    /// Moves what the tables have in append files up to the gate, and lets go of all bytes that
+    /// were lent.
+    ///
+    /// # Errors
+    ///
+    /// `TryAgain` where a block is to be read that isn't lent, and those of `Engine::rewrite`.
     pub(crate) fn rewrite(&mut self, gate: FileSeq) -> Result<()>
         ensures ok { OnOk result (IsRewritten gate self.old self.new) }
         ensures accepted { OnOk result (self.old.intact ≡ true) }
@@ -68,6 +79,11 @@ impl HeldEngine {
     }
 
     /// Moves what the tables have in rewrite files, and lets go of all bytes that were lent.
+    ///
+    /// # Errors
+    ///
+    /// `TryAgain` where a block is to be read that isn't lent, and those of
+    /// `Engine::rewrite_again`.
     pub(crate) fn rewrite_again(&mut self) -> Result<()>
         ensures ok { OnOk result (AreMovedAgain self.old self.new) }
         ensures accepted { OnOk result (self.old.intact ≡ true) }
@@ -78,6 +94,7 @@ impl HeldEngine {
         answer
     }
 
+    /// Lets go of all bytes that were lent.
     fn clear_lent(&mut self)
         ensures { self.new ≡ self.old }
     {

@@ -31,18 +31,21 @@ impl Model for ItemList {
 }
 
 impl ItemList {
+    /// Makes a list of items.
     pub(crate) fn of(items: Vec<LogItem>) -> ItemList
         ensures { result ≡ map item_of items.items }
     {
         ItemList { items }
     }
 
+    /// Returns the items, in order.
     pub(crate) fn as_slice(&self) -> &[LogItem]
         ensures { map item_of result.now ≡ self.now }
     {
         self.items.as_slice()
     }
 
+    /// Returns the items one after another, in order.
     pub(crate) fn drain(self) -> vec::IntoIter<LogItem>
         ensures items { map item_of (into_iter_items result) ≡ self }
         ensures len { into_iter_len result ≡ length self }
@@ -52,6 +55,11 @@ impl ItemList {
     }
 }
 
+/// Takes the items out of a batch.
+///
+/// # Errors
+///
+/// `Memory`. They are then lost.
 pub(crate) fn items_of(alloc: Global, mut batch: LogBatch) -> Result<ItemList>
     ensures ok { IfOk result (λ list. list ≡ batch.items) }
     ensures memory { IfErr result (λ e. e ≡ Error.Memory) }
@@ -100,6 +108,12 @@ pub extern "C" fn raft_ffi_items_next(
     answered(alloc, &answer, text)
 }
 
+/// Reads the items of the batch that stands at `at` in the bytes into an empty handle, and where
+/// the next batch begins into `next`. At the end of the bytes the handle stays empty.
+///
+/// # Errors
+///
+/// Those of [`next_in`], and `Memory`. The handle is then empty.
 fn put_next(
     alloc: Global,
     items: &mut Items,
@@ -200,12 +214,14 @@ pub extern "C" fn raft_ffi_items_drop(items: Items)
     drop(items.into_box());
 }
 
+/// Returns the item at a position, if there is one.
 fn item_at(items: &ItemList, i: usize) -> Option<&LogItem>
     ensures { option_map (λ item. item_of item.now) result ≡ slice_get items.now i }
 {
     items.as_slice().get(i)
 }
 
+/// Finds what the item at a position says, and returns whether there is one.
 fn find_head(items: &ItemList, i: usize, head: &mut ItemHead) -> bool
     ensures { IsFound (λ item. IsHeadOf item head.new) (slice_get items.now i) result }
 {
@@ -221,6 +237,7 @@ fn find_head(items: &ItemList, i: usize, head: &mut ItemHead) -> bool
     true
 }
 
+/// Returns the number of an item's kind, and how many entries it has, or the index of its command.
 fn said_by(content: &LogItemContent) -> (u32, u64)
     ensures kind { result.0 ≡ kind_of (content_of content.now) }
     ensures number { result.1 ≡ number_of (content_of content.now) }
@@ -237,6 +254,8 @@ fn said_by(content: &LogItemContent) -> (u32, u64)
     }
 }
 
+/// Copies the entries of the item at a position as far as there is room, and returns whether it has
+/// a list of them.
 fn find_entries(items: &ItemList, i: usize, room: &mut [Entry], count: &mut usize) -> bool
     ensures { IsFound (λ es. AreEntriesIn es room.old room.new count.new) (entries_at items.now i) result }
 {
@@ -247,6 +266,7 @@ fn find_entries(items: &ItemList, i: usize, room: &mut [Entry], count: &mut usiz
     true
 }
 
+/// Returns the entries of the item at a position, if it has a list of them.
 fn entries_of(items: &ItemList, i: usize) -> Option<&[EntryIndex]>
     ensures { option_map (λ es. es.now) result ≡ entries_at items.now i }
 {
@@ -256,6 +276,7 @@ fn entries_of(items: &ItemList, i: usize) -> Option<&[EntryIndex]>
     }
 }
 
+/// Returns the key of the item at a position, if it changes one.
 fn key_of(items: &ItemList, i: usize) -> Option<&[u8]>
     ensures { option_map (λ key. key.now) result ≡ key_at items.now i }
 {
@@ -265,6 +286,7 @@ fn key_of(items: &ItemList, i: usize) -> Option<&[u8]>
     }
 }
 
+/// Returns the value of the item at a position, if it puts one.
 fn value_of(items: &ItemList, i: usize) -> Option<&[u8]>
     ensures { option_map (λ value. value.now) result ≡ value_at items.now i }
 {

@@ -99,8 +99,12 @@ pub extern "C" fn raft_ffi_engine_lend(
     told!(held in engine, alloc; held.lend(FileId::new(queue(is_rewrite), seq), offset, bytes))
 }
 
-/// Returns the blocks that are read where records of tables move past a gate, those of one table after another, until they have
-/// `max_size` bytes.
+/// Returns the blocks that are read where records of tables move past a gate, those of one table
+/// after another, until they have `max_size` bytes.
+///
+/// # Errors
+///
+/// `Memory`.
 fn blocks_to_move(
     alloc: Global,
     accessor: &MemTableAccessor,

@@ -69,6 +69,7 @@ pub extern "C" fn raft_ffi_engine_take_order(
     }
 }
 
+/// Returns what an order says without its bytes, which are copied: there is room for them.
 fn head(taken: &NumberedOrder, bytes: &mut [u8]) -> OrderHead
     requires { length_put taken.now.order.task ≤ length bytes.old }
     ensures number { result.at ≡ taken.now.number }
@@ -84,6 +85,8 @@ fn head(taken: &NumberedOrder, bytes: &mut [u8]) -> OrderHead
     }
 }
 
+/// Returns kind, number and length of what is to be done, and copies its bytes, for which there is
+/// room.
 #[tactic(auto, using(crate::proofs::OrderLemmas::put_says))]
 fn act(task: &Task, bytes: &mut [u8]) -> (u32, u64, usize)
     requires { length_put task.now ≤ length bytes.old }
@@ -109,6 +112,7 @@ pub(crate) enum Taking {
     NoneWaits(u64),
 }
 
+/// Takes the oldest order that waits, where there is room for its bytes.
 pub(crate) fn take_within(files: &mut HandedFiles, room: usize) -> Taking
     ensures taking { IsTaking files.old.asks room result }
     ensures same { files.new.asks ≡ files.old.asks }

@@ -100,12 +100,18 @@ pub extern "C" fn raft_ffi_engine_scan(
     told!(held in engine, alloc; scan_in(alloc, held.engine.accessor(), region, start, end, lens, count, bytes, len))
 }
 
+/// Returns the key as a bound, if there is to be one.
 fn bound(is_bounded: bool, key: &[u8]) -> Option<&[u8]>
     ensures { option_copied result ≡ bound_in is_bounded key.now }
 {
     if is_bounded { Some(key) } else { None }
 }
 
+/// Lists the pairs of a region whose key is at or above `start` and, with an `end`, below it.
+///
+/// # Errors
+///
+/// `Memory`. Nothing is then listed.
 fn scan_in(
     alloc: Global,
     accessor: &MemTableAccessor,
@@ -125,6 +131,12 @@ fn scan_in(
     copy_pairs(alloc, &found, lens, count, bytes, len)
 }
 
+/// Returns the pairs of a region whose key is at or above `start` and, with an `end`, below it, in
+/// the order of the keys.
+///
+/// # Errors
+///
+/// `Memory`.
 fn scanned(
     alloc: Global,
     accessor: &MemTableAccessor,
@@ -142,6 +154,11 @@ fn scanned(
     Ok(found)
 }
 
+/// Returns the pairs of a region, the appended ones first.
+///
+/// # Errors
+///
+/// `Memory`.
 fn pairs_of_both(alloc: Global, accessor: &MemTableAccessor, region: u64) -> Result<Pairs>
     ensures ok { IfOk result (λ v. pairs_shown v.items ≡ pairs_of_both (table_in accessor.now.tables region).keys) }
     ensures memory { IfErr result (λ e. e ≡ Error.Memory) }
@@ -152,6 +169,12 @@ fn pairs_of_both(alloc: Global, accessor: &MemTableAccessor, region: u64) -> Res
     Ok(found)
 }
 
+/// Returns the pairs of a region that are appended in files at or below the gate, without one those
+/// that are rewritten.
+///
+/// # Errors
+///
+/// `Memory`.
 fn pairs_in(
     alloc: Global,
     accessor: &MemTableAccessor,
@@ -167,6 +190,7 @@ fn pairs_in(
     }
 }
 
+/// Drops all pairs but those whose key is at or above `start` and, with an `end`, below it.
 fn keep_between(pairs: &mut Pairs, start: &[u8], end: Option<&[u8]>)
     ensures { pairs_shown pairs.new.items ≡ filter (λ (p : List ℕ × List ℕ). is_between (Some start.now) (option_copied
         end.entry) p.0) (pairs_shown pairs.old.items) }
@@ -174,12 +198,14 @@ fn keep_between(pairs: &mut Pairs, start: &[u8], end: Option<&[u8]>)
     pairs.retain(|pair| is_between(pair.0.as_slice(), start, end));
 }
 
+/// Tests whether a key is at or above `start` and, with an `end`, below it.
 fn is_between(key: &[u8], start: &[u8], end: Option<&[u8]>) -> bool
     ensures { result ≡ is_between (Some start.now) (option_copied end.entry) key.now }
 {
     start.cmp(key).is_le() && is_below(key, end)
 }
 
+/// Tests whether a key is below a bound; without one each is.
 fn is_below(key: &[u8], end: Option<&[u8]>) -> bool
     ensures { result ≡ is_below (option_copied end.entry) key.now }
 {
@@ -189,6 +215,7 @@ fn is_below(key: &[u8], end: Option<&[u8]>) -> bool
     }
 }
 
+/// Sorts pairs by the bytes of their keys.
 fn sort_by_key(pairs: &mut Pairs)
     ensures same { IsPermutation (pairs_shown pairs.old.items) (pairs_shown pairs.new.items) }
     ensures rising { AreInKeyOrder (pairs_shown pairs.new.items) }
@@ -196,6 +223,12 @@ fn sort_by_key(pairs: &mut Pairs)
     pairs.sort_unstable_by(|a, b| a.0.cmp(&b.0));
 }
 
+/// Copies the lengths of keys and values in turn, and their bytes, each as far as there is room,
+/// and says how many there are of each.
+///
+/// # Errors
+///
+/// `Memory`. Nothing is then copied.
 fn copy_pairs(
     alloc: Global,
     pairs: &[(Vec<u8>, Vec<u8>)],

@@ -47,6 +47,7 @@ pub struct Tail {
     pub is_some: bool,
 }
 
+/// Returns the queue that a flag stands for.
 pub(crate) fn queue(is_rewrite: bool) -> LogQueue
     ensures { result ≡ queue_of is_rewrite }
 {
@@ -57,12 +58,15 @@ pub(crate) fn queue(is_rewrite: bool) -> LogQueue
     }
 }
 
+/// Returns the version that a flag stands for.
 pub(crate) fn version(is_signed: bool) -> Version
     ensures { result ≡ version_of is_signed }
 {
     if is_signed { Version::V2 } else { Version::V1 }
 }
 
+/// Returns the mode that a number stands for: any but 0 and 2 for that in which a torn tail is cut
+/// off.
 pub(crate) fn recovery_mode(mode: u32) -> RecoveryMode
     ensures { result ≡ mode_of mode }
 {
@@ -73,6 +77,7 @@ pub(crate) fn recovery_mode(mode: u32) -> RecoveryMode
     }
 }
 
+/// Tests whether a queue is the rewrite queue.
 pub(crate) fn is_rewrite(queue: LogQueue) -> bool
     ensures { queue_of result ≡ queue }
 {
@@ -83,18 +88,21 @@ pub(crate) fn is_rewrite(queue: LogQueue) -> bool
 }
 
 impl Maybe {
+    /// Returns the number, if it is there.
     pub(crate) fn number(self) -> Option<u64>
         ensures { result ≡ number_in self }
     {
         self.is_some.then_some(self.number)
     }
 
+    /// Returns the number as a size, if it is there.
     pub(crate) fn size(self) -> Option<usize>
         ensures { result ≡ number_in self }
     {
         self.is_some.then_some(self.number as usize)
     }
 
+    /// Returns a number that may be there as plain data.
     pub(crate) fn of(number: Option<u64>) -> Maybe
         ensures { number_in result ≡ number }
     {
@@ -106,6 +114,8 @@ impl Maybe {
 }
 
 impl Tail {
+    /// Says which tail was cut off, if one was, and writes the text of the reason as far as there
+    /// is room.
     pub(crate) fn of(alloc: Global, cut: &Option<CutTail>, text: &mut [u8]) -> Tail
         ensures { IsTailIn cut.now result text.old text.new }
     {
@@ -131,6 +141,7 @@ impl Tail {
 }
 
 impl File {
+    /// Returns the file as batches take it.
     pub(crate) fn context(&self) -> LogFileContext
         ensures { result ≡ file_of self.now }
     {
@@ -139,6 +150,7 @@ impl File {
     }
 }
 
+/// Returns the number of an error.
 pub(crate) fn code(e: &Error) -> u32
     ensures { result ≡ code_of e.now }
 {
@@ -158,6 +170,7 @@ pub(crate) fn code(e: &Error) -> u32
     }
 }
 
+/// Returns how a call ended that may lack memory alone: 0, or the number of `Memory`.
 pub(crate) fn memory_code(answer: &Result<()>) -> u32
     ensures ok { OnOk answer.now (result ≡ 0) }
     ensures err { OnErr answer.now (result ≡ 11) }
@@ -168,6 +181,7 @@ pub(crate) fn memory_code(answer: &Result<()>) -> u32
     }
 }
 
+/// Returns how a call ended, and writes the text of its error as far as there is room.
 pub(crate) fn answered<T>(alloc: Global, answer: &Result<T>, text: &mut [u8]) -> Status
     ensures ok { OnOk answer.now (result.code ≡ 0) }
     ensures err { IfErr answer.now (λ e. result.code ≡ code_of e) }
@@ -186,6 +200,8 @@ pub(crate) fn answered<T>(alloc: Global, answer: &Result<T>, text: &mut [u8]) ->
     }
 }
 
+/// Returns how a call ended, and writes what it found, or the text of its error as far as there is
+/// room.
 pub(crate) fn answered_with<T: Copy>(
     alloc: Global,
     answer: Result<T>,
@@ -203,6 +219,8 @@ pub(crate) fn answered_with<T: Copy>(
     answered(alloc, &answer, text)
 }
 
+/// Writes the text of an error as far as there is room, and returns its length; 0 where there is no
+/// memory for it.
 fn write_text(alloc: Global, e: &Error, text: &mut [u8]) -> usize
     ensures some { IsTextIn text.old text.new result }
     ensures told { IsTextOf e.now text.old text.new result }
@@ -217,6 +235,7 @@ fn write_text(alloc: Global, e: &Error, text: &mut [u8]) -> usize
     }
 }
 
+/// Copies items as far as there is room, and returns how many there are.
 pub(crate) fn copy_front<T: Copy>(found: &[T], room: &mut [T]) -> usize
     ensures { IsCopied found.now room.old room.new result }
 {
@@ -227,6 +246,8 @@ pub(crate) fn copy_front<T: Copy>(found: &[T], room: &mut [T]) -> usize
     found.len()
 }
 
+/// Copies bytes that were found as far as there is room, and says how many they are. Returns
+/// whether there are some.
 pub(crate) fn copy_found(found: Option<&[u8]>, room: &mut [u8], len: &mut usize) -> bool
     ensures { IsFound (λ bytes. IsCopied bytes room.old room.new len.new) (option_map (λ v. v.now) found.entry) result }
 {

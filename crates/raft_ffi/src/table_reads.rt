@@ -318,6 +318,7 @@ pub extern "C" fn raft_ffi_engine_last_index(
     found_number(found, index)
 }
 
+/// Writes a number that was found, and returns whether one was.
 fn found_number(found: Option<u64>, number: &mut u64) -> bool
     ensures { IsFound (λ n. number.new ≡ n) found result }
 {
@@ -328,6 +329,7 @@ fn found_number(found: Option<u64>, number: &mut u64) -> bool
     true
 }
 
+/// Says what a region's table has, and returns whether there is one.
 fn summary_in(accessor: &MemTableAccessor, region: u64, summary: &mut Summary) -> bool
     ensures { IsSummaryIn region result summary.new accessor.now }
 {
@@ -344,6 +346,7 @@ fn summary_in(accessor: &MemTableAccessor, region: u64, summary: &mut Summary) -
     true
 }
 
+/// Says where an entry of a region is, and returns whether there is one at this index.
 fn entry_in(accessor: &MemTableAccessor, region: u64, index: u64, entry: &mut Entry) -> bool
     ensures { IsEntryIn region index result entry.new accessor.now }
 {
@@ -354,18 +357,26 @@ fn entry_in(accessor: &MemTableAccessor, region: u64, index: u64, entry: &mut En
     true
 }
 
+/// Returns the entry of a region at an index, if there is one.
 fn entry_at(accessor: &MemTableAccessor, region: u64, index: u64) -> Option<EntryIndex>
     ensures { result ≡ entry_at index (table_in accessor.now.tables region).entries }
 {
     accessor.get(region)?.get_entry(index)
 }
 
+/// Returns the value of a region's key, if there is one.
 fn value_of<'a>(accessor: &'a MemTableAccessor, region: u64, key: &[u8]) -> Option<&'a [u8]>
     ensures { option_map (λ v. v.now) result ≡ value_in accessor.now.tables region key.now }
 {
     accessor.get(region)?.get(key)
 }
 
+/// Copies the regions that have a table, in rising order, as far as there is room, and says how
+/// many they are.
+///
+/// # Errors
+///
+/// `Memory`. Nothing is then copied.
 fn find_regions(accessor: &MemTableAccessor, room: &mut [u64], count: &mut usize) -> Result<()>
     ensures ok { OnOk result (AreRegionsIn accessor.now.tables room.old room.new count.new) }
     ensures memory { IfErr result (λ e. e ≡ Error.Memory) }
@@ -376,6 +387,12 @@ fn find_regions(accessor: &MemTableAccessor, room: &mut [u64], count: &mut usize
     Ok(())
 }
 
+/// Copies the entries of a range of a region's indexes, up to the one that passes a maximal size,
+/// as far as there is room, and says how many they are. A region without a table has no entries.
+///
+/// # Errors
+///
+/// Those of [`MemTable::fetch_entries_to`]. Nothing is then copied.
 fn entries_in(
     alloc: Global,
     accessor: &MemTableAccessor,
@@ -401,6 +418,12 @@ fn entries_in(
     Ok(())
 }
 
+/// Returns the entries of a region that are appended in files at or below the gate, from the first
+/// on, or without a gate those that are rewritten.
+///
+/// # Errors
+///
+/// `Memory`.
 fn moving_in(
     alloc: Global,
     accessor: &MemTableAccessor,

@@ -24,7 +24,7 @@ macro_rules! counted {
     }};
 }
 
-/// Makes no tables.
+/// Makes tables of no region.
 #[unsafe(no_mangle)]
 pub extern "C" fn raft_ffi_tables_new(alloc: Global, tables: &mut Tables) -> u32
     requires empty { tables.old.value ≡ None }
@@ -119,6 +119,12 @@ pub extern "C" fn raft_ffi_tables_apply_append(
     told!(held in tables, alloc, text; apply_append(&mut *held, items.into_held()))
 }
 
+/// Writes items of the append queue to the tables, in order.
+///
+/// # Errors
+///
+/// Those of [`MemTableAccessor::apply_append_writes`]. The items in front of the refused one are
+/// written.
 pub(crate) fn apply_append(accessor: &mut MemTableAccessor, items: ItemList) -> Result<()>
     ensures ok { OnOk result (AreWritten Appending items accessor.old accessor.new) }
     ensures refused { IfErr result (IsStoppedAt Appending items accessor.old accessor.new) }
@@ -145,6 +151,12 @@ pub extern "C" fn raft_ffi_tables_apply_rewrite(
     told!(held in tables, alloc, text; apply_rewrite(&mut *held, items.into_held(), gate.number(), seq))
 }
 
+/// Writes items that were rewritten to the file of number `seq` to the tables, in order.
+///
+/// # Errors
+///
+/// Those of [`MemTableAccessor::apply_rewrite_writes`]. The items in front of the refused one are
+/// written.
 pub(crate) fn apply_rewrite(
     accessor: &mut MemTableAccessor,
     items: ItemList,
@@ -175,6 +187,11 @@ pub extern "C" fn raft_ffi_tables_check_append(
     told!(held in tables, alloc, text; with!(logs in batch, alloc; check_append(&*held, &*logs)))
 }
 
+/// Tests whether the tables would accept the items of a batch of the append queue.
+///
+/// # Errors
+///
+/// Those of [`MemTableAccessor::check_append_writes`].
 fn check_append(accessor: &MemTableAccessor, batch: &LogBatch) -> Result<()>
     ensures ok { OnOk result (AcceptsOncePlaced accessor.now batch.now) }
     ensures refused { IfErr result (λ e. e ≢ Error.Memory → AreRefusedOncePlaced accessor.now.tables batch.now.items) }
@@ -199,7 +216,12 @@ pub extern "C" fn raft_ffi_tables_cleaned_logs(
     told!(held in tables, alloc; cleaned_logs(alloc, &mut *held, batch))
 }
 
-/// Hands out the cleaned regions as an open batch. There is memory for the handle before the list is emptied.
+/// Hands out the cleaned regions as an open batch with a `Clean` for each, in order. There is
+/// memory for the handle before the list is emptied.
+///
+/// # Errors
+///
+/// `Memory`. The list is then as it was.
 fn cleaned_logs(alloc: Global, accessor: &mut MemTableAccessor, batch: &mut Batch) -> Result<()>
     requires empty { batch.old.value ≡ None }
     ensures ok { OnOk result (accessor.new ≡ without_cleaned accessor.old) }
@@ -310,6 +332,12 @@ pub extern "C" fn raft_ffi_slot_apply_rewrite(
     told!(held in tables, alloc, text; with!(list in items, alloc; rewrite(alloc, &mut *held, number, &*list, gate.number(), seq)))
 }
 
+/// Moves the table of a region, if there is one, in place of that of the other tables.
+///
+/// # Errors
+///
+/// `Full` where more than 2^64 - 1 records would be live in a queue, `Memory`. The table is then
+/// gone, and `to` is as it was.
 fn move_table(from: &mut MemTableAccessor, to: &mut MemTableAccessor, region: u64) -> Result<()>
     ensures removed { IsRemoved region false from.old from.new }
     ensures ok { OnOk result (IsMoved region from.old to.old to.new) }
@@ -330,6 +358,12 @@ fn move_table(from: &mut MemTableAccessor, to: &mut MemTableAccessor, region: u6
     }
 }
 
+/// Tests whether the tables would accept the items of a batch of the append queue whose regions are
+/// of a slot.
+///
+/// # Errors
+///
+/// Those of [`MemTableAccessor::check_append_writes`], and `Memory`.
 fn check_share(alloc: Global, tables: &MemTableAccessor, slot: usize, logs: &LogBatch) -> Result<()>
     ensures ok { OnOk result (AcceptsShareOncePlaced slot tables.now logs.now) }
     ensures refused { IfErr result (λ e. e ≢ Error.Memory
@@ -340,6 +374,12 @@ fn check_share(alloc: Global, tables: &MemTableAccessor, slot: usize, logs: &Log
     tables.check_append_writes(share.as_slice())
 }
 
+/// Writes those of the items whose regions are of a slot to the tables, as new ones of the append
+/// queue.
+///
+/// # Errors
+///
+/// Those of `apply_append`, and `Memory` for copies of the items, with none written.
 fn append(alloc: Global, tables: &mut MemTableAccessor, slot: usize, items: &ItemList) -> Result<()>
     ensures ok { OnOk result (AreWritten Appending (share_of slot items.now) tables.old tables.new) }
     ensures refused { IfErr result (IsShareRefused Appending (share_of slot items.now) tables.old tables.new) }
@@ -348,6 +388,12 @@ fn append(alloc: Global, tables: &mut MemTableAccessor, slot: usize, items: &Ite
     apply_append(tables, ItemList::of(share))
 }
 
+/// Writes those of the items whose regions are of a slot to the tables, as rewritten to the file of
+/// number `seq`.
+///
+/// # Errors
+///
+/// Those of `apply_rewrite`, and `Memory` for copies of the items, with none written.
 fn rewrite(
     alloc: Global,
     accessor: &mut MemTableAccessor,
@@ -363,6 +409,11 @@ fn rewrite(
     apply_rewrite(accessor, ItemList::of(share), gate, seq)
 }
 
+/// Returns copies of the items whose regions are of a slot, in order.
+///
+/// # Errors
+///
+/// `Memory`.
 fn share_of(alloc: Global, number: usize, items: &[LogItem]) -> Result<Vec<LogItem>>
     ensures ok { IfOk result (λ share. map item_of share.items ≡ share_of number (map item_of items.now)) }
     ensures memory { IfErr result (λ e. e ≡ Error.Memory) }

@@ -55,6 +55,10 @@ fn path_for<R: FolderHost>(
 }
 
 /// Tests whether no file is at a path, or one with a prefix of the bytes.
+///
+/// # Errors
+///
+/// `System` where the file can't be read, `Memory`.
 fn is_free<R: FolderHost>(rt: &R, path: &str, bytes: &[u8]) -> FolderResult<bool> {
     match fs::exists(rt, path) {
         Ok(false) => return Ok(true),
@@ -67,7 +71,11 @@ fn is_free<R: FolderHost>(rt: &R, path: &str, bytes: &[u8]) -> FolderResult<bool
     }
 }
 
-/// Writes a file that is on the disk then.
+/// Writes a file and syncs it, but not its name.
+///
+/// # Errors
+///
+/// Those of the system. Some of the file may be there then.
 fn write<R: FolderHost>(rt: &R, path: &str, bytes: &[u8]) -> io::Result<()> {
     let mut file = fs::create(rt, path)?;
     file.write_all(bytes)?;

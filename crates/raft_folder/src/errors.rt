@@ -78,7 +78,11 @@ fn refused(path: String, why: &str) -> Error {
     }
 }
 
-/// Returns a path with the reason behind it.
+/// Returns a path with the reason behind it, as `logs: another engine has the folder open`.
+///
+/// # Errors
+///
+/// Where there is no memory for it.
 fn told(path: String, why: &str) -> AllocResult<String> {
     let mut text = path;
     text.push_str(": ")?;

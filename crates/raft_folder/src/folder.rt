@@ -74,7 +74,7 @@ impl<'a, R: FolderHost> Folder<'a, R> {
         Ok(folder)
     }
 
-    /// Makes a folder without a file.
+    /// Makes a locked folder of which no file is open yet.
     fn of(rt: &'a R, path: &'a str, locked: LockedFolder) -> Folder<'a, R> {
         let alloc = rt.alloc();
         Folder {
@@ -87,7 +87,12 @@ impl<'a, R: FolderHost> Folder<'a, R> {
         }
     }
 
-    /// Opens all log files in the folder.
+    /// Opens all log files in the folder. Other names are left alone.
+    ///
+    /// # Errors
+    ///
+    /// `Misnamed` for a name that ends like that of a log file and is none; `System`, `Memory`.
+    /// Some files are then open.
     fn open_files(&mut self, how: &OpenOptions) -> FolderResult<()> {
         for entry in about_path(self.rt, self.path, fs::read_dir(self.rt, self.path))? {
             let entry = about_path(self.rt, self.path, entry)?;
@@ -97,6 +102,10 @@ impl<'a, R: FolderHost> Folder<'a, R> {
     }
 
     /// Opens the log file that has this name, if one has.
+    ///
+    /// # Errors
+    ///
+    /// `Misnamed` for a name that ends like that of a log file and is none; `System`, `Memory`.
     fn open_named(&mut self, how: &OpenOptions, name: &str) -> FolderResult<()> {
         let alloc = self.rt.alloc();
         let folder = self.path;
@@ -112,14 +121,18 @@ impl<'a, R: FolderHost> Folder<'a, R> {
         }
     }
 
-    /// Syncs the names in the folder, and its own.
+    /// Syncs the names in the folder, and its own in the folder above.
+    ///
+    /// # Errors
+    ///
+    /// Those of the system, and want of memory.
     fn sync_names(&self) -> io::Result<()> {
         self.locked.entry.sync_all()?;
         let parent = format!(in self.rt.alloc(); "{}/..", self.path)?;
         fs::open(self.rt, parent.as_str())?.sync_all()
     }
 
-    /// Returns the files of a queue.
+    /// Returns the open files of a queue by their numbers.
     pub(crate) fn files(&self, queue: LogQueue) -> &OpenFiles {
         match queue {
             LogQueue::Append => &self.append,
@@ -127,6 +140,7 @@ impl<'a, R: FolderHost> Folder<'a, R> {
         }
     }
 
+    /// Returns the files of a queue, to be changed.
     fn files_mut(&mut self, queue: LogQueue) -> &mut OpenFiles {
         match queue {
             LogQueue::Append => &mut self.append,
@@ -135,6 +149,10 @@ impl<'a, R: FolderHost> Folder<'a, R> {
     }
 
     /// Returns the number and the length of each file of a queue, oldest first.
+    ///
+    /// # Errors
+    ///
+    /// `System`, `Memory`.
     pub(crate) fn list(&self, queue: LogQueue) -> FolderResult<Vec<FolderFile>> {
         let mut files = Vec::new(self.rt.alloc());
         for (seq, file) in self.files(queue) {
@@ -144,7 +162,11 @@ impl<'a, R: FolderHost> Folder<'a, R> {
         Ok(files)
     }
 
-    /// Syncs the files of a queue.
+    /// Syncs the files of a queue, one after another.
+    ///
+    /// # Errors
+    ///
+    /// `System`, `Memory`. Some files may then not be synced.
     pub(crate) fn sync_all(&self, queue: LogQueue) -> FolderResult<()> {
         for (seq, file) in self.files(queue) {
             self.about_file(FileId::new(queue, *seq), file.sync_all())?;
@@ -152,8 +174,13 @@ impl<'a, R: FolderHost> Folder<'a, R> {
         Ok(())
     }
 
-    /// Returns the files of a queue with their bytes, oldest first. Refuses files that begin with a header of their own: no
-    /// batch can be read in them, so that they would be taken for torn, and cut.
+    /// Returns the files of a queue with their bytes, oldest first. Refuses files that begin with a
+    /// header of their own: no batch can be read in them, so that they would be taken for torn, and
+    /// cut.
+    ///
+    /// # Errors
+    ///
+    /// `Foreign` for such a file, `System`, `Memory`.
     pub(crate) fn bytes_of_files(&self, queue: LogQueue) -> FolderResult<Vec<(FileSeq, Vec<u8>)>> {
         let mut files = Vec::new(self.rt.alloc());
         for (seq, file) in self.files(queue) {
@@ -175,6 +202,10 @@ impl<'a, R: FolderHost> Folder<'a, R> {
     }
 
     /// Syncs a queue's last file. The older ones were synced when they were closed.
+    ///
+    /// # Errors
+    ///
+    /// `System`, `Memory`.
     pub(crate) fn sync(&self, queue: LogQueue) -> FolderResult<()> {
         match self.files(queue).last_key_value() {
             Some((seq, file)) => self.about_file(FileId::new(queue, *seq), file.sync_all()),
@@ -182,7 +213,12 @@ impl<'a, R: FolderHost> Folder<'a, R> {
         }
     }
 
-    /// Makes a file that isn't there yet, behind the queue's last one. Its name is on the disk then.
+    /// Makes a file that isn't there yet, behind the queue's last one. Its name is on the disk
+    /// then.
+    ///
+    /// # Errors
+    ///
+    /// `System`, also where it is there; `Refused`, `Memory`. The file may be there then.
     pub(crate) fn create(&mut self, id: FileId) -> FolderResult<()> {
         if let Some((last, _)) = self.files(id.queue).last_key_value() {
             if id.seq <= *last {
@@ -199,6 +235,10 @@ impl<'a, R: FolderHost> Folder<'a, R> {
     }
 
     /// Deletes a queue's oldest file, but not its last one. Its name is gone from the disk then.
+    ///
+    /// # Errors
+    ///
+    /// `Refused` where there is no older one, `System`, `Memory`. The file may be gone then.
     pub(crate) fn delete_oldest(&mut self, queue: LogQueue) -> FolderResult<()> {
         if self.files(queue).len() < 2 {
             return Err(self.refusal("a queue keeps its last file"));
@@ -236,6 +276,10 @@ impl<'a, R: FolderHost> Folder<'a, R> {
     }
 
     /// Returns the bytes at a place.
+    ///
+    /// # Errors
+    ///
+    /// `Refused` where the file isn't there, `System` where it ends before, `Memory`.
     pub(crate) fn read(&self, place: FileBlockHandle) -> FolderResult<Vec<u8>> {
         match self.files(place.id.queue).get(&place.id.seq) {
             Some(file) => self.about_file(place.id, self.bytes_at(file, place.offset, place.len)),
@@ -244,6 +288,10 @@ impl<'a, R: FolderHost> Folder<'a, R> {
     }
 
     /// Returns `len` bytes of a file from an offset on.
+    ///
+    /// # Errors
+    ///
+    /// Those of the system, where the file ends before too, and want of memory.
     fn bytes_at(&self, file: &File, offset: u64, len: usize) -> io::Result<Vec<u8>> {
         let mut bytes = vec![in self.rt.alloc(); 0; len]?;
         file.read_exact_at(&mut bytes, offset)?;
@@ -251,6 +299,10 @@ impl<'a, R: FolderHost> Folder<'a, R> {
     }
 
     /// Returns how many bytes a file has.
+    ///
+    /// # Errors
+    ///
+    /// `System`, `Memory`.
     pub(crate) fn len_of(&self, id: FileId, file: &File) -> FolderResult<u64> {
         match file.metadata() {
             Ok(metadata) => Ok(metadata.len()),
@@ -259,6 +311,10 @@ impl<'a, R: FolderHost> Folder<'a, R> {
     }
 
     /// Returns a queue's last file.
+    ///
+    /// # Errors
+    ///
+    /// `Refused` where the queue has none, `Memory`.
     fn last(&self, queue: LogQueue) -> FolderResult<(FileId, &File)> {
         match self.files(queue).last_key_value() {
             Some((seq, file)) => Ok((FileId::new(queue, *seq), file)),
@@ -266,7 +322,11 @@ impl<'a, R: FolderHost> Folder<'a, R> {
         }
     }
 
-    /// Returns the path of a log file.
+    /// Returns the path of a log file, whether it is there or not.
+    ///
+    /// # Errors
+    ///
+    /// `Memory`.
     pub(crate) fn path_of(&self, id: FileId) -> FolderResult<String> {
         let name = name_of(self.rt.alloc(), id)?;
         Ok(format!(in self.rt.alloc(); "{}/{name}", self.path)?)
@@ -280,6 +340,7 @@ impl<'a, R: FolderHost> Folder<'a, R> {
         }
     }
 
+    /// Makes the refusal of what is asked of this folder; `Memory` where its path finds none.
     fn refusal(&self, why: &'static str) -> FolderError {
         match String::from_str(self.rt.alloc(), self.path) {
             Ok(path) => FolderError::Refused(path, why),
@@ -289,6 +350,10 @@ impl<'a, R: FolderHost> Folder<'a, R> {
 }
 
 /// Tests whether there is something at a path.
+///
+/// # Errors
+///
+/// `System`, `Memory`.
 fn is_there<R: FolderHost>(rt: &R, path: &str) -> FolderResult<bool> {
     about_path(rt, path, fs::exists(rt, path))
 }

@@ -44,7 +44,7 @@ struct Span {
 }
 
 /// The log files that lie in a folder at one moment, without file headers. Which ones they are doesn't change with
-/// the pipe's calls: after a rotation or a purge its owner makes a new one by [`FolderPipe::reopened`]. Each call opens
+/// the pipe's calls: after a rotation or a purge its owner makes a new one by [`FolderPipe::reopen`]. Each call opens
 /// the file that it needs; an engine keeps its files open.
 #[derive(Drop)]
 pub(crate) struct FolderPipe<'a, R: Disk> {
@@ -74,7 +74,7 @@ impl<'a, R: Disk> FolderPipe<'a, R> {
     }
 
     /// Opens the pipe over the files that the same folder holds now.
-    pub(crate) fn reopened(&self) -> Result<FolderPipe<'a, R>> {
+    pub(crate) fn reopen(&self) -> Result<FolderPipe<'a, R>> {
         FolderPipe::open(self.rt, self.folder)
     }
 
@@ -91,7 +91,7 @@ impl<'a, R: Disk> FolderPipe<'a, R> {
     }
 
     /// Drops the bytes of a file from `len` on, for good.
-    pub(crate) fn cut(&self, id: FileId, len: u64) -> Result<()> {
+    pub(crate) fn cut_file(&self, id: FileId, len: u64) -> Result<()> {
         let mut options = OpenOptions::new();
         let file = options.write(true).open(self.rt, self.path(id)?.as_str())?;
         file.set_len(len)?;
@@ -108,6 +108,7 @@ impl<'a, R: Disk> FolderPipe<'a, R> {
         Ok(fs::metadata(self.rt, self.path(id)?.as_str())?.len())
     }
 
+    /// Returns the files of a queue.
     fn span(&self, queue: LogQueue) -> Span
         ensures { (result.first, result.last)
             ≡ range_in (self.now.append.first, self.now.append.last)

@@ -126,7 +126,7 @@ fn cut_torn_tail<R: Disk>(pipe: &FolderPipe<'_, R>, file: &mut FilePart) -> Resu
                 return Ok(());
             }
             let torn = file.split_off(end)?;
-            pipe.cut(torn.id(), torn.offset())
+            pipe.cut_file(torn.id(), torn.offset())
         }
     }
 }

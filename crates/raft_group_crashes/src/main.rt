@@ -9,17 +9,25 @@ mod folder_pipe;
 mod logs;
 mod store;
 
-use raft_base::{Error, Result};
+use raft_base::Result;
 use raft_recover::command_words;
 use std::process::ExitCode;
 
+/// What `--help` prints, and other words that ask for nothing.
+const USAGE: &str =
+    "usage: raft_group_crashes SEED HISTORIES BY_BYTES   (crashes a store with atomic groups in so many random histories from a seed on)";
+
 fn main(rt: HostRuntime) -> Result<ExitCode> {
     let words = command_words(&rt)?;
+    if words.first().is_some_and(|word: &String| word.as_str() == "--help"
+        || word.as_str() == "-h")
+    {
+        println!(rt; "{USAGE}")?;
+        return Ok(ExitCode::SUCCESS);
+    }
     let Some((seed, histories, by_bytes)) = numbers(words.as_slice()) else {
-        return Err(Error::invalid_argument(
-            rt.alloc(),
-            "usage: raft_group_crashes SEED HISTORIES BY_BYTES",
-        ));
+        eprintln!(rt; "{USAGE}")?;
+        return Ok(ExitCode::from(2));
     };
     if crashes::try_all(&rt, seed, histories, by_bytes)? {
         Ok(ExitCode::SUCCESS)

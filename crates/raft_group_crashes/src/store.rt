@@ -96,7 +96,7 @@ impl<'a, R: Host> Store<'a, R> {
     /// Begins a new file of a queue. What the queue holds by then lasts.
     pub(crate) fn rotate(&mut self, queue: LogQueue) -> Result<()> {
         self.pipe.rotate(queue)?;
-        self.pipe = self.pipe.reopened()?;
+        self.pipe = self.pipe.reopen()?;
         let (_, last) = self.pipe.file_span(queue);
         self.note(FileChange::Begun(FileId::new(queue, last)))
     }
@@ -138,7 +138,7 @@ impl<'a, R: Host> Store<'a, R> {
         Ok(place.id.seq)
     }
 
-    /// Reads all records.
+    /// Reads the records of all regions out of the files, by the tables.
     pub(crate) fn contents(&self) -> Result<Contents> {
         let mut contents = BTreeMap::new(self.rt.alloc());
         for table in self.tables.tables()? {

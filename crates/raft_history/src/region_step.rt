@@ -27,6 +27,7 @@ impl RegionStep {
     }
 }
 
+/// Returns the step that an item's content makes of its region, if it makes one.
 fn content_step(content: LogItemContent) -> Option<Step>
     ensures { option_map step_shown result ≡ content_step (content_of content) }
 {
@@ -37,6 +38,7 @@ fn content_step(content: LogItemContent) -> Option<Step>
     }
 }
 
+/// Returns the step of a command.
 fn command_step(command: Command) -> Step
     ensures { step_shown result ≡ command_step command }
 {
@@ -47,6 +49,8 @@ fn command_step(command: Command) -> Step
     }
 }
 
+/// Returns the step of a change of a key; none under the reserved key, nor for a put without value
+/// or file.
 fn pair_step(kv: KeyValue) -> Option<Step>
     ensures { option_map step_shown result ≡ content_step (pair (pair_of kv)) }
 {

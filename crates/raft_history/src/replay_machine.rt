@@ -32,7 +32,8 @@ pub trait ReplayMachine: Send + Drop {
             → IsSmall (h ++ event batch file_id ∷ []) → stands_for self.old h
             → ¬ (Sound (h ++ event batch file_id ∷ []))) };
 
-    /// Replays one more batch as it was read. A machine that has no better way makes a [`LogItemBatch`] of it.
+    /// Replays one more batch as it was read, with the errors of `replay`. A machine that has no
+    /// better way makes a [`LogItemBatch`] of it.
     fn replay_read(&mut self, batch: &ReadBatch<'_>, file_id: FileId) -> Result<()>
         ensures stands { (h : List Event) → IsSmall (h ++ event batch.now file_id ∷ [])
             → stands_for self.old h

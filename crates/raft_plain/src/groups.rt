@@ -27,6 +27,10 @@ pub struct Stretch {
 pub type Stretches = BTreeMap<u64, Stretch>;
 
 /// Returns the group marker of a batch of the rewrite queue. The append queue ignores them.
+///
+/// # Errors
+///
+/// `Corruption` where the status of one is unknown, `Memory`.
 pub(crate) fn marker_in(
     alloc: Global,
     queue: LogQueue,
@@ -45,6 +49,10 @@ pub(crate) fn marker_in(
 }
 
 /// Returns the first group marker among items, each of which has to have a status.
+///
+/// # Errors
+///
+/// `Corruption` where the status of one is unknown, `Memory`.
 fn first_marker(alloc: Global, items: &[LogItem]) -> Result<Option<(u64, AtomicGroupStatus)>>
     ensures markers { OnOk result (HaveStatus Rewrite (map item_of items.now)) }
     ensures marker { IfOk result (λ marker. marker ≡ first_marker (map item_of items.now)) }

@@ -18,6 +18,7 @@ pub fn count_live(queue: LogQueue, regions: &Regions) -> u128
     count
 }
 
+/// Counts the entries that have their place in a queue.
 #[tactic(auto, unfolding(raft_table::specs::TableEntries::placed_in))]
 fn count_entries(queue: LogQueue, entries: &[EntryIndex]) -> usize
     ensures { result ≡ entry_count queue entries.now }
@@ -31,6 +32,7 @@ fn count_entries(queue: LogQueue, entries: &[EntryIndex]) -> usize
     count
 }
 
+/// Tests whether an entry has a place in a queue.
 #[tactic(auto, unfolding(raft_table::specs::TableEntries::is_placed_in))]
 pub(crate) fn is_placed_in(queue: LogQueue, entry: &EntryIndex) -> bool
     ensures { result ≡ is_placed_in queue entry.now }
@@ -38,6 +40,7 @@ pub(crate) fn is_placed_in(queue: LogQueue, entry: &EntryIndex) -> bool
     entry.entries.is_some_and(|place| place.id.queue == queue)
 }
 
+/// Counts the keys whose value is in a file of a queue.
 fn count_keys(queue: LogQueue, keys: &Keys) -> usize
     ensures { result ≡ pair_count queue (keys_shown keys.now) }
 {

@@ -71,6 +71,11 @@ fn overlay_region(
     }
 }
 
+/// Returns the steps on a region, in order.
+///
+/// # Errors
+///
+/// Where there is no memory for them.
 #[tactic(auto, unfolding(raft_history::specs::RegionSteps::steps_on))]
 fn steps_on<'a>(alloc: Global, id: u64, steps: &'a [RegionStep]) -> AllocResult<Vec<&'a Step>>
     ensures { IfOk result (λ own. map (λ s. step_shown s.now) own.items
@@ -125,6 +130,7 @@ fn entries_within(floor: u64, cut: Option<u64>, mut entries: Entries) -> Entries
     entries
 }
 
+/// Tests whether an index is below the cut; without one each is.
 fn is_under(cut: Option<u64>, index: u64) -> bool
     ensures { result ≡ is_under cut index }
 {
@@ -134,6 +140,8 @@ fn is_under(cut: Option<u64>, index: u64) -> bool
     }
 }
 
+/// Tests whether appended entries don't join the rewritten ones: they don't begin at the cut, or
+/// these end below it.
 fn is_unjoined(cut: Option<u64>, older: &[EntryIndex], newer: &[EntryIndex]) -> bool
     ensures { result ≡ is_unjoined cut (end_of older.now) newer.now }
 {
@@ -143,6 +151,7 @@ fn is_unjoined(cut: Option<u64>, older: &[EntryIndex], newer: &[EntryIndex]) -> 
     }
 }
 
+/// Tests whether one of the steps cleans the region.
 fn has_clean(steps: &[&Step]) -> bool
     ensures { result ≡ has_clean (map (λ s. step_shown s.now) steps.now) }
 {
@@ -154,6 +163,7 @@ fn has_clean(steps: &[&Step]) -> bool
     false
 }
 
+/// Returns the greatest index of a compaction among the steps, 0 without one.
 fn greatest_compaction(steps: &[&Step]) -> u64
     ensures { result ≡ greatest_compaction (map (λ s. step_shown s.now) steps.now) }
 {
@@ -164,6 +174,7 @@ fn greatest_compaction(steps: &[&Step]) -> u64
     greatest
 }
 
+/// Returns the index of a compaction, 0 for any other step.
 fn compaction_of(step: &Step) -> u64
     ensures { (steps : _) → max result (greatest_compaction steps)
         ≡ greatest_compaction (step_shown step.now ∷ steps) }
@@ -174,6 +185,7 @@ fn compaction_of(step: &Step) -> u64
     }
 }
 
+/// Returns the least index from which one of the steps takes older entries away, if one does.
 fn least_cut(steps: &[&Step]) -> Option<u64>
     ensures { result ≡ least_cut (map (λ s. step_shown s.now) steps.now) }
 {
@@ -205,6 +217,7 @@ pub(crate) fn lesser(a: Option<u64>, b: Option<u64>) -> Option<u64>
     }
 }
 
+/// Returns the key values whose keys no step deletes.
 fn without_deleted(mut keys: Keys, steps: &[&Step]) -> Keys
     requires { has_clean (map (λ s. step_shown s.now) steps.now) ≡ false }
     ensures { keys_shown result
@@ -216,6 +229,7 @@ fn without_deleted(mut keys: Keys, steps: &[&Step]) -> Keys
     keys
 }
 
+/// Returns the key values but for the key that a step deletes, if it deletes one.
 fn without_deleted_by(keys: Keys, step: &Step) -> Keys
     ensures { (steps : _) → has_clean (step_shown step.now ∷ steps) ≡ false
         → without (deleted_of finset.empty steps) (keys_shown result)
@@ -227,6 +241,11 @@ fn without_deleted_by(keys: Keys, step: &Step) -> Keys
     }
 }
 
+/// Puts newer key values over these.
+///
+/// # Errors
+///
+/// Where there is no memory for them.
 fn with_pairs(mut keys: Keys, newer: Keys) -> AllocResult<Keys>
     ensures { IfOk result (λ all. keys_shown all ≡ pairs_over (keys_shown newer) (keys_shown keys)) }
 {

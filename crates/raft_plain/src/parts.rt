@@ -26,6 +26,7 @@ pub(crate) fn check_parts(alloc: Global, queue: LogQueue, parts: &[FilePart]) ->
     Err(Error::invalid_argument(alloc, "a part of another queue"))
 }
 
+/// Tests whether all parts are of files of a queue.
 fn are_of(queue: LogQueue, parts: &[FilePart]) -> bool
     ensures { IsTrue result ↔ ArePartsOf queue parts.now }
 {
@@ -52,7 +53,11 @@ pub fn read_parts(alloc: Global, queue: LogQueue, parts: &[FilePart]) -> Result<
     Ok(reading)
 }
 
-/// Reads the batches of a part.
+/// Reads the batches of a part, behind those that were read.
+///
+/// # Errors
+///
+/// Those of [`read_parts`].
 fn with_part(
     alloc: Global,
     queue: LogQueue,
@@ -84,6 +89,8 @@ fn with_part(
     }
 }
 
+/// Puts queue, file and offset of a batch in front of the text of a `Corruption`; other errors stay
+/// as they are. It is `Memory` where the text finds none.
 fn with_place(alloc: Global, error: Error, id: FileId, offset: u64) -> Error
     ensures placed { IsPlaced id offset result }
     ensures memory { result ≢ Error.Memory → error ≢ Error.Memory }

@@ -92,6 +92,7 @@ fn cleaned_regions(alloc: Global, queue: LogQueue, steps: &[RegionStep]) -> Allo
     Ok(cleaned)
 }
 
+/// Returns the regions and the cleaned ones, with the counts of live records.
 fn with_counts(regions: Regions, cleaned: Vec<u64>) -> Recovered
     ensures regions { result.regions ≡ regions }
     ensures cleaned { result.cleaned ≡ cleaned }

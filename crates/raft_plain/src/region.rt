@@ -35,6 +35,10 @@ pub struct Region {
 pub type Regions = BTreeMap<u64, Region>;
 
 /// Does a step on a region; one that is cleaned is absent then.
+///
+/// # Errors
+///
+/// `Corruption` where a run leaves a hole in the append queue, `Memory`.
 pub(crate) fn after_step(
     alloc: Global,
     queue: LogQueue,
@@ -105,6 +109,7 @@ fn with_run(alloc: Global, queue: LogQueue, entries: Entries, run: &Entries) -> 
     Ok(kept)
 }
 
+/// Tests whether a run from `start` on leaves a hole behind the entries.
 fn leaves_hole(entries: &[EntryIndex], start: u64) -> bool
     ensures { result ≡ leaves_hole entries.now start }
 {
@@ -138,6 +143,11 @@ fn below(mut entries: Entries, index: u64) -> Entries
     entries
 }
 
+/// Puts copies of a key and its value among the key values.
+///
+/// # Errors
+///
+/// Where there is no memory for them.
 fn with_pair(
     alloc: Global,
     mut keys: Keys,
@@ -154,6 +164,7 @@ fn with_pair(
     Ok(keys)
 }
 
+/// Returns the key values but for one key.
 pub(crate) fn without_key(mut keys: Keys, key: &Vec<u8>) -> Keys
     ensures { keys_shown result ≡ finite.remove (keys_shown keys) key.now.items }
 {
@@ -199,7 +210,7 @@ pub(crate) fn with_region(
     }
 }
 
-/// Takes a region out of others.
+/// Takes a region out of the others, if it is there.
 pub(crate) fn take_region(mut regions: Regions, id: u64) -> (Option<Region>, Regions)
     requires { IsOrdered nat_cmp regions }
     ensures ordered { IsOrdered nat_cmp result.1 }

@@ -33,6 +33,11 @@ pub fn print_plainly<W: Write>(alloc: Global, recovered: &Recovered, writer: &mu
     write_whole(writer, text.as_bytes())
 }
 
+/// Returns the text that [`print_plainly`] prints.
+///
+/// # Errors
+///
+/// Where there is no memory for it.
 fn recovered_text(alloc: Global, recovered: &Recovered) -> AllocResult<String>
     ensures { IfOk result (λ text. IsTextOfTables (recovered_shown recovered.now) (string_bytes text)) }
 {
@@ -43,6 +48,11 @@ fn recovered_text(alloc: Global, recovered: &Recovered) -> AllocResult<String>
     Ok(text)
 }
 
+/// Appends the line of the live counts: that of the append queue, then that of the rewrite queue.
+///
+/// # Errors
+///
+/// Where there is no memory for it. Some of the text may then be appended.
 fn append_live(append: u128, rewrite: u128, text: &mut String) -> AllocResult<()>
     ensures { OnOk result (string_bytes text.new ≡ string_bytes text.old ++ (codes "live "
         ++ decimal append ++ codes " " ++ decimal rewrite ++ codes "\n")) }
@@ -50,6 +60,11 @@ fn append_live(append: u128, rewrite: u128, text: &mut String) -> AllocResult<()
     writeln!(text, "live {append} {rewrite}")
 }
 
+/// Appends a line for each region, by rising region.
+///
+/// # Errors
+///
+/// Where there is no memory for them. Some of the text may then be appended.
 fn append_regions(regions: &Regions, text: &mut String) -> AllocResult<()>
     ensures ordered { IsOrdered nat_cmp regions.now }
     ensures lines { OnOk result (string_bytes text.new
@@ -61,6 +76,11 @@ fn append_regions(regions: &Regions, text: &mut String) -> AllocResult<()>
     Ok(())
 }
 
+/// Appends the line of a region: its entries and keys, and its least file in each queue.
+///
+/// # Errors
+///
+/// Where there is no memory for it. Some of the text may then be appended.
 fn append_region(id: u64, region: &Region, text: &mut String) -> AllocResult<()>
     ensures { OnOk result (string_bytes text.new ≡ string_bytes text.old ++ table_line (table_shown id region.now)) }
 {
@@ -74,12 +94,18 @@ fn append_region(id: u64, region: &Region, text: &mut String) -> AllocResult<()>
     text.push('\n')
 }
 
+/// Returns how many keys have a value.
 fn key_count(keys: &Keys) -> usize
     ensures { result ≡ finite.len (keys_shown keys.now) }
 {
     keys.len()
 }
 
+/// Appends the range of the indexes, as `10..12` for 10 and 11, or `-` without entries.
+///
+/// # Errors
+///
+/// Where there is no memory for it. Some of the text may then be appended.
 fn append_range(entries: &[EntryIndex], text: &mut String) -> AllocResult<()>
     ensures { OnOk result (string_bytes text.new ≡ string_bytes text.old ++ range_text entries.now) }
 {
@@ -89,6 +115,11 @@ fn append_range(entries: &[EntryIndex], text: &mut String) -> AllocResult<()>
     }
 }
 
+/// Appends a file number, or `-` where there is none.
+///
+/// # Errors
+///
+/// Where there is no memory for it. Some of the text may then be appended.
 fn append_seq(seq: Option<FileSeq>, text: &mut String) -> AllocResult<()>
     ensures { OnOk result (string_bytes text.new ≡ string_bytes text.old ++ seq_text seq) }
 {
@@ -98,6 +129,11 @@ fn append_seq(seq: Option<FileSeq>, text: &mut String) -> AllocResult<()>
     }
 }
 
+/// Appends the line of the cleaned regions, in order, or with `-` where there are none.
+///
+/// # Errors
+///
+/// Where there is no memory for it. Some of the text may then be appended.
 fn append_cleaned(cleaned: &[u64], text: &mut String) -> AllocResult<()>
     ensures { OnOk result (string_bytes text.new ≡ string_bytes text.old ++ cleaned_line cleaned.now) }
 {
@@ -129,6 +165,7 @@ fn least_seq(queue: LogQueue, region: &Region) -> Option<FileSeq>
     lesser(entry_seq, least_key_seq(queue, &region.keys))
 }
 
+/// Returns the file number of the first entry that has its place in a queue, if one has.
 #[tactic(auto, unfolding(raft_table::specs::TableEntries::placed_in, raft_table::specs::TableEntries::is_placed_in))]
 fn first_entry_seq(queue: LogQueue, entries: &[EntryIndex]) -> Option<FileSeq>
     ensures { result ≡ first_entry_seq queue entries.now }
@@ -141,6 +178,7 @@ fn first_entry_seq(queue: LogQueue, entries: &[EntryIndex]) -> Option<FileSeq>
     None
 }
 
+/// Returns the lowest number of a queue's file in which a value is, if one is in any.
 fn least_key_seq(queue: LogQueue, keys: &Keys) -> Option<FileSeq>
     ensures { result ≡ least (seqs_in queue (keys_shown keys.now)) }
 {

@@ -45,7 +45,7 @@ pub fn replay_file<M: ReplayMachine, S: ReadFiles>(
     replay_through(machine, source, file, len, &mut piece)
 }
 
-/// Does what [`replay_file`] does, with the memory of a piece that is lent.
+/// Does what [`replay_file`] does, with its errors, in the memory of a piece that is lent.
 pub(crate) fn replay_through<M: ReplayMachine, S: ReadFiles>(
     machine: &mut M,
     source: &S,

@@ -133,6 +133,11 @@ fn bytes_of(files: &[FileSize]) -> u64 {
     bytes
 }
 
+/// Replays the files one after another into one machine, which it returns.
+///
+/// # Errors
+///
+/// The factory's own, those of [`replay_file`](crate::replay_file), and `Memory`.
 fn replay_in_turn<M: ReplayMachine, F: Factory<M>, S: ReadFiles>(
     alloc: Global,
     factory: &F,

@@ -46,6 +46,11 @@ impl AtomicGroupStatus {
         Ok(Some((item.raft_group_id, status)))
     }
 
+    /// Returns the status that a byte stands for.
+    ///
+    /// # Errors
+    ///
+    /// `Corruption` for any other byte, and `Memory` for its text.
     fn from_u8(alloc: Global, byte: u8) -> Result<AtomicGroupStatus>
         ensures ok { IfOk result (λ status. byte ≡ status_byte status) }
         ensures fault { IfErr result (IsStatusFault byte) }
@@ -70,6 +75,8 @@ pub fn is_reserved(key: &[u8]) -> bool
     key == ATOMIC_GROUP_KEY.as_slice()
 }
 
+/// Returns the byte of a group marker: the value of a `Put` under the reserved key, if that is one
+/// byte long.
 fn marker_byte(kv: &KeyValue) -> Option<u8>
     ensures { result ≡ marker_byte (pair (pair_of kv.now)) }
 {
@@ -168,6 +175,11 @@ impl AtomicGroupBuilder {
         self.add_marker(AtomicGroupStatus::End, log_batch)
     }
 
+    /// Adds a group marker of this status to an open batch.
+    ///
+    /// # Errors
+    ///
+    /// `Memory`. Builder and batch are then as they were.
     fn add_marker(&mut self, status: AtomicGroupStatus, log_batch: &mut LogBatch) -> Result<()>
         requires { log_batch.old.stage ≡ is_open }
         ensures ok { OnOk result (log_batch.new

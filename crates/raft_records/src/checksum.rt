@@ -11,7 +11,12 @@ use std::alloc::Global;
 /// How many bytes a checksum takes.
 pub(crate) const LOG_BATCH_CHECKSUM_LEN: usize = 4;
 
-/// Returns what stands before the checksum at the end of `bytes`.
+/// Tests the checksum at the end of `bytes`, signed so, and returns what stands before it.
+///
+/// # Errors
+///
+/// `Corruption` where the bytes are four or fewer or the checksum is another; `Memory` for its
+/// text.
 #[tactic(auto, using(crate::proofs::SealLemmas::not_sealed, crate::proofs::SealLemmas::sealed_by, crate::proofs::SealLemmas::checksum_fault))]
 pub(crate) fn verify_checksum(alloc: Global, bytes: &[u8], signature: Option<u32>) -> Result<&[u8]>
     ensures ok { IfOk result (λ content. HasSeal signature bytes.now content.now) }
@@ -35,6 +40,7 @@ pub(crate) fn verify_checksum(alloc: Global, bytes: &[u8], signature: Option<u32
     Ok(content)
 }
 
+/// Returns the number that the four bytes of a checksum spell, the lowest first.
 #[tactic(auto, using(crate::proofs::SealLemmas::all_four))]
 fn checksum_of(seal: &[u8]) -> u32
     requires { length seal.now ≡ LOG_BATCH_CHECKSUM_LEN }

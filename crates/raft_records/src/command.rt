@@ -27,6 +27,7 @@ pub enum Command {
 }
 
 impl Command {
+    /// Returns the approximate length of the command's bytes: one, and eight for an index.
     pub(crate) fn approximate_size(&self) -> usize
         ensures { result ≡ command_size self.now }
     {
@@ -49,6 +50,11 @@ impl Command {
         Ok(self.write(buf)?)
     }
 
+    /// Appends the command's bytes.
+    ///
+    /// # Errors
+    ///
+    /// Where there is no memory for them. The vector is then as it was.
     pub(crate) fn write(&self, buf: &mut Vec<u8>) -> AllocResult<()>
         ensures ok { OnOk result (buf.new.items ≡ buf.old.items ++ command_bytes self.now) }
         ensures err { OnErr result (buf.new.items ≡ buf.old.items) }
@@ -77,6 +83,11 @@ impl Command {
         Ok(command)
     }
 
+    /// Reads a command from the front of `bytes`, and returns what follows it too.
+    ///
+    /// # Errors
+    ///
+    /// Those of [`Command::decode`].
     #[tactic(auto, using(crate::proofs::ItemLemmas::compact_read, crate::proofs::ItemLemmas::truncate_read))]
     pub(crate) fn parse(alloc: Global, bytes: &[u8]) -> Result<(Command, &[u8])>
         ensures ok { IfOk result (λ read. Reads IsCommand bytes.now read.1.now read.0) }
@@ -102,6 +113,11 @@ impl Command {
     }
 }
 
+/// Appends the byte of a kind of command, and its index.
+///
+/// # Errors
+///
+/// Where there is no memory for them. The vector is then as it was.
 fn append_indexed(buf: &mut Vec<u8>, kind: u8, index: u64) -> AllocResult<()>
     ensures ok { OnOk result (buf.new.items ≡ buf.old.items ++ kind ∷ varint index) }
     ensures err { OnErr result (buf.new.items ≡ buf.old.items) }

@@ -30,6 +30,7 @@ pub fn entries_block_in(part: &FilePart, place: FileBlockHandle) -> Result<&[u8]
     }
 }
 
+/// Returns the bytes of a part from the start of a place on, if the place lies in the part.
 fn bytes_from(part: &FilePart, place: FileBlockHandle) -> Option<&[u8]>
     ensures { MatchOption result (IsPlaceIn part.now place → ⊥)
         (λ bytes. IsPlaceIn part.now place

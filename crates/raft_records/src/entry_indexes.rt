@@ -12,6 +12,7 @@ use raft_base::{
 use raft_codec::codec::{self, BytesSlice};
 use std::alloc::Global;
 
+/// Tests whether each entry's bytes begin where those of the one before it end, all below 2^32.
 fn runs_on(entries: &[EntryIndex]) -> bool
     ensures { IsTrue result ↔ RunOn entries.now }
 {
@@ -46,6 +47,8 @@ impl EntryIndexes {
         Ok(<EntryIndexes as Clone>::clone(self)?)
     }
 
+    /// Returns the approximate length of the bytes of all entries, capped at `usize::MAX`: eight
+    /// for each of their numbers.
     pub(crate) fn approximate_size(&self) -> usize
         ensures { result ≡ at_most_usize (entries_size self.now.0.items) }
     {
@@ -54,6 +57,7 @@ impl EntryIndexes {
         tails.saturating_add(8 + first)
     }
 
+    /// Gives each entry this place and compression type.
     pub(crate) fn place(&mut self, handle: FileBlockHandle, compression_type: CompressionType)
         ensures { self.new.0.items ≡
             map (λ (e : EntryIndex). record e {
@@ -67,6 +71,7 @@ impl EntryIndexes {
         }
     }
 
+    /// Raises the offset of each entry by so many bytes.
     pub(crate) fn raise_offsets(&mut self, by: u32)
         requires { CanRaise by self.old.0.items }
         ensures { self.new.0.items ≡ map (raised_entry by) self.old.0.items }
@@ -76,6 +81,7 @@ impl EntryIndexes {
         }
     }
 
+    /// Tests whether the entries are consecutive, and their bytes run on.
     pub(crate) fn is_writable(&self) -> bool
         ensures { IsTrue result ↔ AreWritable self.now.0.items }
     {
@@ -103,6 +109,11 @@ impl EntryIndexes {
         append_whole!(buf, self.write(buf))
     }
 
+    /// Appends the bytes of writable entries.
+    ///
+    /// # Errors
+    ///
+    /// Where there is no memory for them. Some may then be appended.
     pub(crate) fn write(&self, buf: &mut Vec<u8>) -> AllocResult<()>
         ensures ok { OnOk result (buf.new.items ≡ buf.old.items ++ entries_bytes self.now.0.items) }
         ensures err { OnErr result (Keeps buf.old.items buf.new.items) }
@@ -145,6 +156,11 @@ impl EntryIndexes {
     }
 }
 
+/// Appends the first index and the tail offset of each entry.
+///
+/// # Errors
+///
+/// Where there is no memory for them. Some may then be appended.
 fn append_run(buf: &mut Vec<u8>, first: u64, entries: &[EntryIndex]) -> AllocResult<()>
     ensures ok { OnOk result (buf.new.items
         ≡ buf.old.items ++ (varint first ++ tails_bytes entries.now)) }
@@ -157,13 +173,16 @@ fn append_run(buf: &mut Vec<u8>, first: u64, entries: &[EntryIndex]) -> AllocRes
     Ok(())
 }
 
+/// Returns where the bytes of an entry end, counted from the start of the batch's entry bytes.
 pub(crate) fn tail_offset(entry: &EntryIndex) -> u64
     ensures { result ≡ tail_of entry.now }
 {
     u64::from(entry.entry_offset) + u64::from(entry.entry_len)
 }
 
-/// Returns nothing where the tail offset takes more than four bytes, or an index may be 2^64 - 1: `bounded` is false.
+/// Reads a tail offset, and returns what follows it too. Nothing is returned where no number stands
+/// there, it takes more than four bytes or is below `offset`, or where an index may be 2^64 - 1:
+/// `bounded` is false.
 #[inline(always)]
 #[tactic(auto, using(crate::proofs::EntryLemmas::tail_read, raft_codec::proofs::VarintLemmas::short_below, raft_codec::proofs::VarintLemmas::short_is_read))]
 pub(crate) fn short_tail(bytes: &[u8], offset: u32, bounded: bool) -> Option<(u32, &[u8])>
@@ -179,6 +198,13 @@ pub(crate) fn short_tail(bytes: &[u8], offset: u32, bounded: bool) -> Option<(u3
     }
 }
 
+/// Reads the tail offset of the entry `index`, whose bytes begin at `offset`, and returns what
+/// follows it too.
+///
+/// # Errors
+///
+/// `Codec` where the bytes end early or the number is malformed; `Corruption` where the index is
+/// 2^64 - 1, or the tail offset is below `offset` or above 2^32 - 1; `Memory` for its text.
 #[inline(never)]
 #[tactic(auto, using(crate::proofs::EntryLemmas::tail_read))]
 pub(crate) fn parse_tail(

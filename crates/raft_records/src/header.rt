@@ -18,7 +18,12 @@ pub(crate) const LOG_BATCH_HEADER_LEN: usize = 16;
 /// The least length in bytes that a batch may not have.
 const LENGTH_LIMIT: u64 = 1 << 56;
 
-/// Returns the offset of the item batch, the compression type, the length of the batch, and what follows the header.
+/// Returns the offset of the item batch, the compression type, the length of the batch, and what
+/// follows the header.
+///
+/// # Errors
+///
+/// `Corruption` where no header stands there, and `Memory` for its text.
 #[tactic(auto, using(crate::proofs::HeaderLemmas::header_read, crate::proofs::HeaderLemmas::too_short_for_header))]
 pub(crate) fn parse_header(
     alloc: Global,
@@ -48,6 +53,7 @@ pub(crate) fn parse_header(
     Ok(((offset as usize, compression_type, len as usize), rest))
 }
 
+/// Reads a number of eight bytes, the highest first, and returns what follows it too.
 fn parse_u64(bytes: &[u8]) -> (u64, &[u8])
     requires { 8 ≤ length bytes.now }
     ensures read { Reads (IsBig 8) bytes.now result.1.now result.0 }
@@ -60,6 +66,8 @@ fn parse_u64(bytes: &[u8]) -> (u64, &[u8])
     }
 }
 
+/// Writes a header over the first 16 bytes: of a batch of `len` bytes, uncompressed, whose item
+/// batch begins at `offset`.
 fn write_header(buf: &mut [u8], offset: usize, len: usize)
     requires room { 16 ≤ length buf.old }
     requires fits { len < 2 ^ 56 }
@@ -70,6 +78,11 @@ fn write_header(buf: &mut [u8], offset: usize, len: usize)
     BigEndian::write_u64(&mut buf[8..], offset as u64);
 }
 
+/// Makes room for a header in front, unless there is some.
+///
+/// # Errors
+///
+/// Where there is no memory for it. The vector may then be empty.
 pub(crate) fn reserve_header(buf: &mut Vec<u8>) -> AllocResult<()>
     ensures ok { OnOk result (16 ≤ length buf.new.items) }
     ensures same { drop 16 buf.new.items ≡ drop 16 buf.old.items }
@@ -81,6 +94,11 @@ pub(crate) fn reserve_header(buf: &mut Vec<u8>) -> AllocResult<()>
     Ok(())
 }
 
+/// Appends the checksum of the entry bytes behind the room for the header, if there are any.
+///
+/// # Errors
+///
+/// Where there is no memory for it. The vector is then as it was.
 fn close_entry_block(buf: &mut Vec<u8>) -> AllocResult<()>
     requires { 16 ≤ length buf.old.items }
     ensures ok { OnOk result
@@ -95,6 +113,8 @@ fn close_entry_block(buf: &mut Vec<u8>) -> AllocResult<()>
     buf.extend_from_slice(&seal)
 }
 
+/// Returns where the item batch begins in a batch with so many entry bytes: behind the header, and
+/// behind the checksum of the entry bytes, if there are any.
 pub(crate) fn offset_behind(entries_size: u32) -> usize
     ensures { (entry_bytes : List ℕ) → length entry_bytes ≡ entries_size →
         result ≡ item_offset entry_bytes }
@@ -106,7 +126,13 @@ pub(crate) fn offset_behind(entries_size: u32) -> usize
     }
 }
 
-/// Returns the entry bytes of the entry block of `len` bytes in front of `bytes`, whose checksum it tests.
+/// Returns the entry bytes of the entry block of `len` bytes at the front of `bytes`, whose
+/// checksum it tests; none where `len` is 0.
+///
+/// # Errors
+///
+/// `Corruption` where there are fewer than `len` bytes, `len` is from 1 to 4, or the checksum is
+/// another; `Memory` for its text.
 pub fn lent_entry_block(alloc: Global, bytes: &[u8], len: usize) -> Result<&[u8]>
     ensures ok { IfOk result (λ entries. IsEntryBlockOf len bytes.now entries.now) }
     ensures refused { OnErr result ((entries : List ℕ) → IsEntryBlockOf len bytes.now entries → ⊥) }
@@ -125,6 +151,11 @@ pub fn lent_entry_block(alloc: Global, bytes: &[u8], len: usize) -> Result<&[u8]
 }
 
 /// Writes the bytes of a batch around the entry bytes that follow the header's sixteen.
+///
+/// # Errors
+///
+/// `Full` where they would be 2^56 or more, `Memory`. What stood there stands then, perhaps with
+/// some bytes behind it.
 #[tactic(auto, using(crate::proofs::BufferLemmas::closed_keeps, crate::proofs::BufferLemmas::behind_keeps))]
 pub(crate) fn encode_behind(buf: &mut Vec<u8>, item_batch: &mut LogItemBatch) -> Result<()>
     requires room { 16 ≤ length buf.old.items }
@@ -148,6 +179,7 @@ pub(crate) fn encode_behind(buf: &mut Vec<u8>, item_batch: &mut LogItemBatch) ->
     Ok(())
 }
 
+/// Signs the bytes of a batch for a file. A batch without items has none.
 pub(crate) fn seal(item_batch: &LogItemBatch, buf: &mut Vec<u8>, context: &LogFileContext)
     requires { IsHeld encoded item_batch.now (entry_bytes_in item_batch.now buf.old.items)
         buf.old.items }
@@ -162,6 +194,7 @@ pub(crate) fn seal(item_batch: &LogItemBatch, buf: &mut Vec<u8>, context: &LogFi
     seal_behind(item_batch, buf.as_mut_slice(), offset, context);
 }
 
+/// Signs the item batch that begins at `offset` for a file.
 fn seal_behind(item_batch: &LogItemBatch, buf: &mut [u8], offset: usize, context: &LogFileContext)
     requires within { offset ≤ length buf.old }
     requires encoded { IsEncoded item_batch.now (drop offset buf.old) }

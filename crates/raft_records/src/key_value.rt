@@ -81,6 +81,8 @@ impl KeyValue {
         Ok(<KeyValue as Clone>::clone(self)?)
     }
 
+    /// Returns the approximate length of the change's bytes, capped at `usize::MAX`: key and value,
+    /// and 17.
     pub(crate) fn approximate_size(&self) -> usize
         ensures { result ≡ at_most_usize (pair_size (pair_of self.now)) }
     {
@@ -92,6 +94,7 @@ impl KeyValue {
         key.saturating_add(value).saturating_add(1 + 8 + 8)
     }
 
+    /// Tests whether the change isn't a `Put` without a value.
     pub(crate) fn is_writable(&self) -> bool
         ensures { IsTrue result ↔ IsWritablePair (pair_of self.now) }
     {
@@ -118,6 +121,11 @@ impl KeyValue {
         append_whole!(buf, self.write(buf))
     }
 
+    /// Appends the bytes of a writable change.
+    ///
+    /// # Errors
+    ///
+    /// Where there is no memory for them. Some may then be appended.
     pub(crate) fn write(&self, buf: &mut Vec<u8>) -> AllocResult<()>
         ensures ok { OnOk result (buf.new.items ≡ buf.old.items ++ pair_bytes (pair_of self.now)) }
         ensures err { OnErr result (Keeps buf.old.items buf.new.items) }
@@ -150,6 +158,12 @@ impl KeyValue {
         Ok(kv)
     }
 
+    /// Returns a change with a key and a value of its own: a `Put`, or a `Del` where there is no
+    /// value.
+    ///
+    /// # Errors
+    ///
+    /// `Memory`.
     #[inline(always)]
     pub(crate) fn copied(
         alloc: Global,
@@ -173,7 +187,12 @@ impl KeyValue {
     }
 }
 
-/// Returns the key of the change in front of `bytes`, its value if it is a put, and what follows it.
+/// Returns the key of the change at the front of `bytes`, its value if it is a put, and what
+/// follows it.
+///
+/// # Errors
+///
+/// Those of [`KeyValue::decode`].
 #[tactic(auto, using(crate::proofs::ItemLemmas::put_read, crate::proofs::ItemLemmas::del_read))]
 pub(crate) fn parse_pair(alloc: Global, bytes: &[u8]) -> Result<(&[u8], Option<&[u8]>, &[u8])>
     ensures ok { IfOk result (λ read. Reads IsKeyValue bytes.now read.2.now
@@ -197,6 +216,11 @@ pub(crate) fn parse_pair(alloc: Global, bytes: &[u8]) -> Result<(&[u8], Option<&
     }
 }
 
+/// Appends the length of these bytes, and the bytes.
+///
+/// # Errors
+///
+/// Where there is no memory for them. Some may then be appended.
 fn append_byte_string(buf: &mut Vec<u8>, text: &[u8]) -> AllocResult<()>
     ensures ok { OnOk result (buf.new.items ≡ buf.old.items ++ byte_string text.now) }
     ensures err { OnErr result (Keeps buf.old.items buf.new.items) }
@@ -205,6 +229,12 @@ fn append_byte_string(buf: &mut Vec<u8>, text: &[u8]) -> AllocResult<()>
     buf.extend_from_slice(text)
 }
 
+/// Reads a length and as many bytes, which it returns with what follows them.
+///
+/// # Errors
+///
+/// `Codec` where the length ends early or is malformed; `Corruption` where fewer bytes are left,
+/// and `Memory` for its text.
 #[tactic(auto, using(crate::proofs::ItemLemmas::text_read))]
 fn parse_byte_string(alloc: Global, bytes: &[u8]) -> Result<(&[u8], &[u8])>
     ensures ok { IfOk result (λ read. Reads IsByteString bytes.now read.1.now read.0.now) }

@@ -43,6 +43,7 @@ enum BufState {
 impl BufState {
     ghost use Rattle.raft_records.specs.LogBatchModel.{stage_of};
 
+    /// Tests whether both are open, both encoded or both sealed, for whichever files.
     fn is_same_stage(self, other: BufState) -> bool
         ensures { IsTrue result ↔ (stage_number (stage_of self) ≡ stage_number (stage_of other)) }
     {
@@ -105,6 +106,7 @@ impl LogBatch {
         })
     }
 
+    /// Returns the allocator that the batch was made with.
     pub(crate) fn allocator(&self) -> Global {
         *self.buf.allocator()
     }
@@ -360,6 +362,11 @@ impl LogBatch {
         self.item_batch.put_message(region, key, message)
     }
 
+    /// Adds a value of a region's key to an open batch, under the key of the group markers too.
+    ///
+    /// # Errors
+    ///
+    /// `Memory`. The batch is then as it was.
     pub(crate) fn put_unchecked(&mut self, region: u64, key: Vec<u8>, value: Vec<u8>) -> Result<()>
         requires { self.old.stage ≡ is_open }
         ensures ok { OnOk result (self.new
@@ -405,6 +412,7 @@ impl LogBatch {
         Ok(<LogBatch as Clone>::clone(self)?)
     }
 
+    /// Returns the entry bytes, without their checksum.
     fn entry_bytes(&self) -> &[u8]
         ensures { result.now ≡ self.now.entry_bytes }
     {
@@ -417,6 +425,11 @@ impl LogBatch {
     }
 }
 
+/// Refuses the key of the group markers.
+///
+/// # Errors
+///
+/// `InvalidArgument`, or `Memory` for its text.
 fn refuse_reserved(key: &Vec<u8>) -> Result<()>
     ensures accepted { OnOk result (key.now.items ≢ reserved_key) }
     ensures fault { IfErr result (IsKeyRefusal key.now.items) }

@@ -85,6 +85,7 @@ impl LogItem {
         Ok(<LogItem as Clone>::clone(self)?)
     }
 
+    /// Returns the approximate length of the item's bytes, capped at `usize::MAX`.
     pub(crate) fn approximate_size(&self) -> usize
         ensures { result ≡ at_most_usize (item_size (item_of self.now)) }
     {
@@ -96,6 +97,7 @@ impl LogItem {
         content.saturating_add(8 + 1)
     }
 
+    /// Gives the entries this place and compression type, a key value the place's file.
     pub(crate) fn place(&mut self, handle: FileBlockHandle, compression_type: CompressionType)
         ensures { item_of self.new ≡ placed_item handle compression_type (item_of self.old) }
     {
@@ -106,6 +108,7 @@ impl LogItem {
         }
     }
 
+    /// Raises the offsets of the entries by so many bytes.
     pub(crate) fn raise_offsets(&mut self, by: u32)
         requires { CanRaiseContent by (content_of self.old.content) }
         ensures { item_of self.new ≡ raised_item by (item_of self.old) }
@@ -138,6 +141,8 @@ impl LogItem {
         }
     }
 
+    /// Tests whether the item can be written: entries are consecutive and their bytes run on, and a
+    /// `Put` has a value.
     fn is_writable(&self) -> bool
         ensures { IsTrue result ↔ IsWritable (item_of self.now) }
     {
@@ -169,6 +174,11 @@ impl LogItem {
         append_whole!(buf, self.write(buf))
     }
 
+    /// Appends the bytes of a writable item.
+    ///
+    /// # Errors
+    ///
+    /// Where there is no memory for them. Some may then be appended.
     pub(crate) fn write(&self, buf: &mut Vec<u8>) -> AllocResult<()>
         ensures ok { OnOk result (buf.new.items ≡ buf.old.items ++ item_bytes (item_of self.now)) }
         ensures err { OnErr result (Keeps buf.old.items buf.new.items) }
@@ -227,6 +237,11 @@ impl LogItemContent {
         Ok(<LogItemContent as Clone>::clone(self)?)
     }
 
+    /// Appends the type byte and the bytes of writable content.
+    ///
+    /// # Errors
+    ///
+    /// Where there is no memory for them. Some may then be appended.
     fn write(&self, buf: &mut Vec<u8>) -> AllocResult<()>
         ensures ok { OnOk result (buf.new.items
             ≡ buf.old.items ++ content_bytes (content_of self.now)) }
@@ -249,6 +264,11 @@ impl LogItemContent {
     }
 }
 
+/// Returns what was read as content with a key and a value of its own. A run has these entries.
+///
+/// # Errors
+///
+/// `Memory`.
 fn made_content(
     alloc: Global,
     content: ReadContent<'_>,

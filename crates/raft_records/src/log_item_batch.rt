@@ -176,6 +176,11 @@ impl LogItemBatch {
         Ok(self.add(LogItem::new_entry_indexes(region, entry_indexes), end)?)
     }
 
+    /// Adds entries of a region whose offsets are set already. `end` is where their bytes end.
+    ///
+    /// # Errors
+    ///
+    /// Where there is no memory for them. The batch is then as it was.
     pub(crate) fn add_laid_entries(
         &mut self,
         region: u64,
@@ -298,6 +303,7 @@ impl LogItemBatch {
         drained.into_items().into_iter()
     }
 
+    /// Gives all entries this place and compression type, all key values the place's file.
     pub(crate) fn place(&mut self, handle: FileBlockHandle, compression_type: CompressionType)
         ensures { self.new ≡ map (placed_item handle compression_type) self.old }
     {
@@ -379,6 +385,7 @@ impl LogItemBatch {
         Ok(batch)
     }
 
+    /// Keeps that the items were decoded in this file.
     #[inline(always)]
     pub(crate) fn with_file(mut self, file: FileId) -> LogItemBatch
         requires { AreDecodedIn file self }
@@ -388,6 +395,11 @@ impl LogItemBatch {
         self
     }
 
+    /// Adds an item, behind which the entries of all items have `entries_size` bytes together.
+    ///
+    /// # Errors
+    ///
+    /// Where there is no memory for it. The batch is then as it was.
     #[inline(always)]
     pub(crate) fn add(&mut self, item: LogItem, entries_size: u32) -> AllocResult<()>
         requires fits { FitsBehind (entry_bytes_of self.old) (content_of item.content) }
@@ -453,6 +465,11 @@ impl Clone for LogItemBatch {
     }
 }
 
+/// Appends the bytes of an item batch, zeros in the place of the checksum.
+///
+/// # Errors
+///
+/// Where there is no memory for them. Some may then be appended.
 fn write_items(buf: &mut Vec<u8>, items: &[LogItem]) -> AllocResult<()>
     ensures ok { OnOk result
         (buf.new.items
@@ -467,6 +484,7 @@ fn write_items(buf: &mut Vec<u8>, items: &[LogItem]) -> AllocResult<()>
     Ok(())
 }
 
+/// Gives all entries this place and compression type, all key values the place's file.
 fn place_items(items: &mut Vec<LogItem>, handle: FileBlockHandle, compression_type: CompressionType)
     ensures { map item_of items.new.items
         ≡ map (placed_item handle compression_type) (map item_of items.old.items) }
@@ -490,6 +508,7 @@ fn set_offsets(entries: &mut Vec<EntryIndex>, start: u32) -> u32
     offset
 }
 
+/// Raises the offsets of the entries of all items by so many bytes.
 fn raise_item_offsets(items: &mut Vec<LogItem>, by: u32)
     requires fit { FitTogether 0 (map item_of items.old.items) }
     requires room { by + entry_bytes_of (map item_of items.old.items) < 2 ^ 32 }

@@ -6,7 +6,8 @@ ghost use Rattle.raft_records.specs.Common.{varint};
 use raft_base::AllocResult;
 use raft_codec::codec;
 
-/// Does what `append_var_u64` does, without a call where a number takes at most two bytes, as most do.
+/// Appends a number in its shortest spelling, as `append_var_u64` does, without a call where it
+/// takes at most two bytes, as most do. On `Err` the vector is as it was.
 #[inline(always)]
 #[tactic(auto, using(raft_codec::proofs::VarintLemmas::two_septets))]
 pub(crate) fn append_number(buf: &mut Vec<u8>, number: u64) -> AllocResult<()>

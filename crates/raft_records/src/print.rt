@@ -74,7 +74,12 @@ pub fn write_whole<W: Write>(writer: &mut W, bytes: &[u8]) -> Result<()>
     }
 }
 
-/// Returns how many of the bytes were written: none where the write was interrupted.
+/// Writes what the writer takes at once, and returns how many of the bytes these are: none where
+/// the write was interrupted.
+///
+/// # Errors
+///
+/// `Io` where the writer fails or takes nothing.
 fn write_some<W: Write>(writer: &mut W, bytes: &[u8]) -> Result<usize>
     ensures bound { IfOk result (λ count. count ≤ length bytes.now) }
     ensures ok { IfOk result
@@ -90,6 +95,7 @@ fn write_some<W: Write>(writer: &mut W, bytes: &[u8]) -> Result<usize>
     }
 }
 
+/// Returns the error for a writer that takes no more bytes.
 fn unwritten() -> Error
     ensures { IsIoError result }
 {
@@ -124,6 +130,11 @@ pub fn batch_text(alloc: Global, bytes: &[u8], context: &LogFileContext) -> Resu
     Ok(text)
 }
 
+/// Appends a line for each item.
+///
+/// # Errors
+///
+/// Where there is no memory for them. Some of the text may then be appended.
 fn append_lines(alloc: Global, items: &[LogItem], text: &mut String) -> AllocResult<()>
     ensures { OnOk result (string_bytes text.new
         ≡ string_bytes text.old ++ flat_map line_of (map item_of items.now)) }
@@ -134,6 +145,11 @@ fn append_lines(alloc: Global, items: &[LogItem], text: &mut String) -> AllocRes
     Ok(())
 }
 
+/// Appends the line of an item: its region and its content.
+///
+/// # Errors
+///
+/// Where there is no memory for it. Some of the text may then be appended.
 fn append_line(alloc: Global, item: &LogItem, text: &mut String) -> AllocResult<()>
     ensures { OnOk result
         (string_bytes text.new ≡ string_bytes text.old ++ line_of (item_of item.now)) }
@@ -143,6 +159,11 @@ fn append_line(alloc: Global, item: &LogItem, text: &mut String) -> AllocResult<
     text.push('\n')
 }
 
+/// Appends what an item says, in words.
+///
+/// # Errors
+///
+/// Where there is no memory for it. Some of the text may then be appended.
 fn append_content(alloc: Global, content: &LogItemContent, text: &mut String) -> AllocResult<()>
     ensures { OnOk result
         (string_bytes text.new ≡ string_bytes text.old ++ content_text (content_of content.now)) }
@@ -156,6 +177,11 @@ fn append_content(alloc: Global, content: &LogItemContent, text: &mut String) ->
     }
 }
 
+/// Appends how many entries there are, the first index, and where the bytes of the last one end.
+///
+/// # Errors
+///
+/// Where there is no memory for it. Some of the text may then be appended.
 #[tactic(auto, using(crate::proofs::PrintLemmas::text_by_ends))]
 fn append_entries(entries: &[EntryIndex], text: &mut String) -> AllocResult<()>
     ensures { OnOk result (string_bytes text.new
@@ -170,6 +196,11 @@ fn append_entries(entries: &[EntryIndex], text: &mut String) -> AllocResult<()>
     write!(text, "entries {count} first {index} tail {tail}")
 }
 
+/// Appends a change of a key: `put` with key and value, or `del` with the key.
+///
+/// # Errors
+///
+/// Where there is no memory for it. Some of the text may then be appended.
 fn append_key_value(alloc: Global, kv: &KeyValue, text: &mut String) -> AllocResult<()>
     ensures { OnOk result (string_bytes text.new
         ≡ string_bytes text.old
@@ -192,6 +223,11 @@ fn append_key_value(alloc: Global, kv: &KeyValue, text: &mut String) -> AllocRes
     }
 }
 
+/// Appends bytes as hexadecimal digits, or `-` where there are none.
+///
+/// # Errors
+///
+/// Where there is no memory for them.
 fn append_bytes(alloc: Global, bytes: &[u8], text: &mut String) -> AllocResult<()>
     ensures { OnOk result (string_bytes text.new ≡ string_bytes text.old ++ bytes_text bytes.now) }
 {
@@ -202,6 +238,11 @@ fn append_bytes(alloc: Global, bytes: &[u8], text: &mut String) -> AllocResult<(
     text.push_str(digits.as_str())
 }
 
+/// Appends the last line: the number of items, and of the bytes that are left unread.
+///
+/// # Errors
+///
+/// Where there is no memory for it. Some of the text may then be appended.
 fn append_counts(items: usize, rest: usize, text: &mut String) -> AllocResult<()>
     ensures { OnOk result (string_bytes text.new
         ≡ string_bytes text.old ++ last_line items rest) }

@@ -127,6 +127,7 @@ impl<'a> ReadBatch<'a> {
         Ok(Some(at + len))
     }
 
+    /// Drops all items.
     fn clear(&mut self)
         ensures { self.new ≡ [] }
     {
@@ -134,7 +135,12 @@ impl<'a> ReadBatch<'a> {
         self.spans.clear();
     }
 
-    /// Reads the item batch that the whole slice is, and returns the bytes between its last item and the checksum.
+    /// Reads the item batch that the whole slice is, in place of what was held, and returns the
+    /// bytes between its last item and the checksum.
+    ///
+    /// # Errors
+    ///
+    /// Those of [`LogItemBatch::decode`]. No items are held then.
     pub(crate) fn read_item_batch(
         &mut self,
         bytes: &'a [u8],
@@ -202,6 +208,7 @@ impl<'a> ReadBatch<'a> {
     }
 }
 
+/// Returns where the bytes of these entries end; `start` where there are none.
 fn end_of_spans(spans: &[(u32, u32)], start: u32) -> u32
     requires { (first : ℕ) × (place : FileBlockHandle) × Tile start
         (entries_of_block first place spans.now) }
@@ -249,6 +256,12 @@ impl ReadItem<'_> {
     }
 }
 
+/// Returns what was read as content with a key and a value of its own. A run has these spans at
+/// this place.
+///
+/// # Errors
+///
+/// `Memory`.
 fn own_content(
     alloc: Global,
     place: FileBlockHandle,
@@ -276,6 +289,11 @@ fn own_content(
     }
 }
 
+/// Returns the entries from the index `first` on that have these spans at this place.
+///
+/// # Errors
+///
+/// `Memory`.
 fn entries_at(
     alloc: Global,
     first: u64,

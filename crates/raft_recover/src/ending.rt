@@ -27,6 +27,8 @@ pub(crate) struct Program {
 }
 
 impl Program {
+    /// Prints the hint at the words that are understood, and returns the status 2. Where it can't
+    /// be printed the status is the same.
     pub(crate) fn misused<E: Write>(&self, err: &mut E) -> u8
         ensures { result ≡ 2 }
     {
@@ -34,6 +36,8 @@ impl Program {
         Status::Misused as u8
     }
 
+    /// Prints the word of a refusal, and returns the status 1. Where it can't be printed the status
+    /// is the same.
     pub(crate) fn refused<E: Write>(&self, error: &Error, err: &mut E) -> u8
         ensures { result ≡ 1 }
     {
@@ -43,6 +47,7 @@ impl Program {
         Status::Refused as u8
     }
 
+    /// Prints why there are no words, and returns the status: 1 for want of memory, else 2.
     pub(crate) fn without_words<E: Write>(&self, error: &io::Error, err: &mut E) -> u8
         ensures memory { error_kind error.now ≡ ErrorKind.OutOfMemory → result ≡ 1 }
         ensures misused { error_kind error.now ≢ ErrorKind.OutOfMemory → result ≡ 2 }
@@ -54,7 +59,7 @@ impl Program {
     }
 }
 
-/// Returns the word of a refusal.
+/// Returns the word of a refusal, as `corruption`, which programs print.
 #[doc(hidden)]
 pub fn refusal(error: &Error) -> &'static str
     ensures { result.now ≡ refusal_word error.now }

@@ -85,6 +85,12 @@ pub fn run_without_words<E: Write>(error: &io::Error, err: &mut E) -> u8
     RAFTLOG.without_words(error, err)
 }
 
+/// Prints what is asked for. Files are read as a whole.
+///
+/// # Errors
+///
+/// Those of [`print_batch`], or of reading the files and [`recover_bytes`]. A prefix of the lines
+/// may then be printed.
 fn answer<S: Files + AllocGlobal + Threads + Sync, R: Read, W: Write>(
     rt: &S,
     request: Request<'_>,

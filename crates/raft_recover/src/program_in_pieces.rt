@@ -46,6 +46,12 @@ pub fn run_in_pieces<
     }
 }
 
+/// Prints what is asked for. Files are read in pieces, where they can be.
+///
+/// # Errors
+///
+/// Those of [`print_batch`], or of reading the files and recovering them. A prefix of the lines may
+/// then be printed.
 fn answer<S: SharedFiles + Files + AllocGlobal + Threads + Sync, R: Read, W: Write>(
     rt: &S,
     request: Request<'_>,
@@ -66,7 +72,13 @@ fn answer<S: SharedFiles + Files + AllocGlobal + Threads + Sync, R: Read, W: Wri
     }
 }
 
-/// Prints the tables of the files that words name. They are read as a whole where they can't be read in pieces.
+/// Prints the tables of the files that words name. They are read as a whole where they can't be
+/// read in pieces.
+///
+/// # Errors
+///
+/// Those of reading the files, of recovering and of printing them. A prefix of the lines may then
+/// be printed.
 fn print_tables<S: SharedFiles + Files + AllocGlobal + Threads + Sync, W: Write>(
     rt: &S,
     ask: &RecoverWords<'_>,

@@ -51,6 +51,7 @@ pub fn recovered_text(alloc: Global, accessor: &MemTableAccessor) -> Result<Stri
     Ok(text)
 }
 
+/// Sorts tables by rising region.
 fn sort_by_region(tables: &mut Vec<&MemTable>)
     ensures moved { IsPermutation tables.old.items tables.new.items }
     ensures rises { IsNonDecreasingBy (λ t. t.now.region_id) tables.new.items }
@@ -62,6 +63,11 @@ fn sort_by_region(tables: &mut Vec<&MemTable>)
     );
 }
 
+/// Appends a line for each table.
+///
+/// # Errors
+///
+/// Where there is no memory for them. Some of the text may then be appended.
 fn append_tables(tables: &[&MemTable], text: &mut String) -> AllocResult<()>
     ensures { OnOk result (string_bytes text.new
         ≡ string_bytes text.old ++ flat_map table_line (map (λ t. t.now) tables.now)) }
@@ -72,6 +78,11 @@ fn append_tables(tables: &[&MemTable], text: &mut String) -> AllocResult<()>
     Ok(())
 }
 
+/// Appends the line of a table: its region, entries and keys, and its least file in each queue.
+///
+/// # Errors
+///
+/// Where there is no memory for it. Some of the text may then be appended.
 fn append_table(table: &MemTable, text: &mut String) -> AllocResult<()>
     ensures { OnOk result (string_bytes text.new ≡ string_bytes text.old ++ table_line table.now) }
 {
@@ -84,6 +95,11 @@ fn append_table(table: &MemTable, text: &mut String) -> AllocResult<()>
     text.push('\n')
 }
 
+/// Appends the range of a table's indexes, as `10..12` for 10 and 11, or `-` without entries.
+///
+/// # Errors
+///
+/// Where there is no memory for it. Some of the text may then be appended.
 fn append_range(table: &MemTable, text: &mut String) -> AllocResult<()>
     ensures { OnOk result (string_bytes text.new ≡ string_bytes text.old ++ range_text
         table.now.entries) }
@@ -96,6 +112,11 @@ fn append_range(table: &MemTable, text: &mut String) -> AllocResult<()>
     write!(text, "{first}..{end}")
 }
 
+/// Appends a file number, or `-` where there is none.
+///
+/// # Errors
+///
+/// Where there is no memory for it. Some of the text may then be appended.
 fn append_seq(seq: Option<FileSeq>, text: &mut String) -> AllocResult<()>
     ensures { OnOk result (string_bytes text.new ≡ string_bytes text.old ++ seq_text seq) }
 {
@@ -105,6 +126,11 @@ fn append_seq(seq: Option<FileSeq>, text: &mut String) -> AllocResult<()>
     }
 }
 
+/// Appends the line of the cleaned regions, in order, or with `-` where there are none.
+///
+/// # Errors
+///
+/// Where there is no memory for it. Some of the text may then be appended.
 fn append_cleaned(regions: &[u64], text: &mut String) -> AllocResult<()>
     ensures { OnOk result (string_bytes text.new ≡ string_bytes text.old ++ cleaned_line
         regions.now) }
@@ -119,6 +145,11 @@ fn append_cleaned(regions: &[u64], text: &mut String) -> AllocResult<()>
     text.push('\n')
 }
 
+/// Appends the line of the live counts: that of the append queue, then that of the rewrite queue.
+///
+/// # Errors
+///
+/// Where there is no memory for it. Some of the text may then be appended.
 fn append_live(stats: &GlobalStats, text: &mut String) -> AllocResult<()>
     ensures { OnOk result (string_bytes text.new ≡ string_bytes text.old ++ live_line stats.now) }
 {

@@ -136,7 +136,11 @@ pub fn replay_both<R: Threads + Sync>(
     both_replayed(rt, alloc, rewrite, append, workers)
 }
 
-/// Reads both queues at once, by two workers or more.
+/// Reads both queues: at once by two workers or more, one after the other by one.
+///
+/// # Errors
+///
+/// Those of [`recover`] for either queue.
 fn both_replayed<R: Threads + Sync>(
     rt: &R,
     alloc: Global,
@@ -185,6 +189,11 @@ pub fn part_of_workers(workers: usize, first: usize, second: usize) -> usize
     (first / each).clamp(1, workers - 1)
 }
 
+/// Returns the context of a queue's segments, which workers read as shares of about one length.
+///
+/// # Errors
+///
+/// Those of [`recover`].
 fn replayed<R: Threads + Sync>(
     rt: &R,
     alloc: Global,
@@ -222,6 +231,11 @@ fn replayed_as<R: Threads + Sync>(
     }
 }
 
+/// Returns the context of a queue's segments, read one after another on the caller's thread.
+///
+/// # Errors
+///
+/// Those of [`replay_segment`](raft_replay::replay_segment) at the first batch that is refused.
 fn replayed_in_turn(alloc: Global, segments: &[Segment]) -> Result<MemTableRecoverContext>
     ensures { IsReplayedOrStopped segments.entry.now result }
 {

@@ -50,6 +50,7 @@ impl<'a> Request<'a> {
     }
 }
 
+/// Returns the file whose item batch the words ask to print; `None` where they don't.
 fn batch_request(words: &[String]) -> Option<LogFileContext>
     ensures asked { IfSome result (AsksBatch (map string_bytes words.now)) }
     ensures refused { IfNone result
@@ -64,6 +65,8 @@ fn batch_request(words: &[String]) -> Option<LogFileContext>
     context_named(queue.as_str(), seq.as_str(), version.as_str())
 }
 
+/// Returns the file that the words of queue, number and version name; `None` where one isn't
+/// understood.
 fn context_named(queue: &str, seq: &str, version: &str) -> Option<LogFileContext>
     ensures named { IfSome result (NamesContext queue.now seq.now version.now) }
     ensures refused { IfNone result
@@ -75,6 +78,11 @@ fn context_named(queue: &str, seq: &str, version: &str) -> Option<LogFileContext
     Some(LogFileContext::new(FileId::new(queue, seq), version))
 }
 
+/// Returns the recovery that the words ask for; `None` where they don't.
+///
+/// # Errors
+///
+/// `Memory`, and only where they ask for one.
 fn recovery_request<'a>(alloc: Global, words: &'a [String]) -> Result<Option<RecoverWords<'a>>>
     ensures asked { IfOk result (λ r. IfSome r (λ recovery.
         AsksRecovery (map string_bytes words.now) (asks_for recovery))) }
@@ -109,6 +117,11 @@ fn recovery_request<'a>(alloc: Global, words: &'a [String]) -> Result<Option<Rec
     }))
 }
 
+/// Returns the numbers and paths of the files that words name; `None` where one names none.
+///
+/// # Errors
+///
+/// `Memory`, and only where each word names a file.
 pub(crate) fn paths_named(alloc: Global, words: &[String]) -> Result<Option<Vec<(FileSeq, &str)>>>
     ensures named { IfOk result (λ r. IfSome r (λ paths.
         ArePathsNamed (map string_bytes words.now) (map path_shown paths.items))) }
@@ -127,6 +140,11 @@ pub(crate) fn paths_named(alloc: Global, words: &[String]) -> Result<Option<Vec<
     Ok(Some(paths?))
 }
 
+/// Adds a path to those that there was memory for. After an `Err` the others are only looked at.
+///
+/// # Errors
+///
+/// `Memory`, the earlier one too.
 fn with_path<'a>(
     paths: Result<Vec<(FileSeq, &'a str)>>,
     path: (FileSeq, &'a str),
@@ -143,6 +161,7 @@ fn with_path<'a>(
     Ok(paths)
 }
 
+/// Returns the number and the path of a file named as `SEQ=PATH`.
 fn path_named(word: &str) -> Option<(FileSeq, &str)>
     ensures named { IfSome result (λ file. NamesPath word.now file.0 file.1.now) }
     ensures refused { IfNone result (IsPathWord word.now → ⊥) }
@@ -172,6 +191,7 @@ pub fn read_files<R: Files + AllocGlobal>(
     Ok(files)
 }
 
+/// Returns the queue that a word names.
 pub(crate) fn queue_named(word: &str) -> Option<LogQueue>
     ensures named { IfSome result (λ queue. word.now ≡ queue_word queue) }
     ensures refused { IfNone result ((queue : LogQueue) → word.now ≡ queue_word queue → ⊥) }
@@ -183,6 +203,7 @@ pub(crate) fn queue_named(word: &str) -> Option<LogQueue>
     }
 }
 
+/// Returns the format version that a word names.
 pub(crate) fn version_named(word: &str) -> Option<Version>
     ensures named { IfSome result (λ version. word.now ≡ version_word version) }
     ensures refused { IfNone result ((version : Version) → word.now ≡ version_word version → ⊥) }
@@ -194,6 +215,7 @@ pub(crate) fn version_named(word: &str) -> Option<Version>
     }
 }
 
+/// Returns the number that a word spells in decimal digits, without a sign.
 fn number_named(word: &str) -> Option<u64>
     ensures named { IfSome result (IsNumberWord word.now) }
     ensures refused { IfNone result ((n : ℕ) → IsNumberWord word.now n → ⊥) }

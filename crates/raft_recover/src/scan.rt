@@ -41,6 +41,8 @@ pub enum Finding {
 }
 
 impl Finding {
+    /// Tests whether a batch stands there that can be read, whose entry block, if it has one, is
+    /// whole.
     fn is_undamaged(&self) -> bool
         ensures { result ≡ is_undamaged self.now }
     {
@@ -50,6 +52,8 @@ impl Finding {
         }
     }
 
+    /// Returns where the scan goes on behind what it found at `at`: behind a batch, and with
+    /// `past_damage` also behind damage with a header that says its length. `None`: it ends.
     fn next_after(self, at: usize, past_damage: bool) -> Option<usize>
         requires { EndsWithin (2 ^ 64 - 1) at self }
         ensures { result ≡ next_after past_damage at self }
@@ -96,12 +100,18 @@ pub fn append_scan(
     Ok(undamaged)
 }
 
+/// Returns whether both are true, where `&&` would leave the second one out.
 pub(crate) fn both(first: bool, second: bool) -> bool
     ensures { result ≡ first && second }
 {
     first && second
 }
 
+/// Finds what stands at a byte of a part, in front of its end.
+///
+/// # Errors
+///
+/// `Memory`.
 fn found_at(alloc: Global, part: &FilePart, at: usize) -> Result<Finding>
     requires { at < length part.now.bytes }
     ensures ok { IfOk result (IsFound part.now at) }
@@ -114,6 +124,7 @@ fn found_at(alloc: Global, part: &FilePart, at: usize) -> Result<Finding>
     }
 }
 
+/// Returns the finding of a batch that can be read at a byte of a part.
 fn batch_at(alloc: Global, part: &FilePart, at: usize, batch: &LogItemBatch, next: usize) -> Finding
     requires { IsBatchAt part.now at batch.now next }
     ensures { IsFound part.now at result }
@@ -129,6 +140,11 @@ fn batch_at(alloc: Global, part: &FilePart, at: usize, batch: &LogItemBatch, nex
     }
 }
 
+/// Returns the finding of a byte of a part at which no batch can be read, for this reason.
+///
+/// # Errors
+///
+/// `Memory`, where that is the reason.
 fn damage_found(alloc: Global, part: &FilePart, at: usize, reason: Error) -> Result<Finding>
     requires inside { at ≤ length part.now.bytes }
     requires none { reason ≢ Error.Memory
@@ -149,6 +165,8 @@ fn damage_found(alloc: Global, part: &FilePart, at: usize, reason: Error) -> Res
     }
 }
 
+/// Returns whether the batch at `at` has an entry block, and whether that is whole. The items begin
+/// `items_at` bytes behind.
 fn block_state(part: &FilePart, at: usize, items_at: usize) -> BlockState
     requires header { 16 ≤ items_at }
     requires inside { at + items_at ≤ length part.now.bytes }
@@ -168,6 +186,11 @@ fn block_state(part: &FilePart, at: usize, items_at: usize) -> BlockState
     }
 }
 
+/// Appends the line of what was found at a byte of a part.
+///
+/// # Errors
+///
+/// Where there is no memory for it. Some of the text may then be appended.
 fn append_finding(part: &FilePart, at: usize, found: &Finding, text: &mut String) -> AllocResult<()>
     requires { at ≤ length part.now.bytes }
     ensures { OnOk result
@@ -187,6 +210,11 @@ fn append_finding(part: &FilePart, at: usize, found: &Finding, text: &mut String
     }
 }
 
+/// Appends the line for the end of a part.
+///
+/// # Errors
+///
+/// Where there is no memory for it. Some of the text may then be appended.
 fn append_end(part: &FilePart, text: &mut String) -> AllocResult<()>
     ensures { OnOk result (string_bytes text.new ≡ string_bytes text.old ++ end_line part.now) }
 {
@@ -194,6 +222,11 @@ fn append_end(part: &FilePart, text: &mut String) -> AllocResult<()>
     text.push_str(" end\n")
 }
 
+/// Appends the queue, the number of the file and the offset in the file of a byte of a part.
+///
+/// # Errors
+///
+/// Where there is no memory for it. Some of the text may then be appended.
 fn append_place(part: &FilePart, at: usize, text: &mut String) -> AllocResult<()>
     requires { at ≤ length part.now.bytes }
     ensures { OnOk result
@@ -205,6 +238,7 @@ fn append_place(part: &FilePart, at: usize, text: &mut String) -> AllocResult<()
     write!(text, "{queue} file {} offset {offset}", id.seq)
 }
 
+/// Returns the word for the state of an entry block.
 fn block_word(block: BlockState) -> &'static str
     ensures { result.now ≡ block_word block }
 {
@@ -215,6 +249,7 @@ fn block_word(block: BlockState) -> &'static str
     }
 }
 
+/// Returns why no batch can be read, in words.
 fn reason_text(reason: &Error) -> &str
     ensures { result.now ≡ reason_text reason.now }
 {

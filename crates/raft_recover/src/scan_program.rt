@@ -72,6 +72,11 @@ pub fn scan_without_words<E: Write>(error: &io::Error, err: &mut E) -> u8
     SCAN.without_words(error, err)
 }
 
+/// Returns the scan that the words ask for; `None` where they ask for none.
+///
+/// # Errors
+///
+/// `Memory`, and only where they ask for one.
 fn scan_request<'a>(alloc: Global, words: &'a [String]) -> Result<Option<ScanWords<'a>>>
     ensures asked { IfOk result (λ r. IfSome r (λ scan.
         AsksScan (map string_bytes words.now) (scan_asked scan))) }
@@ -88,6 +93,12 @@ fn scan_request<'a>(alloc: Global, words: &'a [String]) -> Result<Option<ScanWor
     files_request(alloc, false, words)
 }
 
+/// Returns the scan of the files that words of queue, version and paths name; `None` where they
+/// name none.
+///
+/// # Errors
+///
+/// `Memory`, and only where they name some.
 fn files_request(alloc: Global, past: bool, words: &[String]) -> Result<Option<ScanWords<'_>>>
     ensures asked { IfOk result (λ r. IfSome r (λ scan. (scan.past_damage ≡ past)
         × NamesFiles (map string_bytes words.now) (scan_asked scan))) }
@@ -117,6 +128,12 @@ fn files_request(alloc: Global, past: bool, words: &[String]) -> Result<Option<S
     }))
 }
 
+/// Reads the files, and prints what scans of them find. Returns whether all can be read.
+///
+/// # Errors
+///
+/// `Io` where a file can't be read or the writer fails, `Memory`. A prefix of the lines may then be
+/// printed.
 fn print<S: Files + AllocGlobal, W: Write>(rt: &S, scan: ScanWords<'_>, out: &mut W) -> Result<bool>
     ensures done { (words : List (List ℕ)) → AsksScan words (scan_asked scan.entry)
         → IfOk result
@@ -132,6 +149,11 @@ fn print<S: Files + AllocGlobal, W: Write>(rt: &S, scan: ScanWords<'_>, out: &mu
     Ok(undamaged)
 }
 
+/// Appends what scans of the files find, one after another. Returns whether all can be read.
+///
+/// # Errors
+///
+/// `Memory`. Some lines may then be appended.
 fn append_scans(
     alloc: Global,
     scan: &ScanWords<'_>,

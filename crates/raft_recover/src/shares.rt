@@ -51,6 +51,12 @@ pub(crate) fn bytes_of(segments: &[Segment]) -> usize {
     bytes
 }
 
+/// Returns the parts of all segments, in order, those of the length of a share or more cut between
+/// batches.
+///
+/// # Errors
+///
+/// `Memory`.
 fn short_parts(alloc: Global, segments: &[Segment], share: usize) -> Result<Vec<FilePart>>
     requires { 0 < share }
     ensures cut { IfOk result (λ parts. AreDivided (parts_within segments.entry.now) parts.items) }
@@ -63,6 +69,11 @@ fn short_parts(alloc: Global, segments: &[Segment], share: usize) -> Result<Vec<
     Ok(parts)
 }
 
+/// Appends the parts of a segment, those of the length of a share or more cut between batches.
+///
+/// # Errors
+///
+/// `Memory`. Some parts may then be appended.
 fn append_short(alloc: Global, from: &Segment, share: usize, to: &mut Vec<FilePart>) -> Result<()>
     requires { 0 < share }
     ensures cut { (these : List Part) → AreDivided these to.old.items
@@ -77,6 +88,10 @@ fn append_short(alloc: Global, from: &Segment, share: usize, to: &mut Vec<FilePa
 }
 
 /// Puts each part into the share in which its middle lies.
+///
+/// # Errors
+///
+/// `Memory`.
 fn shares_of(parts: Vec<FilePart>, share: usize, count: usize) -> Result<Vec<Segment>>
     requires { (0 < share) × (0 < count) }
     ensures same { IfOk result (λ shares. parts_within shares.items ≡ parts.items) }
@@ -100,6 +115,12 @@ fn shares_of(parts: Vec<FilePart>, share: usize, count: usize) -> Result<Vec<Seg
     Ok(shares)
 }
 
+/// Ends the last share where `ends` says so, unless it is empty or is the last of `count`: it is
+/// moved to the others, and a new one begins.
+///
+/// # Errors
+///
+/// `Memory`. The share is then lost.
 fn end_share(shares: &mut Vec<Segment>, last: &mut Segment, ends: bool, count: usize) -> Result<()>
     ensures same { OnOk result (parts_within shares.new.items ++ last.new.items ≡ parts_within
         shares.old.items ++ last.old.items) }

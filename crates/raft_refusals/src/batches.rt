@@ -1,7 +1,7 @@
 //! Batches that are filled, put together, grouped, made into bytes and signed.
 
 use crate::calls::Call;
-use crate::found::{Found, is_refused, retried};
+use crate::found::{Found, call_twice, is_refused};
 use crate::steps::{Step, add, batch_of};
 use raft_records::{
     AtomicGroupBuilder, AtomicGroupStatus, Error, FileId, FileSeq, LogBatch, LogFileContext,
@@ -50,14 +50,14 @@ pub(crate) fn encode(
 /// Adds a step; where there is no memory the batch has to be as it was.
 fn add_again(found: &mut Found, batch: &mut LogBatch, step: Step) -> Result<()> {
     let before = batch.clone()?;
-    retried!(found; add(found.alloc, batch, step); *batch == before)
+    call_twice!(found; add(found.alloc, batch, step); *batch == before)
 }
 
 /// Makes and signs a batch's bytes; where there is no memory it has to be as it was.
 fn seal_again(found: &mut Found, batch: &mut LogBatch, file: &LogFileContext) -> Result<()> {
     let before = batch.clone()?;
     let size = batch.approximate_size();
-    let len = retried!(found; finish(batch); *batch == before)?;
+    let len = call_twice!(found; finish(batch); *batch == before)?;
     let alloc = found.alloc;
     found.line(format!(in alloc; "size {size} length {len}")?.as_str())?;
     if batch.is_open() {
@@ -67,6 +67,11 @@ fn seal_again(found: &mut Found, batch: &mut LogBatch, file: &LogFileContext) ->
     found.bytes(batch.encoded_bytes())
 }
 
+/// Makes the bytes of an open batch, and returns how many they are.
+///
+/// # Errors
+///
+/// `Failed` for a batch that isn't open; those of [`LogBatch::finish_populate`].
 fn finish(batch: &mut LogBatch) -> Result<usize> {
     if !batch.is_open() {
         return Err(Error::Failed);

@@ -91,7 +91,7 @@ pub(crate) fn make_all<R: Threads + Sync>(rt: &R, found: &mut Found, row: &str) 
     }
     for call in calls {
         if let Err(error) = make(rt, found, *call) {
-            found.refused(error)?;
+            found.add_refusal(error)?;
         }
     }
     Ok(())
@@ -119,7 +119,7 @@ fn make<R: Threads + Sync>(rt: &R, found: &mut Found, call: Call) -> Result<()> 
         Call::Overlay(rewritten, appended) => contexts::overlay(found, rewritten, appended),
         Call::CountPuts => contexts::count_puts(found),
         Call::Count(history) => contexts::count(found, history),
-        Call::Tickets => recoveries::tickets(found),
+        Call::Tickets => recoveries::draw_tickets(found),
         Call::CountPieces(segments, draws) => recoveries::count_pieces(found, segments, draws),
         Call::Recover(history, how) => recoveries::recover_history(rt, found, history, how),
         Call::PrintBatch(bytes) => recoveries::print_bytes(found, bytes),

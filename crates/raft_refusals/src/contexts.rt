@@ -10,7 +10,7 @@ use raft_recover::Segment;
 
 /// Adds what a history gives, with a context for each batch.
 pub(crate) fn merge(found: &mut Found, history: History) -> Result<()> {
-    let context = of_batches(found, history.queue, history.batches)?;
+    let context = merge_batches(found, history.queue, history.batches)?;
     print_context(found, context)
 }
 
@@ -21,33 +21,33 @@ fn print_context(found: &mut Found, context: MemTableRecoverContext) -> Result<(
 }
 
 /// Merges the contexts of batches.
-fn of_batches(
+fn merge_batches(
     found: &mut Found,
     queue: LogQueue,
     batches: &[Batch],
 ) -> Result<MemTableRecoverContext> {
     let segments = batch_segments(found.alloc, queue, batches)?;
-    merged(found, queue, segments.as_slice())
+    merge_segments(found, queue, segments.as_slice())
 }
 
 /// Merges the contexts of segments from the first on.
-fn merged(
+fn merge_segments(
     found: &mut Found,
     queue: LogQueue,
     segments: &[Segment],
 ) -> Result<MemTableRecoverContext> {
     let mut context = MemTableRecoverContext::new(found.alloc)?;
     for segment in segments {
-        let newer = read(found, segment)?;
+        let newer = read_segment(found, segment)?;
         let answer = context.merge(newer, queue);
-        failed(found, &mut context, &answer);
+        check_failed(found, &mut context, &answer);
         answer?;
     }
     Ok(context)
 }
 
 /// Returns a context of a segment.
-fn read(found: &mut Found, segment: &Segment) -> Result<MemTableRecoverContext> {
+fn read_segment(found: &mut Found, segment: &Segment) -> Result<MemTableRecoverContext> {
     let mut context = MemTableRecoverContext::new(found.alloc)?;
     for part in segment {
         replay(found, &mut context, part)?;
@@ -55,17 +55,22 @@ fn read(found: &mut Found, segment: &Segment) -> Result<MemTableRecoverContext> 
     Ok(context)
 }
 
+/// Replays the first batch of a part, and looks whether the context takes no more after a refusal.
+///
+/// # Errors
+///
+/// Those of [`next_batch`] and [`MemTableRecoverContext::replay`].
 fn replay(found: &mut Found, context: &mut MemTableRecoverContext, part: &FilePart) -> Result<()> {
     let Some((batch, _)) = next_batch(part, 0)? else {
         return Ok(());
     };
     let answer = context.replay(batch, part.id());
-    failed(found, context, &answer);
+    check_failed(found, context, &answer);
     answer
 }
 
 /// Tests that a context returns `Failed` after a refusal.
-fn failed(found: &mut Found, context: &mut MemTableRecoverContext, answer: &Result<()>) {
+fn check_failed(found: &mut Found, context: &mut MemTableRecoverContext, answer: &Result<()>) {
     if answer.is_ok() {
         return;
     }
@@ -77,10 +82,10 @@ fn failed(found: &mut Found, context: &mut MemTableRecoverContext, answer: &Resu
 
 /// Adds what the append queue's context over the rewrite queue's gives.
 pub(crate) fn overlay(found: &mut Found, rewritten: &[Batch], appended: &[Batch]) -> Result<()> {
-    let mut context = of_batches(found, LogQueue::Rewrite, rewritten)?;
-    let append = of_batches(found, LogQueue::Append, appended)?;
+    let mut context = merge_batches(found, LogQueue::Rewrite, rewritten)?;
+    let append = merge_batches(found, LogQueue::Append, appended)?;
     let answer = context.merge_append_context(append);
-    failed(found, &mut context, &answer);
+    check_failed(found, &mut context, &answer);
     answer?;
     print_context(found, context)
 }
@@ -98,10 +103,11 @@ pub(crate) fn count_puts(found: &mut Found) -> Result<()> {
 
 /// Adds a line with what the context of a history holds.
 pub(crate) fn count(found: &mut Found, history: History) -> Result<()> {
-    let context = of_batches(found, history.queue, history.batches)?;
+    let context = merge_batches(found, history.queue, history.batches)?;
     print_kept(found, &context)
 }
 
+/// Adds a line with what a context holds.
 fn print_kept(found: &mut Found, context: &MemTableRecoverContext) -> Result<()> {
     let kept = context.kept()?;
     let alloc = found.alloc;

@@ -18,6 +18,7 @@ pub(crate) struct Found {
 }
 
 impl Found {
+    /// Makes one of a row that has found nothing yet.
     pub(crate) fn new(alloc: Global) -> Found {
         Found {
             alloc,
@@ -51,7 +52,7 @@ impl Found {
     }
 
     /// Adds the word of a refusal; want of memory is handed on.
-    pub(crate) fn refused(&mut self, error: Error) -> Result<()> {
+    pub(crate) fn add_refusal(&mut self, error: Error) -> Result<()> {
         if matches!(error, Error::Memory) {
             return Err(error);
         }
@@ -59,7 +60,7 @@ impl Found {
     }
 
     /// Hands on the result of a call that was made again.
-    pub(crate) fn again<T>(&mut self, answer: Result<T>) -> Result<T>
+    pub(crate) fn note_second<T>(&mut self, answer: Result<T>) -> Result<T>
         ensures { result ≡ answer }
     {
         if is_refused(&answer) {
@@ -70,19 +71,19 @@ impl Found {
 }
 
 /// Makes a call; where there is no memory, looks whether what has to stand stands, and makes it again.
-macro_rules! retried {
+macro_rules! call_twice {
     ($found:ident; $call:expr; $stands:expr) => {{
         let mut answer = $call;
         if crate::found::is_refused(&answer) {
             $found.look($stands);
             answer = $call;
-            answer = $found.again(answer);
+            answer = $found.note_second(answer);
         }
         answer
     }};
 }
 
-pub(crate) use retried;
+pub(crate) use call_twice;
 
 /// Tests whether a call found no memory.
 pub(crate) fn is_refused<T>(answer: &Result<T>) -> bool {
@@ -97,6 +98,7 @@ pub(crate) fn word<T>(answer: &Result<T>) -> &'static str {
     }
 }
 
+/// Returns the word of a refusal.
 fn refusal_word(error: &Error) -> &'static str {
     match error {
         Error::EntryCompacted => "compacted",

@@ -1,7 +1,7 @@
 //! Histories of both queues, as segments.
 
 use crate::calls::Call;
-use crate::steps::{Step, sealed};
+use crate::steps::{Step, sealed_batch};
 use AtomicGroupStatus::{Begin, End, Middle};
 use raft_records::{
     AtomicGroupStatus, Error, FileId, FilePart, FileSeq, LogQueue, Result, Version,
@@ -230,7 +230,7 @@ pub(crate) fn part_of(
     offset: u64,
     steps: &[Step],
 ) -> Result<FilePart> {
-    let batch = sealed(alloc, file, steps)?;
+    let batch = sealed_batch(alloc, file, steps)?;
     if !batch.is_sealed() {
         return Err(Error::Failed);
     }

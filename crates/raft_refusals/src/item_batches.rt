@@ -3,7 +3,7 @@
 ghost use Rattle.std.specs.Prelude.{◌≡◌};
 
 use crate::calls::Call;
-use crate::found::{Found, is_refused, retried};
+use crate::found::{Found, call_twice, is_refused};
 use crate::steps::message;
 use raft_records::{
     Command, CompressionType, EntryIndex, Error, FileBlockHandle, FileId, LogFileContext,
@@ -62,10 +62,11 @@ pub(crate) fn add_entries(found: &mut Found) -> Result<()> {
 /// Makes a change; where there is no memory the batch has to be as it was.
 fn change_again(found: &mut Found, batch: &mut LogItemBatch, change: Change) -> Result<()> {
     let before = batch.clone()?;
-    retried!(found; apply(found.alloc, batch, change);
+    call_twice!(found; apply(found.alloc, batch, change);
         *batch == before && batch.entries_size() == before.entries_size())
 }
 
+/// Makes a change of a batch.
 fn apply(alloc: Global, batch: &mut LogItemBatch, change: Change) -> Result<()> {
     match change {
         Change::Command(index) => batch.add_command(1, Command::Compact { index }),
@@ -92,6 +93,11 @@ fn entry(index: u64, entry_len: u32) -> EntryIndex
     }
 }
 
+/// Adds two entries of these lengths, the first of them at the index `first`.
+///
+/// # Errors
+///
+/// `Failed` where their bytes or indexes pass what a call may be asked; `Memory`.
 fn add_two(
     alloc: Global,
     batch: &mut LogItemBatch,
@@ -107,11 +113,14 @@ fn add_two(
     batch.add_entry_indexes(region, entries)
 }
 
+/// Adds a value of a key of region 1.
 fn put(alloc: Global, batch: &mut LogItemBatch, key: &[u8], value: &[u8]) -> Result<()> {
     let value = Vec::from_slice(alloc, value)?;
     batch.put(1, Vec::from_slice(alloc, key)?, value)
 }
 
+/// Moves two commands of another batch behind the batch's own items. A batch with entries stays as
+/// it is.
 fn merge(alloc: Global, batch: &mut LogItemBatch) -> Result<()> {
     let mut behind = LogItemBatch::default(alloc);
     behind.add_command(2, Command::Clean)?;
@@ -125,7 +134,7 @@ fn merge(alloc: Global, batch: &mut LogItemBatch) -> Result<()> {
 /// Writes the bytes of a batch after another byte; where there is no memory that stands alone.
 fn encode_again(found: &mut Found, batch: &mut LogItemBatch) -> Result<()> {
     let mut out = Vec::from_slice(found.alloc, b"!")?;
-    retried!(found; batch.encode(&mut out); out.as_slice() == [b'!'].as_slice())?;
+    call_twice!(found; batch.encode(&mut out); out.as_slice() == [b'!'].as_slice())?;
     found.bytes(out.as_slice())
 }
 

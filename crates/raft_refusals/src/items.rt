@@ -50,6 +50,7 @@ pub(crate) static ITEMS: [Call; 18] = [
     Call::Read(Form::Item, b"\x01\x02\x07"),
 ];
 
+/// Reads what stands at the front of the bytes in this form.
 fn decode(alloc: Global, form: Form, buf: &mut &[u8], size: &mut u32) -> Result<Content> {
     match form {
         Form::Command => Ok(Content::Command(Command::decode(alloc, buf)?)),
@@ -59,6 +60,7 @@ fn decode(alloc: Global, form: Form, buf: &mut &[u8], size: &mut u32) -> Result<
     }
 }
 
+/// Appends the bytes of what was read.
 fn encode(content: &Content, out: &mut Vec<u8>) -> Result<()> {
     match content {
         Content::Command(command) => command.encode(out),

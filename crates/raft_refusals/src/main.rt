@@ -61,6 +61,7 @@ const ROWS: [&str; 31] = [
     "prints",
 ];
 
+/// Prints what the rows find that the words name, or all without a word.
 fn main(rt: HostRuntime) -> io::Result<()> {
     let mut words = command_words(&rt);
     if words.is_err() {

@@ -157,12 +157,19 @@ impl Counted {
         Ok(counted)
     }
 
+    /// Makes a change of the table.
     fn change(&mut self, alloc: Global, change: Change) -> Result<()> {
         let change = change_of(alloc, change)?;
         self.table.change(change, &mut self.stats)?;
         Ok(())
     }
 
+    /// Merges a newer table of the same region into this one, as an appended one or as the newer
+    /// neighbor.
+    ///
+    /// # Errors
+    ///
+    /// `Failed` for a table of another region; those of the merge.
     fn merge(&mut self, newer: &mut MemTable, is_append: bool) -> Result<()> {
         if self.table.region_id() != newer.region_id() {
             return Err(Error::Failed);
@@ -212,6 +219,7 @@ pub(crate) fn merge(
     print_merged(found, word(&answer), &older, &newer)
 }
 
+/// Adds lines with what a merge returned, and with both tables then.
 fn print_merged(found: &mut Found, is: &str, older: &Counted, newer: &MemTable) -> Result<()> {
     let alloc = found.alloc;
     let (first, end, blocks, append, rewrite) = shape(&older.table);

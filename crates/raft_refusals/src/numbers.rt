@@ -1,6 +1,6 @@
 //! Numbers that are written to a vector.
 
-use crate::found::{Found, retried};
+use crate::found::{Found, call_twice};
 use raft_base::codec::{self, NumberEncoder};
 use raft_base::{Error, Result};
 use std::io::ErrorKind;
@@ -42,6 +42,7 @@ static NUMBERS: [Number; 17] = [
     Number::VarU64(300),
 ];
 
+/// Returns the numbers that are written.
 fn numbers() -> &'static [Number] {
     &NUMBERS
 }
@@ -58,7 +59,7 @@ pub(crate) fn encode(found: &mut Found) -> Result<()> {
 /// Writes a number; where there is no memory that is `Io`, and the vector has to be as it was.
 fn encode_again(found: &mut Found, bytes: &mut Vec<u8>, number: Number) -> Result<()> {
     let before = Vec::from_slice(found.alloc, bytes.as_slice())?;
-    retried!(found; write(bytes, number); bytes.as_slice() == before.as_slice())
+    call_twice!(found; write(bytes, number); bytes.as_slice() == before.as_slice())
 }
 
 /// Writes a number; want of memory is handed on as `Memory`.
@@ -71,6 +72,7 @@ fn write(bytes: &mut Vec<u8>, number: Number) -> Result<()> {
     }
 }
 
+/// Writes a number.
 fn encode_one(bytes: &mut Vec<u8>, number: Number) -> codec::Result<()> {
     match number {
         Number::U64(n) => bytes.encode_u64(n),

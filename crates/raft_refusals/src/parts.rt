@@ -41,6 +41,7 @@ fn halves(len: usize) -> (&'static [u8], &'static [u8]) {
     BYTES.split_at(len.min(BYTES.len()))
 }
 
+/// Returns the part that has the first `len` of the bytes.
 fn part(alloc: Global, version: Version, len: usize) -> Result<FilePart> {
     let (front, _) = halves(len);
     let bytes = Vec::from_slice(alloc, front)?;

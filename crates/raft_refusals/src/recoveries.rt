@@ -99,6 +99,7 @@ pub(crate) fn recover_history<R: Threads + Sync>(
     print(found, &tables)
 }
 
+/// Returns the tables of segments, recovered in this way.
 fn tables_of<R: Threads + Sync>(
     rt: &R,
     alloc: Global,
@@ -112,14 +113,14 @@ fn tables_of<R: Threads + Sync>(
         How::Workers(workers) => {
             replay_segments(rt, alloc, &factory, segments, queue, workers, &OpenGate)?
         }
-        How::Draws(draws) => scheduled(alloc, segments, queue, draws)?,
-        How::Pieces => of_pieces(rt, alloc, segments, queue)?,
+        How::Draws(draws) => replay_drawn(alloc, segments, queue, draws)?,
+        How::Pieces => merge_read_pieces(rt, alloc, segments, queue)?,
     };
     context.finish()
 }
 
 /// Merges segments that two workers draw so by halves.
-fn scheduled(
+fn replay_drawn(
     alloc: Global,
     segments: &[Segment],
     queue: LogQueue,
@@ -135,7 +136,7 @@ fn scheduled(
 }
 
 /// Returns a piece for each segment, merged by halves.
-fn of_pieces<R: Threads + Sync>(
+fn merge_read_pieces<R: Threads + Sync>(
     rt: &R,
     alloc: Global,
     segments: &[Segment],
@@ -145,11 +146,12 @@ fn of_pieces<R: Threads + Sync>(
         return Err(Error::Failed);
     }
     let plan = Plan::halves(alloc, segments.len())?;
-    let pieces = read(alloc, segments)?;
+    let pieces = read_segments(alloc, segments)?;
     merge_pieces(rt, pieces, &plan, queue)
 }
 
-fn read(alloc: Global, segments: &[Segment]) -> Result<Vec<MemTableRecoverContext>> {
+/// Returns a context for each segment.
+fn read_segments(alloc: Global, segments: &[Segment]) -> Result<Vec<MemTableRecoverContext>> {
     let mut pieces = Vec::new(alloc);
     for segment in segments {
         let mut piece = MemTableRecoverContext::new(alloc)?;
@@ -160,7 +162,7 @@ fn read(alloc: Global, segments: &[Segment]) -> Result<Vec<MemTableRecoverContex
 }
 
 /// Adds a line with how many of three numbers were drawn by two seats, which are closed again.
-pub(crate) fn tickets(found: &mut Found) -> Result<()> {
+pub(crate) fn draw_tickets(found: &mut Found) -> Result<()> {
     let alloc = found.alloc;
     let (tickets, seats) = Tickets::open(alloc, 3, 2)?;
     let drawn = tickets.close(seats);
@@ -175,7 +177,7 @@ pub(crate) fn count_pieces(found: &mut Found, segments: usize, draws: &[usize]) 
 }
 
 /// Tests whether a call found no memory, or its reader or writer.
-fn found_none(answer: &Result<()>) -> bool {
+fn lacked_memory(answer: &Result<()>) -> bool {
     match answer {
         Err(Error::Memory) => true,
         Err(Error::Io(error)) => error.kind() == ErrorKind::OutOfMemory,
@@ -187,7 +189,7 @@ fn found_none(answer: &Result<()>) -> bool {
 /// on as `Memory`.
 fn add_printed(found: &mut Found, answer: Result<()>, out: &[u8]) -> Result<()> {
     found.look(answer.is_ok() || out.is_empty());
-    if found_none(&answer) {
+    if lacked_memory(&answer) {
         return Err(Error::Memory);
     }
     answer?;

@@ -13,7 +13,8 @@ pub(crate) struct Seen {
     pub(crate) cleaned: u64,
 }
 
-pub(crate) fn see(tables: &MemTableAccessor) -> Seen {
+/// Shows tables as they are now.
+pub(crate) fn show_tables(tables: &MemTableAccessor) -> Seen {
     let stats = tables.stats();
     Seen {
         records: tables.fold(
@@ -34,30 +35,31 @@ pub(crate) fn see(tables: &MemTableAccessor) -> Seen {
 pub(crate) fn of_regions(regions: &[u64]) -> u64 {
     let mut all = regions.len() as u64;
     for region in regions {
-        all = with(all, *region);
+        all = combine(all, *region);
     }
     all
 }
 
 /// Returns a number that stands for others and one more.
-fn with(all: u64, number: u64) -> u64 {
+fn combine(all: u64, number: u64) -> u64 {
     (all ^ number)
         .wrapping_mul(0x9e37_79b9_7f4a_7c15)
         .rotate_left(29)
 }
 
+/// Returns a number that stands for others and an entry.
 fn with_entry(all: u64, entry: EntryIndex) -> u64 {
-    let mut all = with(all, entry.index);
+    let mut all = combine(all, entry.index);
     if let Some(handle) = entry.entries {
         let queue = match handle.id.queue {
             LogQueue::Append => 1,
             LogQueue::Rewrite => 2,
         };
-        all = with(with(all, queue), handle.id.seq);
-        all = with(with(all, handle.offset), handle.len as u64);
+        all = combine(combine(all, queue), handle.id.seq);
+        all = combine(combine(all, handle.offset), handle.len as u64);
     }
-    with(
-        with(all, u64::from(entry.entry_offset)),
+    combine(
+        combine(all, u64::from(entry.entry_offset)),
         u64::from(entry.entry_len),
     )
 }
@@ -66,21 +68,22 @@ fn with_entry(all: u64, entry: EntryIndex) -> u64 {
 /// none of these is 0.
 pub(crate) fn number(table: &MemTable) -> u64 {
     let group = match table.atomic_group() {
-        Some((start, end)) => with(with(1, start), end),
+        Some((start, end)) => combine(combine(1, start), end),
         None => 0,
     };
     let all = with_pairs(with_entries(group, table), table);
     if all == 0 {
         return 0;
     }
-    with(all, table.region_id())
+    combine(all, table.region_id())
 }
 
+/// Returns a number that stands for a group and the entries of a table.
 fn with_entries(group: u64, table: &MemTable) -> u64 {
     let (Some(first), Some(last)) = (table.first_index(), table.last_index()) else {
         return group;
     };
-    let mut all = with(group, table.rewrite_count() as u64);
+    let mut all = combine(group, table.rewrite_count() as u64);
     for index in first..last.saturating_add(1) {
         if let Some(entry) = table.get_entry(index) {
             all = with_entry(all, entry);
@@ -94,11 +97,11 @@ fn with_pairs(before: u64, table: &MemTable) -> u64 {
     if table.key_count() == 0 {
         return before;
     }
-    let mut all = with(before, table.min_file_seq(LogQueue::Append).unwrap_or(0));
-    all = with(all, table.min_file_seq(LogQueue::Rewrite).unwrap_or(0));
+    let mut all = combine(before, table.min_file_seq(LogQueue::Append).unwrap_or(0));
+    all = combine(all, table.min_file_seq(LogQueue::Rewrite).unwrap_or(0));
     let _ = table.scan(None, None, false, |key, value| {
         for byte in key.iter().chain(value) {
-            all = with(all, u64::from(*byte));
+            all = combine(all, u64::from(*byte));
         }
         true
     });

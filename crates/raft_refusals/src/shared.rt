@@ -1,8 +1,8 @@
 //! Calls of tables that threads share, and of one slot.
 
-use crate::found::{Found, retried};
+use crate::found::{Found, call_twice};
 use crate::seen::{number, of_regions};
-use crate::steps::{Step, written};
+use crate::steps::{Step, written_batch};
 use crate::tables::put;
 use crate::writes::{Call, THIRD, Write, print_regions, tables_of};
 use raft_memtable::{Error, FileId, FileSeq, LogQueue, MemTable, Result, slot_of};
@@ -35,6 +35,7 @@ static CALLS: [Call; 13] = [
     Call::Group(7, 49, 50),
 ];
 
+/// Returns the calls that are made.
 fn calls() -> &'static [Call] {
     &CALLS
 }
@@ -42,7 +43,8 @@ fn calls() -> &'static [Call] {
 /// All tables in one number, and the live counts.
 type SharedSeen = (u64, u128, u128);
 
-fn see<R: Wait>(rt: &R, shared: &SharedAccessor) -> SharedSeen {
+/// Shows all tables as they are now.
+fn show_shared<R: Wait>(rt: &R, shared: &SharedAccessor) -> SharedSeen {
     (
         shared.fold(
             rt,
@@ -54,6 +56,7 @@ fn see<R: Wait>(rt: &R, shared: &SharedAccessor) -> SharedSeen {
     )
 }
 
+/// Shares the tables that the first calls make.
 fn shared_tables(alloc: Global) -> Result<SharedAccessor> {
     SharedAccessor::from_core(alloc, tables_of(alloc, &FIRST)?)
 }
@@ -80,13 +83,14 @@ fn call_again<R: Wait>(
     shared: &SharedAccessor,
     call: Call,
 ) -> Result<()> {
-    let before = see(rt, shared);
-    retried!(found; call_at(rt, found.alloc, shared, call); see(rt, shared) == before)?;
+    let before = show_shared(rt, shared);
+    call_twice!(found; call_at(rt, found.alloc, shared, call); show_shared(rt, shared) == before)?;
     let alloc = found.alloc;
-    let (_, append, rewrite) = see(rt, shared);
+    let (_, append, rewrite) = show_shared(rt, shared);
     found.line(format!(in alloc; "live {append} {rewrite}")?.as_str())
 }
 
+/// Makes a call.
 fn call_at<R: Wait>(rt: &R, alloc: Global, shared: &SharedAccessor, call: Call) -> Result<()> {
     match call {
         Call::Write(how, seq, step) => write(rt, alloc, shared, how, seq, step),
@@ -110,6 +114,7 @@ fn call_at<R: Wait>(rt: &R, alloc: Global, shared: &SharedAccessor, call: Call) 
     }
 }
 
+/// Writes an item to the tables, as one of the file `seq`.
 fn write<R: Wait>(
     rt: &R,
     alloc: Global,
@@ -118,7 +123,7 @@ fn write<R: Wait>(
     seq: FileSeq,
     step: Step,
 ) -> Result<()> {
-    let mut batch = written(alloc, FileId::new(how.queue(), seq), step)?;
+    let mut batch = written_batch(alloc, FileId::new(how.queue(), seq), step)?;
     match how {
         Write::Rewrite(gate) => shared.apply_rewrite_writes(rt, batch.drain(), gate, seq),
         _ => shared.apply_append_writes(rt, batch.drain()),
@@ -140,10 +145,15 @@ fn cleaned_tables<R: Wait>(rt: &R, alloc: Global) -> Result<SharedAccessor> {
 pub(crate) fn take<R: Wait>(rt: &R, found: &mut Found) -> Result<()> {
     let shared = cleaned_tables(rt, found.alloc)?;
     let mut logs = LogBatch::default(found.alloc);
-    retried!(found; take_into(rt, &shared, &mut logs); true)?;
+    call_twice!(found; take_into(rt, &shared, &mut logs); true)?;
     print_regions(found, logs)
 }
 
+/// Moves the cleaned regions of all slots into a batch.
+///
+/// # Errors
+///
+/// `Failed` for a batch that isn't open, `Memory`.
 fn take_into<R: Wait>(rt: &R, shared: &SharedAccessor, logs: &mut LogBatch) -> Result<()> {
     if !logs.is_open() {
         return Err(Error::Failed);
@@ -155,8 +165,8 @@ fn take_into<R: Wait>(rt: &R, shared: &SharedAccessor, logs: &mut LogBatch) -> R
 /// memory.
 pub(crate) fn slot(found: &mut Found) -> Result<()> {
     let mut slot = Slot::new(found.alloc, slot_of(3));
-    list(&mut slot)?;
-    list(&mut slot)?;
+    list_region(&mut slot)?;
+    list_region(&mut slot)?;
     let mut logs = LogBatch::default(found.alloc);
     take_again(found, &mut slot, &mut logs)?;
     let alloc = found.alloc;
@@ -164,7 +174,12 @@ pub(crate) fn slot(found: &mut Found) -> Result<()> {
     print_regions(found, logs)
 }
 
-fn list(slot: &mut Slot) -> Result<()> {
+/// Lists region 3 as cleaned.
+///
+/// # Errors
+///
+/// `Failed` for a slot that isn't its own, `Memory`.
+fn list_region(slot: &mut Slot) -> Result<()> {
     if slot_of(3) != slot.number() {
         return Err(Error::Failed);
     }
@@ -172,13 +187,20 @@ fn list(slot: &mut Slot) -> Result<()> {
     Ok(())
 }
 
+/// Moves the cleaned regions of a slot into a batch; where there is no memory both have to be as
+/// they were.
 fn take_again(found: &mut Found, slot: &mut Slot, logs: &mut LogBatch) -> Result<()> {
     let before = logs.clone()?;
     let listed = of_regions(slot.cleaned_regions());
-    retried!(found; take_of(slot, logs);
+    call_twice!(found; take_of(slot, logs);
         *logs == before && of_regions(slot.cleaned_regions()) == listed)
 }
 
+/// Moves the cleaned regions of a slot into a batch.
+///
+/// # Errors
+///
+/// `Failed` for a batch that isn't open, `Memory`.
 fn take_of(slot: &mut Slot, logs: &mut LogBatch) -> Result<()> {
     if !logs.is_open() {
         return Err(Error::Failed);

@@ -58,6 +58,11 @@ pub(crate) fn message(alloc: Global, text: &[u8]) -> Result<Proposal> {
     Ok(Proposal { index: 0, text })
 }
 
+/// Adds a value of a key to an open batch.
+///
+/// # Errors
+///
+/// `Failed` for a batch that isn't open; those of [`LogBatch::put`].
 fn put(alloc: Global, batch: &mut LogBatch, region: u64, key: &[u8], value: &[u8]) -> Result<()> {
     if !batch.is_open() {
         return Err(Error::Failed);
@@ -66,6 +71,11 @@ fn put(alloc: Global, batch: &mut LogBatch, region: u64, key: &[u8], value: &[u8
     batch.put(region, Vec::from_slice(alloc, key)?, value)
 }
 
+/// Adds entries of one byte to an open batch, from the index `start` on and below `end`.
+///
+/// # Errors
+///
+/// `Failed` for a batch that isn't open; those of [`LogBatch::add_entries`].
 fn add_run(alloc: Global, batch: &mut LogBatch, region: u64, start: u64, end: u64) -> Result<()> {
     let mut proposals = Vec::new(alloc);
     for index in start..end {
@@ -78,6 +88,11 @@ fn add_run(alloc: Global, batch: &mut LogBatch, region: u64, start: u64, end: u6
     batch.add_entries::<Proposals>(region, proposals.as_slice())
 }
 
+/// Adds entries of these bytes to an open batch, from the index `first` on.
+///
+/// # Errors
+///
+/// `Failed` where the call may not be made with them; those of [`LogBatch::add_raw_entries`].
 fn add_raw(
     alloc: Global,
     batch: &mut LogBatch,
@@ -100,6 +115,11 @@ fn add_raw(
     batch.add_raw_entries(region, indexes, entries)
 }
 
+/// Adds a group marker of this status to an open batch.
+///
+/// # Errors
+///
+/// `Failed` for a batch that isn't open, `Memory`.
 fn add_marker(
     alloc: Global,
     batch: &mut LogBatch,
@@ -130,7 +150,7 @@ pub(crate) fn batch_of(alloc: Global, steps: &[Step]) -> Result<LogBatch> {
 }
 
 /// Returns a batch of these steps, made into bytes and signed for a file of version 1 as its first.
-pub(crate) fn sealed(alloc: Global, file: FileId, steps: &[Step]) -> Result<LogBatch> {
+pub(crate) fn sealed_batch(alloc: Global, file: FileId, steps: &[Step]) -> Result<LogBatch> {
     let mut batch = batch_of(alloc, steps)?;
     if !batch.is_open() {
         return Err(Error::Failed);
@@ -141,8 +161,8 @@ pub(crate) fn sealed(alloc: Global, file: FileId, steps: &[Step]) -> Result<LogB
 }
 
 /// Returns a batch of one step that was written to a file.
-pub(crate) fn written(alloc: Global, file: FileId, step: Step) -> Result<LogBatch> {
-    let mut batch = sealed(alloc, file, &[step])?;
+pub(crate) fn written_batch(alloc: Global, file: FileId, step: Step) -> Result<LogBatch> {
+    let mut batch = sealed_batch(alloc, file, &[step])?;
     if !batch.is_sealed() {
         return Err(Error::Failed);
     }

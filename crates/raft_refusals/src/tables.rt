@@ -1,8 +1,8 @@
 //! Changes of a table, and what is fetched of it.
 
 use crate::calls::Call;
-use crate::found::{Found, is_refused, retried, word};
-use crate::seen::see;
+use crate::found::{Found, call_twice, is_refused, word};
+use crate::seen::show_tables;
 use raft_memtable::{
     EntryIndex, Error, FileBlockHandle, FileId, FileSeq, LogQueue, MemTable, MemTableAccessor,
     Result, TableChange,
@@ -85,12 +85,13 @@ pub(crate) fn change_all(found: &mut Found, changes: &[Change]) -> Result<()> {
 
 /// Changes the table; where there is no memory all tables have to be as they were.
 fn change_again(found: &mut Found, tables: &mut MemTableAccessor, change: Change) -> Result<()> {
-    let before = see(tables);
-    let answer = retried!(found; apply(found.alloc, tables, change); see(tables) == before);
+    let before = show_tables(tables);
+    let answer =
+        call_twice!(found; apply(found.alloc, tables, change); show_tables(tables) == before);
     if is_refused(&answer) {
         return Err(Error::Memory);
     }
-    found.look(answer.is_ok() || see(tables) == before);
+    found.look(answer.is_ok() || show_tables(tables) == before);
     print_answer(found, &answer, tables)
 }
 
@@ -125,11 +126,13 @@ pub(crate) fn shape(table: &MemTable) -> (u64, u64, usize, FileSeq, FileSeq) {
     )
 }
 
+/// Makes a change of the region's table.
 fn apply(alloc: Global, tables: &mut MemTableAccessor, change: Change) -> Result<u64> {
     let change = change_of(alloc, change)?;
     tables.change(REGION, change)
 }
 
+/// Returns the change as tables take it.
 pub(crate) fn change_of(alloc: Global, change: Change) -> Result<TableChange> {
     Ok(match change {
         Change::Append(start, end, seq) => {
@@ -153,6 +156,7 @@ pub(crate) fn change_of(alloc: Global, change: Change) -> Result<TableChange> {
     })
 }
 
+/// Returns the change that puts a value of a key, in this file.
 pub(crate) fn put(alloc: Global, key: &[u8], file_id: FileId) -> Result<TableChange> {
     let value = Vec::from_slice(alloc, b"v")?;
     Ok(TableChange::Put {
@@ -201,6 +205,7 @@ static FETCHES: [Fetch; 9] = [
     Fetch::Rewritten,
 ];
 
+/// Returns what is fetched.
 fn fetches() -> &'static [Fetch] {
     &FETCHES
 }
@@ -217,6 +222,7 @@ static FETCHED: [Change; 8] = [
     Change::RewriteKey(b"j", Some(1), 51),
 ];
 
+/// Returns the table that is fetched of.
 fn fetched_table(alloc: Global) -> Result<MemTableAccessor> {
     let mut tables = MemTableAccessor::new(alloc)?;
     for change in &FETCHED {
@@ -231,6 +237,7 @@ static LENGTHS: [(&[u32], Fetch); 2] = [
     (&[0, 0, 5, 3], Fetch::To(10, 14, Some(0))),
 ];
 
+/// Returns lengths of entries, each with what is fetched of them.
 fn lengths() -> &'static [(&'static [u32], Fetch)] {
     &LENGTHS
 }

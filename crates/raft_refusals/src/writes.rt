@@ -1,9 +1,9 @@
 //! Items that are written to the tables of several regions, calls at one region, and tables that are merged.
 
 use crate::calls;
-use crate::found::{Found, is_refused, retried, word};
-use crate::seen::{are_counted, see};
-use crate::steps::{Step, written};
+use crate::found::{Found, call_twice, is_refused, word};
+use crate::seen::{are_counted, show_tables};
+use crate::steps::{Step, written_batch};
 use crate::tables::put;
 use raft_memtable::{
     Error, FileId, FileSeq, LogBatch, LogQueue, MemTable, MemTableAccessor, Result,
@@ -22,6 +22,7 @@ pub(crate) enum Write {
 }
 
 impl Write {
+    /// Returns the queue whose items are written in this way.
     pub(crate) fn queue(self) -> LogQueue {
         match self {
             Write::Append | Write::ReplayAppend => LogQueue::Append,
@@ -107,9 +108,9 @@ pub(crate) fn write_all(found: &mut Found, calls: &[Call]) -> Result<()> {
 /// Makes a call; where there is no memory tables, counts and list have to be as they were, but for a table without
 /// records where an item is written.
 fn call_again(found: &mut Found, tables: &mut MemTableAccessor, call: Call) -> Result<()> {
-    let before = see(tables);
-    retried!(found; call_at(found.alloc, tables, call); {
-        let mut after = see(tables);
+    let before = show_tables(tables);
+    call_twice!(found; call_at(found.alloc, tables, call); {
+        let mut after = show_tables(tables);
         if matches!(call, Call::Write(..)) {
             after.tables = before.tables;
         }
@@ -117,6 +118,7 @@ fn call_again(found: &mut Found, tables: &mut MemTableAccessor, call: Call) -> R
     })
 }
 
+/// Makes a call.
 fn call_at(alloc: Global, tables: &mut MemTableAccessor, call: Call) -> Result<()> {
     match call {
         Call::Write(how, seq, step) => write_one(alloc, tables, how, seq, step),
@@ -143,6 +145,7 @@ fn call_at(alloc: Global, tables: &mut MemTableAccessor, call: Call) -> Result<(
     }
 }
 
+/// Writes an item to the tables, as one of the file `seq`.
 fn write_one(
     alloc: Global,
     tables: &mut MemTableAccessor,
@@ -150,7 +153,7 @@ fn write_one(
     seq: FileSeq,
     step: Step,
 ) -> Result<()> {
-    let mut batch = written(alloc, FileId::new(how.queue(), seq), step)?;
+    let mut batch = written_batch(alloc, FileId::new(how.queue(), seq), step)?;
     let items = batch.drain();
     match how {
         Write::Append => tables.apply_append_writes(items),
@@ -178,8 +181,9 @@ pub(crate) fn tables_of(alloc: Global, calls: &[Call]) -> Result<MemTableAccesso
 /// Takes the cleaned regions as a batch; where there is no memory list and tables have to be as they were.
 pub(crate) fn take(found: &mut Found) -> Result<()> {
     let mut tables = tables_of(found.alloc, CLEANED)?;
-    let before = see(&tables);
-    let logs = retried!(found; tables.take_cleaned_region_logs(); see(&tables) == before)?;
+    let before = show_tables(&tables);
+    let logs =
+        call_twice!(found; tables.take_cleaned_region_logs(); show_tables(&tables) == before)?;
     print_regions(found, logs)?;
     print(found, &tables)
 }

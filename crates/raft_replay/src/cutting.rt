@@ -38,6 +38,8 @@ pub fn cut_part(alloc: Global, part: FilePart, count: usize) -> Result<Vec<FileP
     Ok(parts)
 }
 
+/// Returns where the first batch ends that reaches `least` bytes, if that is in front of the end of
+/// the part. `None` where the headers lead to no such place.
 fn batch_end(alloc: Global, part: &FilePart, least: usize) -> Option<usize>
     ensures inside { IfSome result (λ at. at < length part.now.bytes) }
     ensures met { IfSome result (BatchesMeet part.now) }

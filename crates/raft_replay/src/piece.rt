@@ -20,6 +20,12 @@ pub(crate) struct Piece<M> {
 impl<M: ReplayMachine> Piece<M> {
     ghost use Rattle.raft_replay.specs.Covers.{IsPieceOf, CoverOnce, covers, cover_count};
 
+    /// Returns the piece that the segment `number` goes to: the last one, taken out, where that
+    /// ends right in front of it, or else a new one.
+    ///
+    /// # Errors
+    ///
+    /// The factory's own, and `Memory`.
     pub(crate) fn at<F: Factory<M>>(
         alloc: Global,
         factory: &F,
@@ -47,6 +53,11 @@ impl<M: ReplayMachine> Piece<M> {
         Piece::begin(alloc, factory, number)
     }
 
+    /// Makes a piece without segments, which begins at the segment `from`.
+    ///
+    /// # Errors
+    ///
+    /// The factory's own, and `Memory`.
     fn begin<F: Factory<M>>(alloc: Global, factory: &F, from: usize) -> Result<Piece<M>>
         requires { (m : M) → F.gives factory.now m → M.stands_exactly m [] }
         ensures empty { IfOk result (λ p. (p.from ≡ from) × (p.count ≡ 0)) }
@@ -63,6 +74,11 @@ impl<M: ReplayMachine> Piece<M> {
         })
     }
 
+    /// Replays the segment behind the piece's last one.
+    ///
+    /// # Errors
+    ///
+    /// Those of [`replay_segment`]. The piece is then lost.
     pub(crate) fn with_next(mut self, segments: &[Segment]) -> Result<Piece<M>>
         requires inside { self.from + self.count < length segments.now }
         requires piece { IsPieceOf M.stands_exactly segments.now self }
@@ -76,6 +92,11 @@ impl<M: ReplayMachine> Piece<M> {
         Ok(self)
     }
 
+    /// Returns the machines of pieces in the order of their segments.
+    ///
+    /// # Errors
+    ///
+    /// `Memory`.
     pub(crate) fn line_up(alloc: Global, mut pieces: Vec<Piece<M>>) -> Result<Vec<M>>
         ensures ok { (segments : List (Vec Part Global))
             → All (IsPieceOf M.stands_exactly segments) pieces.items

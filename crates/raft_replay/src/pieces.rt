@@ -50,8 +50,12 @@ pub(crate) enum Waiting<'a, M> {
     Merged(M),
 }
 
-/// Merges the pieces one after another, on the caller's thread. What waits stands in a list on the heap, so that no
-/// stack is needed, however deep the plan is.
+/// Merges the pieces one after another, on the caller's thread. What waits stands in a list on the
+/// heap, so that no stack is needed, however deep the plan is.
+///
+/// # Errors
+///
+/// Whatever a merge of two neighbors returns, and `Memory`.
 pub(crate) fn merge_in_turn<M: ReplayMachine>(
     mut pieces: Vec<M>,
     plan: &Plan,
@@ -69,6 +73,11 @@ pub(crate) fn merge_in_turn<M: ReplayMachine>(
     Ok(merged)
 }
 
+/// Takes the oldest piece of a plan. The newer plans of the joins on the way to it wait.
+///
+/// # Errors
+///
+/// `Memory`.
 fn oldest_of<'a, M: ReplayMachine>(
     mut plan: &'a Plan,
     waiting: &mut Vec<Waiting<'a, M>>,
@@ -93,6 +102,12 @@ fn oldest_of<'a, M: ReplayMachine>(
     Ok(piece)
 }
 
+/// Goes on with what waits next behind what was merged: merges the two where the former was waiting
+/// for the latter, or else has the latter wait, and takes the oldest piece of a plan.
+///
+/// # Errors
+///
+/// Whatever a merge of two neighbors returns, and `Memory`.
 fn merge_next<'a, M: ReplayMachine>(
     next: Waiting<'a, M>,
     merged: M,
@@ -125,8 +140,8 @@ fn merge_next<'a, M: ReplayMachine>(
     }
 }
 
-/// Merges as `merge_in_turn` does, but through so many levels of the plan the pieces of both plans of a join
-/// are merged at once, where both have some to merge.
+/// Merges as `merge_in_turn` does, with its errors, but through `levels` levels of the plan the
+/// pieces of both plans of a join are merged at once, where both have some to merge.
 pub(crate) fn merge_at_once<M: ReplayMachine, R: Threads + Sync>(
     rt: &R,
     pieces: Vec<M>,
@@ -159,6 +174,7 @@ pub(crate) fn merge_at_once<M: ReplayMachine, R: Threads + Sync>(
     }
 }
 
+/// Does both, at the same time on two threads where that is asked for, and returns both answers.
 fn both<R: Threads, F: FnOnce() -> A + Send, G: FnOnce() -> B, A: Send, B>(
     rt: &R,
     at_once: bool,
@@ -176,6 +192,11 @@ fn both<R: Threads, F: FnOnce() -> A + Send, G: FnOnce() -> B, A: Send, B>(
     (one, second())
 }
 
+/// Divides pieces between the two plans of a join.
+///
+/// # Errors
+///
+/// `Memory`.
 #[tactic(auto, using(crate::proofs::MergeLemmas::leaves_positive))]
 fn divide<M: ReplayMachine>(mut all: Vec<M>, left: &Plan, right: &Plan) -> Result<(Vec<M>, Vec<M>)>
     requires { leaves left.now + leaves right.now ≡ vec_len all }
@@ -189,6 +210,11 @@ fn divide<M: ReplayMachine>(mut all: Vec<M>, left: &Plan, right: &Plan) -> Resul
     Ok((all, rest))
 }
 
+/// Merges what two branches returned, the older one first.
+///
+/// # Errors
+///
+/// The older branch's refusal, then the newer one's, then what a merge of two neighbors returns.
 fn merge_both<M: ReplayMachine>(older: Result<M>, newer: Result<M>, queue: LogQueue) -> Result<M>
     ensures { (xs ys zs : List M) → zs ≡ xs ++ ys
         → Merges M.stands_for M.stands_exactly queue xs older

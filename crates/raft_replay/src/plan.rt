@@ -83,6 +83,7 @@ impl Plan {
         }
     }
 
+    /// Drops a plan of one piece, which has nothing below it.
     fn let_one_go(self)
         requires { self ≡ Plan.One }
     {

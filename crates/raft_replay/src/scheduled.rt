@@ -65,18 +65,21 @@ pub fn piece_count(segments: usize, draws: &[usize]) -> usize
     pieces
 }
 
+/// Tests whether another worker draws the segment `n` than the one before it.
 fn switches(draws: &[usize], n: usize) -> bool
     ensures { result ≡ switches draws.now n }
 {
     n > 0 && drawer(draws, n) != drawer(draws, n - 1)
 }
 
+/// Returns which worker draws the segment `n`: worker 0 past the end of the list.
 fn drawer(draws: &[usize], n: usize) -> usize
     ensures { result ≡ slice_index draws.now n }
 {
     if n < draws.len() { draws[n] } else { 0 }
 }
 
+/// Returns why a schedule can't be followed, `None` where it can.
 fn schedule_fault(
     segments: &[Segment],
     queue: LogQueue,
@@ -101,12 +104,14 @@ fn schedule_fault(
     None
 }
 
+/// Tests whether all workers who draw are there.
 fn are_known(draws: &[usize], workers: usize) -> bool
     ensures { IsTrue result ↔ EachIndex draws.now (λ n. slice_index draws.now n < workers) }
 {
     draws.iter().all(|worker| *worker < workers)
 }
 
+/// Tests whether a plan is of as many pieces as the schedule makes; without segments any is.
 fn fits_pieces(plan: &Plan, segments: usize, draws: &[usize]) -> bool
     requires { segments + 1 < 2 ^ 64 }
     ensures { IsTrue result ↔ (0 < segments → leaves plan.now ≡ pieces_in segments draws.now) }
@@ -114,18 +119,26 @@ fn fits_pieces(plan: &Plan, segments: usize, draws: &[usize]) -> bool
     segments == 0 || plan.leaves() == piece_count(segments, draws)
 }
 
+/// Tests whether all parts of all segments are of files of a queue.
 pub(crate) fn segments_are_of(segments: &[Segment], queue: LogQueue) -> bool
     ensures { IsTrue result ↔ SegmentsAreOf queue segments.now }
 {
     segments.iter().all(|segment| parts_are_of(segment, queue))
 }
 
+/// Tests whether all parts are of files of a queue.
 fn parts_are_of(parts: &Vec<FilePart>, queue: LogQueue) -> bool
     ensures { IsTrue result ↔ All (λ part. part.id.queue ≡ queue) parts.now.items }
 {
     parts.iter().all(|part| part.id().queue == queue)
 }
 
+/// Replays the segments in order, each into the machine of who draws it, and returns the last
+/// machine. Those before it are pushed.
+///
+/// # Errors
+///
+/// The factory's own, those of [`replay_segment`], and `Memory`.
 fn replay_in_order<M: ReplayMachine, F: Factory<M>>(
     alloc: Global,
     factory: &F,
@@ -149,6 +162,12 @@ fn replay_in_order<M: ReplayMachine, F: Factory<M>>(
     Ok(current)
 }
 
+/// Returns the machine for the next segment: the current one, or, where the drawer changes, a new
+/// one, and the current one is pushed.
+///
+/// # Errors
+///
+/// The factory's own, and `Memory`.
 fn next_machine<M: ReplayMachine, F: Factory<M>>(
     alloc: Global,
     factory: &F,

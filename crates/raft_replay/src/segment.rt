@@ -76,6 +76,8 @@ pub fn replay_bytes<M: ReplayMachine>(
     }
 }
 
+/// Puts queue, file and offset of a batch in front of the text of a `Corruption`, an `Io` or a
+/// `Codec`; other errors stay as they are. It is `Memory` where the text finds none.
 fn placed(alloc: Global, error: Error, id: FileId, offset: u64) -> Error
     ensures placed { IsPlaced id offset result }
     ensures same { IsWithPlace id offset error result }
@@ -107,6 +109,11 @@ pub fn corruption_at(alloc: Global, id: FileId, offset: u64, reason: &str) -> Er
     }
 }
 
+/// Puts queue, file and offset of a batch in front of the text of an io error.
+///
+/// # Errors
+///
+/// Where there is no memory for it.
 fn io_placed(alloc: Global, error: io::Error, id: FileId, offset: u64) -> AllocResult<io::Error>
     ensures kind { IfOk result (λ e. error_kind e ≡ error_kind error) }
 {

@@ -110,6 +110,7 @@ pub fn check_arguments(
     Ok(())
 }
 
+/// Returns why so many workers may not replay these segments of a queue, `None` where they may.
 pub(crate) fn misuse(segments: &[Segment], queue: LogQueue, workers: usize) -> Option<&'static str>
     ensures none { IfNone result ((0 < workers) × (workers ≤ 256)
         × SegmentsAreOf queue segments.entry.now) }
@@ -125,6 +126,11 @@ pub(crate) fn misuse(segments: &[Segment], queue: LogQueue, workers: usize) -> O
     None
 }
 
+/// Returns the pieces that workers make of the segments, in no set order.
+///
+/// # Errors
+///
+/// Those of [`replay_accepted`].
 fn drawn_pieces<M: ReplayMachine, F: Factory<M>, G: Gate, R: Threads + Sync>(
     rt: &R,
     alloc: Global,
@@ -152,6 +158,11 @@ fn drawn_pieces<M: ReplayMachine, F: Factory<M>, G: Gate, R: Threads + Sync>(
     Ok(pieces)
 }
 
+/// Returns the seats of all workers, and all their pieces.
+///
+/// # Errors
+///
+/// The refusal of the first worker in order that was refused, and `Memory`.
 fn gather<M: ReplayMachine>(worked: Vec<Worked<M>>) -> Result<(Vec<TicketSeat>, Vec<Piece<M>>)>
     ensures ok { (segments : List (Vec Part Global)) (tickets : Tickets)
         → All (IsBack M.stands_exactly segments tickets) worked.items
@@ -170,12 +181,20 @@ fn gather<M: ReplayMachine>(worked: Vec<Worked<M>>) -> Result<(Vec<TicketSeat>, 
     Ok((seats, pieces))
 }
 
+/// What a worker gives back. What it always is stands in the contract of the closure that workers run
+/// (`IsWork`).
 #[derive(Drop)]
 struct Worked<M: ReplayMachine> {
     seat: TicketSeat,
     pieces: Result<Vec<Piece<M>>>,
 }
 
+/// Has as many workers as there are seats replay segments at the same time, and returns what each
+/// did.
+///
+/// # Errors
+///
+/// `Memory`. What a worker was refused stands in what it did.
 fn run_workers<M: ReplayMachine, F: Factory<M>, G: Gate, R: Threads + Sync>(
     rt: &R,
     alloc: Global,
@@ -205,6 +224,12 @@ fn run_workers<M: ReplayMachine, F: Factory<M>, G: Gate, R: Threads + Sync>(
     Ok(thread::map_vec(rt, seats, &one)?)
 }
 
+/// Replays segments that one worker draws, until none is left, and returns its pieces.
+///
+/// # Errors
+///
+/// The factory's own, those of [`replay_segment`], and `Memory`. The segments that are left are
+/// then not drawn by it.
 fn replay_drawn<M: ReplayMachine, F: Factory<M>, G: Gate>(
     alloc: Global,
     factory: &F,

@@ -11,7 +11,7 @@ pub struct Dice {
 }
 
 impl Dice {
-    /// Makes those of a seed.
+    /// Makes dice that throw the same for the same seed.
     pub fn new(seed: u64) -> Dice {
         Dice {
             drawn: hash_u64(seed),
@@ -34,7 +34,7 @@ impl Dice {
         self.below(times) == 0
     }
 
-    /// Returns a letter.
+    /// Throws one of the letters.
     pub fn letter(&mut self) -> u8 {
         b'a' + self.below(26) as u8
     }

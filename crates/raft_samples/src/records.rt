@@ -30,7 +30,7 @@ impl Records {
         }
     }
 
-    /// Adds entries.
+    /// Adds entries, each in place of the one that stood at its index.
     pub fn push_entries(&mut self, proposals: Vec<Proposal>) -> Result<()> {
         for proposal in proposals {
             let _ = self.entries.insert(proposal.index, proposal.text)?;
@@ -38,7 +38,7 @@ impl Records {
         Ok(())
     }
 
-    /// Puts entries in place of those from the first one's index on.
+    /// Puts entries in place of those from the first one's index on; none change nothing.
     pub(crate) fn replace_entries(&mut self, proposals: Vec<Proposal>) -> Result<()> {
         if let Some(first) = proposals.first() {
             self.truncate(first.index);
@@ -46,7 +46,7 @@ impl Records {
         self.push_entries(proposals)
     }
 
-    /// Adds the key values of a table.
+    /// Adds copies of a table's key values, each in place of the one under its key.
     pub fn push_pairs(&mut self, alloc: Global, table: &MemTable) -> Result<()> {
         let mut pairs = Vec::new(alloc);
         table.fetch_kvs_before(u64::MAX, &mut pairs)?;
@@ -82,6 +82,7 @@ impl Records {
             .retain(|index: &u64, _: &mut Vec<u8>| *index >= first);
     }
 
+    /// Drops all records.
     pub(crate) fn clear(&mut self) {
         self.entries.clear();
         self.pairs.clear();

@@ -340,6 +340,11 @@ impl SharedAccessor {
         live
     }
 
+    /// Locks the slot of a region for writing. It waits for the lock.
+    ///
+    /// # Errors
+    ///
+    /// `Failed` where the slot has another number, which never happens.
     fn lock<R: Wait>(&self, rt: &R, id: u64) -> Result<RwLockWriteGuard<'_, Slot>>
         ensures number { IfOk result (λ slot. (write_guard_value slot).number ≡ slot_of id) }
         ensures fault { IfErr result (λ e. e ≡ Error.Failed) }
@@ -352,6 +357,12 @@ impl SharedAccessor {
         Ok(slot)
     }
 
+    /// Writes items to the tables in order, as `how` says.
+    ///
+    /// # Errors
+    ///
+    /// Those of `write_item` at the first item that is refused. The items in front of it are
+    /// written.
     #[inline(always)]
     fn write_items<I: IntoIterator<Item = LogItem>, R: Wait>(
         &self,
@@ -374,6 +385,12 @@ impl SharedAccessor {
         Ok(())
     }
 
+    /// Writes an item to its region's table, as `how` says, under the lock for writing.
+    ///
+    /// # Errors
+    ///
+    /// Those of the call of [`Slot`], and `Failed` where the slot has another number, which never
+    /// happens.
     #[inline(always)]
     fn write_item<R: Wait>(&self, rt: &R, how: Writing, item: LogItem) -> Result<()>
         ensures ok { OnOk result (MayBeWritten (writing_shown how) (item_of item)) }
@@ -383,6 +400,11 @@ impl SharedAccessor {
     }
 }
 
+/// Divides tables and cleaned regions into 128 slots.
+///
+/// # Errors
+///
+/// `Memory`. The tables are then gone.
 fn share_out(alloc: Global, core: MemTableAccessor) -> Result<Vec<Slot>>
     ensures shares { IfOk result (λ slots. HaveShares core.tables core.cleaned 0 slots.items) }
     ensures all { IfOk result (λ slots. length slots.items ≡ 128) }
@@ -397,6 +419,11 @@ fn share_out(alloc: Global, core: MemTableAccessor) -> Result<Vec<Slot>>
     Ok(slots)
 }
 
+/// Divides the tables into 128 slots. The cleaned regions stay with the accessor.
+///
+/// # Errors
+///
+/// `Memory`. Some tables are then gone.
 fn share_tables(alloc: Global, core: &mut MemTableAccessor) -> Result<Vec<Slot>>
     ensures shares { IfOk result (λ slots. HaveShares core.old.tables [] 0 slots.items) }
     ensures all { IfOk result (λ slots. length slots.items ≡ 128) }
@@ -412,6 +439,13 @@ fn share_tables(alloc: Global, core: &mut MemTableAccessor) -> Result<Vec<Slot>>
     Ok(slots)
 }
 
+/// Moves the tables and cleaned regions of a slot into an accessor.
+///
+/// # Errors
+///
+/// `Memory`, and `Full` where more than 2^64 - 1 records would be live in a queue; `Failed` where
+/// the slot has a region of another number, which never happens. Some tables may then be moved, and
+/// one is lost.
 fn move_slot(slot: &mut Slot, alloc: Global, core: &mut MemTableAccessor) -> Result<()>
     ensures tables { OnOk result
         (AreSlotTablesAdded slot.old core.old.tables core.new.tables) }
@@ -432,6 +466,11 @@ fn move_slot(slot: &mut Slot, alloc: Global, core: &mut MemTableAccessor) -> Res
     Ok(())
 }
 
+/// Lists these regions of one slot as cleaned.
+///
+/// # Errors
+///
+/// `Memory`. Some of them may then be listed.
 fn list_cleaned(number: usize, ids: &[u64], core: &mut MemTableAccessor) -> Result<()>
     requires { AllByRecursion (λ id. slot_of id ≡ number) ids.now }
     ensures ok { OnOk result (core.new.cleaned ≡ core.old.cleaned ++ ids.now) }
@@ -447,6 +486,12 @@ fn list_cleaned(number: usize, ids: &[u64], core: &mut MemTableAccessor) -> Resu
     Ok(())
 }
 
+/// Moves the table of a region, if it has one, out of a slot into an accessor.
+///
+/// # Errors
+///
+/// `Memory`, and `Full` where more than 2^64 - 1 records would be live in a queue; `Failed` where
+/// the slot has another number, which never happens. The table may then be lost.
 fn move_table(slot: &mut Slot, id: u64, core: &mut MemTableAccessor) -> Result<()>
     ensures moved { OnOk result ((t : Table) → finite.get slot.old.content.tables id ≡ Some t
         → core.new.tables ≡ finite.insert core.old.tables id t) }
@@ -467,6 +512,7 @@ fn move_table(slot: &mut Slot, id: u64, core: &mut MemTableAccessor) -> Result<(
     Ok(())
 }
 
+/// Returns what `f` returns of a region's table, `None` where the region has none.
 fn answer_of<X: Drop, F: FnOnce(&MemTable) -> X>(slot: &Slot, id: u64, f: F) -> Option<X>
 where
     F: Drop,
@@ -479,6 +525,11 @@ where
     Some(f(table))
 }
 
+/// Does the change to a region's table that `f` returns of it.
+///
+/// # Errors
+///
+/// Those of [`Slot::change`]. The slot is then as it was.
 fn change_by<F: FnOnce(&MemTable) -> TableChange>(
     slot: &mut Slot,
     alloc: Global,
@@ -496,6 +547,7 @@ where
     slot.change(id, change)
 }
 
+/// Returns what `f` returns of a region's table, or of an empty one where the region has none.
 fn answer_at<F: FnOnce(&MemTable) -> TableChange>(
     slot: &Slot,
     alloc: Global,

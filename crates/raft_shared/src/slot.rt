@@ -310,6 +310,12 @@ impl Slot {
         self.write_item(Writing::Rewriting(watermark, new_file), item)
     }
 
+    /// Writes an item to its region's table, as `how` says.
+    ///
+    /// # Errors
+    ///
+    /// Those of [`RegionTables::append_item`] or [`RegionTables::rewrite_item`]. The slot is then
+    /// as it was.
     #[inline(always)]
     pub(crate) fn write_item(&mut self, how: Writing, item: LogItem) -> Result<()>
         requires { slot_of item.raft_group_id ≡ self.old.number }
@@ -348,6 +354,11 @@ impl Slot {
         Ok(())
     }
 
+    /// Lists a region as cleaned.
+    ///
+    /// # Errors
+    ///
+    /// `Memory`. The slot is then as it was.
     pub(crate) fn list(&mut self, id: u64) -> Result<()>
         requires { slot_of id ≡ self.old.number }
         ensures ok { OnOk result (self.new ≡ record self.old {
@@ -360,6 +371,7 @@ impl Slot {
         Ok(())
     }
 
+    /// Takes a region's table away, and its records off the counts.
     fn take(&mut self, id: u64) -> Option<MemTable>
         requires { slot_of id ≡ self.old.number }
         ensures tables { self.new.content.tables ≡ finite.remove self.old.content.tables id }
@@ -374,6 +386,11 @@ impl Slot {
     }
 }
 
+/// Adds a `Clean` for each of these regions to an open batch, in order.
+///
+/// # Errors
+///
+/// `Memory`. The batch is then as it was.
 fn move_cleans(alloc: Global, ids: &[u64], logs: &mut LogBatch) -> Result<()>
     requires { logs.old.stage ≡ is_open }
     ensures ok { OnOk result (logs.new

@@ -75,6 +75,8 @@ impl ReadableSize {
             → IsReadAs (size_text n) r → r ≡ Ok (record { 0 = n }) }
     {}
 
+    /// Returns the count and the unit that a size is printed with: the largest unit that divides
+    /// it, and `KiB` for 0.
     fn printed(self) -> (u64, &'static str)
         ensures text { size_text self.0 ≡ decimal result.0 ++ result.1.now }
         ensures unit { length result.1.now ≤ 3 }

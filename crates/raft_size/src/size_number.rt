@@ -20,6 +20,7 @@ pub(super) struct SizeNumber<'a> {
 }
 
 impl<'a> SizeNumber<'a> {
+    /// Reads a number: sign, digits with a fraction, exponent. `None` where the text is none.
     pub(super) fn parse(text: &'a [u8]) -> Option<SizeNumber<'a>>
         ensures number { IfSome result (λ number. IsNumber text.now (number_shown number)) }
         ensures digits { IfSome result (λ number. HasDigitsAlone (number_shown number)) }
@@ -41,6 +42,8 @@ impl<'a> SizeNumber<'a> {
         })
     }
 
+    /// Returns the number that the digits of whole part and fraction spell together, without the
+    /// point. `None` where it has more than 20 digits after its leading zeros.
     pub(super) fn significand(&self) -> Option<u128>
         requires { HasDigitsAlone (number_shown self.now) }
         ensures value { IfSome result (λ value. value ≡ digits_value 10
@@ -60,6 +63,7 @@ impl<'a> SizeNumber<'a> {
         }
     }
 
+    /// Returns the number times `factor`, rounded down to whole bytes and held from 0 to 2^64 - 1.
     pub(super) fn size(&self, significand: u128, factor: u64) -> u64
         requires digits { HasDigitsAlone (number_shown self.now) }
         requires significand { significand ≡ digits_value 10 (digits_of (number_shown self.now)) }
@@ -81,6 +85,7 @@ impl<'a> SizeNumber<'a> {
     }
 }
 
+/// Returns whether the text begins with a minus, and what follows the sign, if there is one.
 fn split_sign(text: &[u8]) -> (bool, &[u8])
     ensures minus { result.0 ≡ has_minus text.now }
     ensures rest { result.1.now ≡ behind_sign text.now }
@@ -92,6 +97,7 @@ fn split_sign(text: &[u8]) -> (bool, &[u8])
     }
 }
 
+/// Returns the digits at the front of the text, and what follows them.
 fn split_digits(text: &[u8]) -> (&[u8], &[u8])
     ensures split { text.now ≡ result.0.now ++ result.1.now }
     ensures digits { AllDigits 10 result.0.now }
@@ -105,6 +111,8 @@ fn split_digits(text: &[u8]) -> (&[u8], &[u8])
     text.split_at(text.len())
 }
 
+/// Returns the digits behind a point at the front of the text, and what follows them; none without
+/// a point.
 fn split_fraction(behind: &[u8]) -> (&[u8], &[u8])
     requires { NoDigitFirst behind.now }
     ensures split { TakesFraction behind.now result.0.now result.1.now }
@@ -117,6 +125,8 @@ fn split_fraction(behind: &[u8]) -> (&[u8], &[u8])
     }
 }
 
+/// Returns whether an exponent is negative, and its digits: none where the text is empty. `None`
+/// where the text is no exponent.
 fn parse_exponent(text: &[u8]) -> Option<(bool, &[u8])>
     ensures exponent { IfSome result (λ exponent. IsExponent text.now exponent.0 exponent.1.now) }
     ensures none { IfNone result ((minus : Bool) (digits : List ℕ) →
@@ -130,6 +140,8 @@ fn parse_exponent(text: &[u8]) -> Option<(bool, &[u8])>
     }
 }
 
+/// Returns whether the exponent behind its `e` is negative, and its digits. `None` where there are
+/// none, or more than digits.
 fn parse_power(text: &[u8]) -> Option<(bool, &[u8])>
     ensures minus { IfSome result (λ power. power.0 ≡ has_minus text.now) }
     ensures digits { IfSome result (λ power. power.1.now ≡ behind_sign text.now) }
@@ -144,6 +156,7 @@ fn parse_power(text: &[u8]) -> Option<(bool, &[u8])>
     Some((is_negative, digits))
 }
 
+/// Returns the number that digits spell behind `start`, or `limit` where it is above.
 fn value_up_to(limit: u128, start: u128, digits: &[u8]) -> u128
     requires limit { limit < 2 ^ 100 }
     requires start { start ≤ limit }
@@ -157,6 +170,7 @@ fn value_up_to(limit: u128, start: u128, digits: &[u8]) -> u128
     value
 }
 
+/// Returns a value times 10^`up`, divided by 10^`down`, rounded down and held up to 2^64 - 1.
 fn scaled(value: u128, up: u128, down: u128) -> u64
     requires { value < 2 ^ 120 }
     ensures { result ≡ scaled_size value up down }
@@ -168,6 +182,7 @@ fn scaled(value: u128, up: u128, down: u128) -> u64
     }
 }
 
+/// Returns a value divided by 10^`power`, rounded down and held up to 2^64 - 1.
 fn lowered(value: u128, power: u128) -> u64
     requires { value < 2 ^ 120 }
     ensures { result ≡ scaled_size value 0 power }
@@ -179,6 +194,7 @@ fn lowered(value: u128, power: u128) -> u64
     }
 }
 
+/// Returns a value times 10^`power`, held up to 2^64 - 1.
 fn raised(value: u128, power: u128) -> u64
     ensures { result ≡ scaled_size value power 0 }
 {
@@ -192,6 +208,7 @@ fn raised(value: u128, power: u128) -> u64
     }
 }
 
+/// Returns the number, or 2^64 - 1 where it is above.
 fn held(number: u128) -> u64
     ensures { result ≡ min (2 ^ 64 - 1) number }
 {

@@ -30,6 +30,11 @@ pub enum SizeError {
     Kind,
 }
 
+/// Returns the size in bytes that a text stands for, white space around it left aside.
+///
+/// # Errors
+///
+/// The reason why it stands for none.
 pub(super) fn parse_size(text: &str) -> Result<u64, SizeError>
     ensures size { IfOk result (IsSizeText text.now) }
     ensures fault { IfErr result (IsSizeFault text.now) }
@@ -44,6 +49,11 @@ pub(super) fn parse_size(text: &str) -> Result<u64, SizeError>
     }
 }
 
+/// Returns the size in bytes that an ASCII text, which isn't empty, stands for.
+///
+/// # Errors
+///
+/// `Unit`, `Number` or `Digits`, the first of them that holds.
 fn parse_ascii(text: &str) -> Result<u64, SizeError>
     requires some_text { text.now ≢ [] }
     requires ascii { IsAscii text.now }
@@ -63,6 +73,7 @@ fn parse_ascii(text: &str) -> Result<u64, SizeError>
     Ok(number.size(significand, factor))
 }
 
+/// Returns how many bytes at the front of the text can be of a number.
 fn front_len(text: &[u8]) -> usize
     ensures { result ≡ number_len text.now }
 {
@@ -74,12 +85,14 @@ fn front_len(text: &[u8]) -> usize
     text.len()
 }
 
+/// Tests whether a byte can stand in a number.
 fn is_number_byte(c: u8) -> bool
     ensures { result ≡ is_number_character c }
 {
     c.is_ascii_digit() || matches!(c, b'.' | b'e' | b'E' | b'-' | b'+')
 }
 
+/// Returns how many bytes a unit has; `None` of a text that is no unit.
 fn unit_factor(unit: &str) -> Option<u64>
     ensures bound { IfSome result (λ factor. factor ≤ 2 ^ 50) }
     ensures known { IfSome result (IsUnit unit.now) }

@@ -87,6 +87,7 @@ impl GlobalStats {
         count <= usize::MAX - self.live_entries(queue)
     }
 
+    /// Counts `count` more records of `queue`, of which the caller knows that they can be live.
     pub(crate) fn add_fitting(&mut self, queue: LogQueue, count: usize)
         requires { live queue self.old + count < 2 ^ 64 }
         ensures after { self.new ≡ with_added queue count self.old }
@@ -97,6 +98,13 @@ impl GlobalStats {
         }
     }
 
+    /// Counts `count` records that were written to the rewrite queue and moved nothing: as written,
+    /// and as deleted again. No live count changes.
+    ///
+    /// # Errors
+    ///
+    /// `Full` where they would pass 2^64 - 1 together with the live records of the rewrite queue.
+    /// The counts are then as they were.
     pub(crate) fn add_unmoved(&mut self, count: usize) -> Result<()>
         ensures ok { OnOk result (self.new
             ≡ with_deleted Rewrite count (with_added Rewrite count self.old)) }
@@ -148,7 +156,7 @@ impl GlobalStats {
         Ok(())
     }
 
-    /// Takes all records of a table off.
+    /// Takes all records of a table off the live counts of their queues.
     pub fn delete_table(&mut self, table: &MemTable)
         requires { IsCounted table.now self.old }
         ensures after { self.new ≡ with_table_deleted table.now self.old }
@@ -167,6 +175,8 @@ impl GlobalStats {
         self.has_room_in(table, LogQueue::Append) && self.has_room_in(table, LogQueue::Rewrite)
     }
 
+    /// Tests whether the records that a table has in `queue` can be counted beside those that are
+    /// live there.
     fn has_room_in(&self, table: &MemTable, queue: LogQueue) -> bool
         ensures { MatchBool result (live queue self.now + live_of queue table.now < 2 ^ 64)
             (2 ^ 64 ≤ live queue self.now + live_of queue table.now) }
@@ -174,6 +184,7 @@ impl GlobalStats {
         table.records(queue) <= (usize::MAX - self.live_entries(queue)) as u128
     }
 
+    /// Takes the records that a table has in `queue` off.
     fn delete_records(&mut self, table: &MemTable, queue: LogQueue)
         requires { live_of queue table.now ≤ live queue self.old }
         ensures after { self.new ≡ with_deleted queue (live_of queue table.now) self.old }
@@ -221,6 +232,11 @@ impl GlobalStats {
     }
 }
 
+/// Adds two counts.
+///
+/// # Errors
+///
+/// `Full` where the sum passes 2^64 - 1.
 fn sum(a: usize, b: usize) -> Result<usize>
     ensures ok { IfOk result (λ s. s ≡ a + b) }
     ensures accepted { a + b < 2 ^ 64 → IsOk result }

@@ -100,7 +100,7 @@ impl MemTable {
         self.entries.count_in(LogQueue::Rewrite)
     }
 
-    /// Returns the least index.
+    /// Returns the least index, `None` without entries.
     pub fn first_index(&self) -> Option<u64>
         ensures { MatchOption result (self.now.entries ≡ [])
             (λ i. (self.now.entries ≢ []) × (i ≡ start_of self.now.entries)) }
@@ -108,7 +108,7 @@ impl MemTable {
         self.entries.first_index()
     }
 
-    /// Returns the greatest index.
+    /// Returns the greatest index, `None` without entries.
     pub fn last_index(&self) -> Option<u64>
         ensures { MatchOption result (self.now.entries ≡ [])
             (λ i. i + 1 ≡ end_of self.now.entries) }
@@ -148,7 +148,7 @@ impl MemTable {
         self.entries.get(index)
     }
 
-    /// Returns the value of `key`.
+    /// Returns the value of `key`, `None` where it has none.
     pub fn get(&self, key: &[u8]) -> Option<&[u8]>
         ensures { option_map (λ v. v.now) result ≡ value_at self.now.keys key.now }
     {

@@ -30,6 +30,7 @@ pub(crate) fn header_in(bytes: &[u8]) -> Option<(usize, usize)>
     Some((offset as usize, len as usize))
 }
 
+/// Reads a number of eight bytes, the highest first, and returns what follows it too.
 #[inline(always)]
 fn parse_u64(bytes: &[u8]) -> (u64, &[u8])
     requires { 8 ≤ length bytes.now }

@@ -42,7 +42,7 @@ pub(crate) fn are_whole(alloc: Global, bytes: &[u8], signature: Option<u32>) -> 
     }
 }
 
-/// Signs a checksum.
+/// Signs a checksum by a file's signature, or takes it off again; without one it stays.
 fn sign(checksum: u32, signature: Option<u32>) -> u32
     ensures { result ≡ signed_crc signature checksum }
 {

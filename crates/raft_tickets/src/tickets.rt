@@ -105,6 +105,11 @@ impl Tickets {
     }
 }
 
+/// Splits a seat into `count` seats, which have drawn nothing.
+///
+/// # Errors
+///
+/// `Memory`.
 fn split_seats(
     alloc: Global,
     shared: &Word,
@@ -128,6 +133,7 @@ fn split_seats(
     Ok(seats)
 }
 
+/// Makes the seat of a drawer who has drawn nothing.
 fn new_seat(seat: Seat<(), Lists>, total: u64) -> TicketSeat
     requires { seat.me ≡ ([] ∷ [], []) }
     ensures { (result.table ≡ seat.table_id) × (result.total ≡ total) × (result.drawn ≡ []) }
@@ -139,6 +145,7 @@ fn new_seat(seat: Seat<(), Lists>, total: u64) -> TicketSeat
     }
 }
 
+/// Joins seats that are back into one, which then has drawn all that they drew.
 fn join_seats(shared: &Word, seat: &mut Seat<(), Lists>, mut seats: Vec<TicketSeat>)
     requires word { 0 < shared.now.table_id.words }
     requires seat { seat.old.table_id ≡ shared.now.table_id }
@@ -152,6 +159,7 @@ fn join_seats(shared: &Word, seat: &mut Seat<(), Lists>, mut seats: Vec<TicketSe
     }
 }
 
+/// Joins a seat that is back into another one.
 fn join_seat(shared: &Word, seat: &mut Seat<(), Lists>, other: TicketSeat)
     requires word { 0 < shared.now.table_id.words }
     requires seat { seat.old.table_id ≡ shared.now.table_id }

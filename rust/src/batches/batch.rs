@@ -139,17 +139,17 @@ impl Batch {
         Vec::from_iter(numbers)
     }
 
-    /// Makes one of a handle.
+    /// Makes a batch of the items that a handle holds.
     pub(crate) fn of(handle: ItemsHandle) -> Batch {
         Batch { handle }
     }
 
-    /// Returns the handle.
+    /// Returns the handle of the items.
     pub(crate) fn handle(&self) -> &ItemsHandle {
         &self.handle
     }
 
-    /// Takes the handle out.
+    /// Takes the handle of the items out, to give it to the library.
     pub(crate) fn into_handle(self) -> ItemsHandle {
         self.handle
     }

@@ -48,7 +48,8 @@ pub(super) struct Commit {
 }
 
 impl Commit {
-    /// Writes the batch to the tables, and notes a refusal.
+    /// Writes the batch to the tables, which order its bytes of the files. A refusal is noted as
+    /// its result.
     pub(super) fn write(&mut self, tables: &mut EngineHandle) {
         let has_items = !self.batch.is_empty();
         match tables.write(self.batch.handle_mut()) {
@@ -81,9 +82,9 @@ impl Commits {
         let spare = line.spare.pop().map_or_else(LogBatch::new, Ok)?;
         let ticket = line.hand_in(mem::replace(batch, spare), sync);
         loop {
-            if let Some(over) = line.over_of(ticket) {
+            if let Some(over) = line.take_ended(ticket) {
                 line.spare.push(mem::replace(batch, over.batch));
-                return over.result.unwrap_or_else(|| Err(Error::failed()));
+                return over.result.unwrap_or_else(|| Err(Error::of_emptied()));
             }
             if line.is_led || (!sync && !line.unsynced.is_empty()) {
                 line.sleepers += 1;
@@ -125,8 +126,8 @@ impl Line {
         ticket
     }
 
-    /// Takes a batch whose thread may go on.
-    fn over_of(&mut self, ticket: u64) -> Option<Commit> {
+    /// Takes the batch of a ticket out, once its thread may go on; `None` before.
+    fn take_ended(&mut self, ticket: u64) -> Option<Commit> {
         let at = self.over.iter().position(|over| over.ticket == ticket)?;
         Some(self.over.swap_remove(at))
     }

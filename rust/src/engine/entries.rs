@@ -127,7 +127,7 @@ impl Entries {
         places.map(|place| (place.index, self.bytes(place)))
     }
 
-    /// Returns the bytes at a place.
+    /// Returns the bytes of the entry at a place.
     fn bytes(&self, place: &Place) -> &[u8] {
         &self.blocks[place.block][place.bytes.clone()]
     }
@@ -198,17 +198,13 @@ impl EntryBytes {
         Ok(EntryBytes { block, bytes })
     }
 
-    /// Lends them.
+    /// Returns the bytes of the entry.
     pub(super) fn as_slice(&self) -> &[u8] {
         &self.block[self.bytes.clone()]
     }
 }
 
-/// Returns so many zeros.
-///
-/// # Errors
-///
-/// `Memory`.
+/// Returns `len` bytes that are zero. The only error is `Memory`.
 pub(super) fn zeros(len: usize) -> Result<Vec<u8>> {
     let mut bytes = Vec::new();
     bytes.try_reserve_exact(len).map_err(|_| Error::memory())?;
@@ -216,11 +212,11 @@ pub(super) fn zeros(len: usize) -> Result<Vec<u8>> {
     Ok(bytes)
 }
 
-/// Reads the bytes of a block.
+/// Reads the bytes of a block, with their checksum.
 ///
 /// # Errors
 ///
-/// `Io`, `Memory`.
+/// `Io` with the place of the block, `Memory`.
 pub(super) fn read_block<F: Files>(engine: &Engine<F>, block: Block) -> Result<Vec<u8>> {
     let mut bytes = zeros(block.len)?;
     if block.len > 0 {
@@ -233,7 +229,11 @@ pub(super) fn read_block<F: Files>(engine: &Engine<F>, block: Block) -> Result<V
     Ok(bytes)
 }
 
-/// Returns the entry bytes of a block that is kept, or reads them.
+/// Returns the entry bytes of a block, which are read unless they are kept.
+///
+/// # Errors
+///
+/// Those of [`read_entry_bytes`].
 fn entry_bytes<F: Files>(engine: &Engine<F>, block: Block) -> Result<Arc<Vec<u8>>> {
     match engine.kept_blocks.get(block) {
         Some(kept) => Ok(kept),
@@ -242,6 +242,10 @@ fn entry_bytes<F: Files>(engine: &Engine<F>, block: Block) -> Result<Arc<Vec<u8>
 }
 
 /// Reads the entry bytes of a block, and tests their checksum. A block of no bytes has none.
+///
+/// # Errors
+///
+/// `Io`, and `Corruption` where the checksum is another, with the place of the block; `Memory`.
 pub(super) fn read_entry_bytes<F: Files>(engine: &Engine<F>, block: Block) -> Result<Vec<u8>> {
     let mut bytes = read_block(engine, block)?;
     if block.len > 0 {
@@ -251,7 +255,11 @@ pub(super) fn read_entry_bytes<F: Files>(engine: &Engine<F>, block: Block) -> Re
     Ok(bytes)
 }
 
-/// Returns where in the entry bytes of its block, which are so many, those of an entry are.
+/// Returns where the bytes of an entry are in the entry bytes of its block, which are `len`.
+///
+/// # Errors
+///
+/// `Corruption` where they would end behind those.
 fn bytes_of(entry: &Entry, len: usize) -> Result<Range<usize>> {
     let from = entry.offset as usize;
     let end = from.saturating_add(entry.len as usize);

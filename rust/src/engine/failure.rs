@@ -18,7 +18,7 @@ impl<F: Files> Engine<F> {
     /// # Errors
     ///
     /// `Failed`, with the reason and its place.
-    pub(super) fn intact(&self) -> Result<()> {
+    pub(super) fn check_intact(&self) -> Result<()> {
         match self.failure.get() {
             None => Ok(()),
             Some(failure) => Err(failure.reason.as_failure()),
@@ -30,7 +30,7 @@ impl<F: Files> Engine<F> {
     /// # Errors
     ///
     /// `Failed`, with the reason and its place.
-    pub(super) fn readable(&self) -> Result<()> {
+    pub(super) fn check_readable(&self) -> Result<()> {
         match self.failure.get() {
             Some(failure) if !failure.is_readable => Err(failure.reason.as_failure()),
             _ => Ok(()),
@@ -42,8 +42,8 @@ impl<F: Files> Engine<F> {
         self.fail_as(reason, false)
     }
 
-    /// Notes why the files have failed, and returns the reason. Bytes that were ordered and aren't written can still be read,
-    /// from memory.
+    /// Notes that the files have failed, and why, and returns the reason. Bytes that were ordered
+    /// and not written stay readable, from memory.
     pub(super) fn fail_files(&self, reason: Error) -> Error {
         self.fail_as(reason, true)
     }
@@ -58,7 +58,12 @@ impl<F: Files> Engine<F> {
         reason
     }
 
-    /// Fills bytes with those of a file from an offset on, or with those that are to be written there.
+    /// Fills bytes with those of a file from an offset on, or with those that are to be written
+    /// there.
+    ///
+    /// # Errors
+    ///
+    /// Those of [`Files::read`].
     pub(super) fn read_at(&self, file: FileId, offset: u64, bytes: &mut [u8]) -> io::Result<()> {
         if self.unwritten.read(file, offset, bytes) {
             return Ok(());

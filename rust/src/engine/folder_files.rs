@@ -88,8 +88,8 @@ impl FolderFiles {
             _ => {}
         }
         let path = fs::canonicalize(path).map_err(about)?;
-        let locked = LockedFolder::exclusive(&path)?;
-        let files = opened_in(&path, synced)?;
+        let locked = LockedFolder::lock_exclusive(&path)?;
+        let files = open_log_files(&path, open_synced)?;
         locked.folder.sync_all().map_err(about)?;
         let parent = File::open(path.join("..")).map_err(about)?;
         parent.sync_all().map_err(about)?;
@@ -124,8 +124,8 @@ impl FolderFiles {
     pub fn open_read_only(path: impl AsRef<Path>) -> Result<FolderFiles> {
         let path = path.as_ref();
         let path = fs::canonicalize(path).map_err(|e| Error::system(path.display(), e))?;
-        let locked = LockedFolder::shared(&path)?;
-        let files = opened_in(&path, File::open)?;
+        let locked = LockedFolder::lock_shared(&path)?;
+        let files = open_log_files(&path, File::open)?;
         let changes = Changes {
             refused: Some("the folder is open for reading alone"),
             unsynced: BTreeSet::new(),
@@ -168,14 +168,23 @@ impl FolderFiles {
         self.path.join(name_of(file))
     }
 
-    /// Returns a file.
+    /// Returns the open file with this name.
+    ///
+    /// # Errors
+    ///
+    /// `NotFound` where it isn't there.
     fn file(&self, id: FileId) -> io::Result<Arc<File>> {
         let files = locks::read(&self.files);
         let file = files.get(&id).cloned();
         file.ok_or_else(|| io::Error::new(io::ErrorKind::NotFound, "the file isn't there"))
     }
 
-    /// Syncs the files of a queue that have new bytes. Names were synced when they were made.
+    /// Syncs the files of a queue that have new bytes, and takes them out of `unsynced`. Names were
+    /// synced when they were made.
+    ///
+    /// # Errors
+    ///
+    /// Those of the system. The files that are left in `unsynced` may not be synced.
     fn sync_new(&self, queue: Queue, unsynced: &mut BTreeSet<FileId>) -> io::Result<()> {
         while let Some(file) = unsynced.range(all_of(queue)).next().copied() {
             self.file(file)?.sync_data()?;
@@ -184,8 +193,13 @@ impl FolderFiles {
         Ok(())
     }
 
-    /// Makes a change, which has failed until it has ended well, or left all as it was. It gets the files with bytes that aren't
-    /// synced.
+    /// Makes a change, which has failed until it has ended well, or left all as it was. It gets the
+    /// files with bytes that aren't synced.
+    ///
+    /// # Errors
+    ///
+    /// Those of the system. After one that may have left the change half done every later change is
+    /// refused.
     fn change(
         &self,
         change: impl FnOnce(&mut BTreeSet<FileId>) -> std::result::Result<(), Unmade>,
@@ -291,7 +305,7 @@ impl fmt::Debug for FolderFiles {
 /// # Errors
 ///
 /// `InvalidArgument` for a name that ends like that of a log file and is none, or is that of a folder or a pipe; `Io`.
-fn opened_in(
+fn open_log_files(
     folder: &Path,
     open: impl Fn(PathBuf) -> io::Result<File>,
 ) -> Result<BTreeMap<FileId, Arc<File>>> {
@@ -313,14 +327,18 @@ fn opened_in(
     Ok(files)
 }
 
-/// Opens a log file to be read and written behind its end, and syncs it.
-fn synced(path: PathBuf) -> io::Result<File> {
+/// Opens a log file to be read, and written behind its end, and syncs it.
+///
+/// # Errors
+///
+/// Those of the system.
+fn open_synced(path: PathBuf) -> io::Result<File> {
     let file = OpenOptions::new().read(true).append(true).open(path)?;
     file.sync_all()?;
     Ok(file)
 }
 
-/// Returns the files that a queue may have.
+/// Returns the range of all files that a queue may have.
 fn all_of(queue: Queue) -> std::ops::RangeInclusive<FileId> {
     FileId::new(queue, 0)..=FileId::new(queue, u64::MAX)
 }

@@ -54,7 +54,7 @@ impl Found {
             for (file, bytes) in &held {
                 numbers.set_len(*file, bytes.len() as u64);
             }
-            read_and_added(&held, queue, options, &found)
+            read_and_add(&held, queue, options, &found)
         };
         let (rewritten, appended) = (read(Queue::Rewrite)?, read(Queue::Append)?);
         Ok(Found {
@@ -91,9 +91,14 @@ impl Found {
     }
 }
 
-/// Reads what the files of a queue have, on so many threads, and adds their bytes to those that are found: one of the threads
-/// does that, where it takes longer than to start one.
-fn read_and_added(
+/// Reads what the files of a queue have, on as many threads as the options say, and adds their
+/// bytes to those that are found: one of the threads does that, where it takes longer than to start
+/// one.
+///
+/// # Errors
+///
+/// Those of [`read_queue()`], `Memory`.
+fn read_and_add(
     held: &[(FileId, Vec<u8>)],
     queue: Queue,
     options: &Options,

@@ -135,7 +135,7 @@ impl Drop for Telling<'_> {
 }
 
 impl Events {
-    /// Makes those of a listener.
+    /// Makes the events that a listener, if there is one, is to be told. There are none yet.
     pub(super) fn of(listener: Option<Arc<dyn Listener>>) -> Events {
         Events {
             listener,
@@ -143,7 +143,7 @@ impl Events {
         }
     }
 
-    /// Notes something that was done, if somebody listens.
+    /// Notes something that was done, to be told later; without a listener nothing is noted.
     pub(super) fn note(&self, event: Event) {
         if self.listener.is_some() {
             locks::lock(&self.line).waiting.push_back(event);
@@ -255,7 +255,12 @@ impl<F: Files> Engine<F> {
         Engine::with_files_and(files, options, Some(listener))
     }
 
-    /// Makes a call that may change something, and then tells the listener what was done.
+    /// Makes a call that may change something, and then tells the listener what was done, also
+    /// after a refusal.
+    ///
+    /// # Errors
+    ///
+    /// Those of the call.
     pub(super) fn tell_after<T>(&self, call: impl FnOnce() -> Result<T>) -> Result<T> {
         let result = call();
         self.events.tell();

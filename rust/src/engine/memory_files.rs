@@ -189,7 +189,7 @@ impl MemoryFiles {
                     queue_left.take(ask);
                 }
             }
-            queue_left.after_stop(stays)
+            queue_left.files_after_crash(stays)
         };
         let append = left(Queue::Append, append);
         MemoryFiles::found(append, left(Queue::Rewrite, rewrite))
@@ -221,7 +221,7 @@ impl Files for MemoryFiles {
         let mut held = locks::lock(&self.held);
         let files = &mut held.files[at(file.queue)];
         if files.back().is_some_and(|(last, _)| *last >= file.seq) {
-            return refused("a new file has a greater number than the last one");
+            return refuse("a new file has a greater number than the last one");
         }
         files.push_back((file.seq, Vec::new()));
         held.asks.push(Ask::Begin(file));
@@ -232,7 +232,7 @@ impl Files for MemoryFiles {
         let mut held = locks::lock(&self.held);
         let files = &mut held.files[at(file.queue)];
         if files.len() < 2 || files[0].0 != file.seq {
-            return refused("the oldest file goes first, and the last one stays");
+            return refuse("the oldest file goes first, and the last one stays");
         }
         files.pop_front();
         held.asks.push(Ask::Delete(file));
@@ -241,7 +241,7 @@ impl Files for MemoryFiles {
 
     fn truncate(&self, file: FileId, len: u64) -> io::Result<()> {
         let mut held = locks::lock(&self.held);
-        cut(held.last(file)?, len);
+        cut_bytes(held.last(file)?, len);
         held.asks.push(Ask::Cut(file, len));
         Ok(())
     }
@@ -260,11 +260,15 @@ impl Files for MemoryFiles {
 }
 
 impl Held {
-    /// Returns the bytes of a file, which is the last one of its queue.
+    /// Returns the bytes of a file, which is to be the last one of its queue.
+    ///
+    /// # Errors
+    ///
+    /// `InvalidInput` for another file.
     fn last(&mut self, file: FileId) -> io::Result<&mut Vec<u8>> {
         match self.files[at(file.queue)].back_mut() {
             Some((seq, bytes)) if *seq == file.seq => Ok(bytes),
-            _ => refused("the file isn't the last one of its queue"),
+            _ => refuse("the file isn't the last one of its queue"),
         }
     }
 }
@@ -278,7 +282,7 @@ impl fmt::Debug for MemoryFiles {
     }
 }
 
-/// Returns where what is kept of a queue stands.
+/// Returns the position of a queue in what is kept of both.
 const fn at(queue: Queue) -> usize {
     match queue {
         Queue::Append => 0,
@@ -287,11 +291,11 @@ const fn at(queue: Queue) -> usize {
 }
 
 /// Cuts bytes to a length, if they are more.
-fn cut(bytes: &mut Vec<u8>, len: u64) {
+fn cut_bytes(bytes: &mut Vec<u8>, len: u64) {
     bytes.truncate(usize::try_from(len).unwrap_or(usize::MAX));
 }
 
-/// Refuses what no engine asks.
-fn refused<T>(why: &str) -> io::Result<T> {
+/// Returns the refusal of what no engine asks.
+fn refuse<T>(why: &str) -> io::Result<T> {
     Err(io::Error::new(io::ErrorKind::InvalidInput, why))
 }

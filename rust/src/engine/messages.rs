@@ -27,7 +27,9 @@ impl<F: Files> Engine<F> {
     /// `Message` where the value isn't a message; those of [`Engine::get`].
     pub fn get_message<M: Message>(&self, region: u64, key: &[u8]) -> Result<Option<M>> {
         let value = self.get(region, key)?;
-        value.map(|value| of_value(region, key, &value)).transpose()
+        value
+            .map(|value| decode_value(region, key, &value))
+            .transpose()
     }
 
     /// Returns the keys of a region in a range with the messages that are their values, in the order of the keys.
@@ -55,7 +57,7 @@ impl<F: Files> Engine<F> {
         let pairs = self.scan(region, range)?;
         let messages = pairs
             .iter()
-            .map(|(key, value)| Ok((key.to_vec(), of_value(region, key, value)?)));
+            .map(|(key, value)| Ok((key.to_vec(), decode_value(region, key, value)?)));
         messages.collect()
     }
 
@@ -76,7 +78,7 @@ impl<F: Files> Engine<F> {
     ///
     /// `Message` where the entry isn't a message; those of [`Engine::entry`].
     pub fn entry_of<M: Message>(&self, region: u64, index: u64) -> Result<Option<M>> {
-        let message = self.entry_with(region, index, |bytes| of_entry(region, index, bytes))?;
+        let message = self.entry_with(region, index, |bytes| decode_entry(region, index, bytes))?;
         message.transpose()
     }
 
@@ -100,7 +102,7 @@ impl<F: Files> Engine<F> {
         region: u64,
         range: impl RangeBounds<u64>,
     ) -> Result<Vec<M>> {
-        of_entries(region, &self.entries(region, range)?)
+        decode_entries(region, &self.entries(region, range)?)
     }
 
     /// Returns the messages that are the entries of a range of indexes up to `max_size` encoded bytes in all, and one at least.
@@ -124,31 +126,47 @@ impl<F: Files> Engine<F> {
         range: impl RangeBounds<u64>,
         max_size: u64,
     ) -> Result<Vec<M>> {
-        of_entries(region, &self.entries_up_to(region, range, max_size)?)
+        decode_entries(region, &self.entries_up_to(region, range, max_size)?)
     }
 }
 
-/// Makes the messages that entries are.
-fn of_entries<M: Message>(region: u64, entries: &Entries) -> Result<Vec<M>> {
+/// Decodes entries as messages, in order.
+///
+/// # Errors
+///
+/// `Message` for the first one that isn't a message's bytes, with region and index.
+fn decode_entries<M: Message>(region: u64, entries: &Entries) -> Result<Vec<M>> {
     let entries = entries.iter();
-    let messages = entries.map(|(index, bytes)| of_entry(region, index, bytes));
+    let messages = entries.map(|(index, bytes)| decode_entry(region, index, bytes));
     messages.collect()
 }
 
-/// Makes the message that a value is.
-fn of_value<M: Message>(region: u64, key: &[u8], value: &[u8]) -> Result<M> {
+/// Decodes a value as a message.
+///
+/// # Errors
+///
+/// `Message` where it isn't a message's bytes, with region and key.
+fn decode_value<M: Message>(region: u64, key: &[u8], value: &[u8]) -> Result<M> {
     let key = key.escape_ascii();
-    let message = decoded(value, format_args!("region {region}, key {key}"));
+    let message = decode_at(value, format_args!("region {region}, key {key}"));
     message.map_err(|e| e.about(region, None))
 }
 
-/// Makes the message that an entry is.
-fn of_entry<M: Message>(region: u64, index: u64, bytes: &[u8]) -> Result<M> {
-    let message = decoded(bytes, format_args!("region {region}, entry {index}"));
+/// Decodes the bytes of an entry as a message.
+///
+/// # Errors
+///
+/// `Message` where they aren't a message's, with region and index.
+fn decode_entry<M: Message>(region: u64, index: u64, bytes: &[u8]) -> Result<M> {
+    let message = decode_at(bytes, format_args!("region {region}, entry {index}"));
     message.map_err(|e| e.about(region, Some(index)))
 }
 
-/// Makes a message of bytes that stand where these words say.
-fn decoded<M: Message>(bytes: &[u8], place: impl fmt::Display) -> Result<M> {
+/// Decodes bytes as a message. `place` says in words where they stand.
+///
+/// # Errors
+///
+/// `Message` with that place, where they aren't a message's.
+fn decode_at<M: Message>(bytes: &[u8], place: impl fmt::Display) -> Result<M> {
     M::decode(bytes).map_err(|e| Error::message(place, e))
 }

@@ -75,6 +75,10 @@ impl<F: Files> Engine<F> {
     }
 
     /// Does what [`Engine::rewrite`] does, step by step, each in a turn of its own.
+    ///
+    /// # Errors
+    ///
+    /// Those of [`Engine::rewrite`]. Some regions may then have moved.
     fn rewrite_up_to(&self, gate: u64) -> Result<()> {
         let last = locks::lock(&self.numbers).last(Queue::Append);
         let gate = last.map_or(gate, |(file, _)| gate.min(file.seq));
@@ -85,14 +89,19 @@ impl<F: Files> Engine<F> {
         Ok(())
     }
 
-    /// Moves some regions past a gate. Where there are more it returns the blocks that these had, which aren't those of before.
+    /// Moves some regions past a gate. Where there are more it returns the blocks that these had,
+    /// which aren't those of before.
+    ///
+    /// # Errors
+    ///
+    /// Those of [`Engine::rewrite`]. Some regions may then have moved.
     fn rewrite_some(&self, gate: u64, before: &[Block]) -> Result<Option<Vec<Block>>> {
         let read = self.read_ahead(Some(gate), BLOCKS_AT_ONCE)?;
         let turn = self.turn()?;
         let lent = self.lend(Some(gate), BLOCKS_AT_ONCE, read)?;
         match self.count_moves(&turn, Queue::Append, |tables| tables.rewrite(gate)) {
             Err(e) if e.kind == ErrorKind::TryAgain && lent != before => Ok(Some(lent)),
-            Err(e) => Err(self.placed(e, &lent)),
+            Err(e) => Err(self.with_damaged_block(e, &lent)),
             Ok(()) => Ok(None),
         }
     }
@@ -127,11 +136,15 @@ impl<F: Files> Engine<F> {
             let turn = self.turn()?;
             let lent = self.lend(None, usize::MAX, read)?;
             self.count_moves(&turn, Queue::Rewrite, EngineHandle::rewrite_again)
-                .map_err(|e| self.placed(e, &lent))
+                .map_err(|e| self.with_damaged_block(e, &lent))
         })
     }
 
-    /// Makes a call that moves records of a queue, and notes how many.
+    /// Makes a call that moves records of a queue, and notes how many moved, for the listener.
+    ///
+    /// # Errors
+    ///
+    /// Those of the call.
     fn count_moves(
         &self,
         turn: &Turn<'_, F>,
@@ -155,7 +168,12 @@ impl<F: Files> Engine<F> {
         result
     }
 
-    /// Reads the blocks that [`Engine::lend`] is to lend, while others may write. One that can't be read now is left to it.
+    /// Reads the blocks that [`Engine::lend`] is to lend, while others may write. One that can't be
+    /// read now is left to it.
+    ///
+    /// # Errors
+    ///
+    /// `Memory`.
     fn read_ahead(&self, gate: Option<u64>, max_size: usize) -> Result<ReadBlocks> {
         let blocks = self.tables().moving_blocks(gate, max_size)?;
         let read = blocks
@@ -164,8 +182,13 @@ impl<F: Files> Engine<F> {
         Ok(read.collect())
     }
 
-    /// Lends the tables the blocks that are read by a rewriting up to the gate, or by one of rewritten records: those of whole
-    /// regions, up to so many bytes. Returns them. It reads those that weren't read before.
+    /// Lends the tables the blocks that are read by a rewriting up to the gate, or by one of
+    /// rewritten records: those of whole regions, until they have `max_size` bytes. Returns them.
+    /// It reads those that weren't read before.
+    ///
+    /// # Errors
+    ///
+    /// Those of [`Engine::rewrite`]. Some blocks may then be lent.
     fn lend(&self, gate: Option<u64>, max_size: usize, mut read: ReadBlocks) -> Result<Vec<Block>> {
         let blocks = self.tables().moving_blocks(gate, max_size)?;
         for block in &blocks {
@@ -180,7 +203,7 @@ impl<F: Files> Engine<F> {
     }
 
     /// Says of a refusal which of the blocks that were lent is damaged, if that is the reason.
-    fn placed(&self, refused: Error, lent: &[Block]) -> Error {
+    fn with_damaged_block(&self, refused: Error, lent: &[Block]) -> Error {
         if refused.kind != ErrorKind::Corruption || refused.file.is_some() {
             return refused;
         }

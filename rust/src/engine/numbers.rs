@@ -19,19 +19,19 @@ pub(super) struct Numbers {
 }
 
 impl Numbers {
-    /// Notes that a file has so many bytes.
+    /// Notes that a file has so many bytes; one that isn't known yet is added.
     pub(super) fn set_len(&mut self, file: FileId, len: u64) {
         self.lens.insert(file, len);
     }
 
     /// Notes that the last file of a queue has so many bytes, if it had more.
-    pub(super) fn cut(&mut self, queue: Queue, len: u64) {
+    pub(super) fn note_cut(&mut self, queue: Queue, len: u64) {
         if let Some((file, old)) = self.last(queue) {
             self.set_len(file, len.min(old));
         }
     }
 
-    /// Forgets a file.
+    /// Takes a deleted file out.
     pub(super) fn forget(&mut self, file: FileId) {
         self.lens.remove(&file);
     }
@@ -42,12 +42,12 @@ impl Numbers {
         self.lens.range(all).map(|(file, len)| (*file, *len))
     }
 
-    /// Returns the last file of a queue, and its length.
+    /// Returns the last file of a queue, and its length in bytes; `None` without a file.
     pub(super) fn last(&self, queue: Queue) -> Option<(FileId, u64)> {
         self.files(queue).next_back()
     }
 
-    /// Returns how many bytes the files of a queue have.
+    /// Returns how many bytes the files of a queue have together.
     pub(super) fn bytes(&self, queue: Queue) -> u64 {
         self.files(queue).map(|(_, len)| len).sum()
     }

@@ -38,7 +38,7 @@ impl<F: Files> Engine<F> {
             engine: self,
             _turn: self.turns.take(),
         };
-        self.intact()?;
+        self.check_intact()?;
         let undone = mem::take(&mut *locks::lock(&self.undone));
         turn.carry_out(undone)?;
         Ok(turn)
@@ -56,7 +56,7 @@ impl<F: Files> Turn<'_, F> {
         let mut tables = self.engine.tables();
         let result = call(&mut tables);
         if !tables.is_intact() {
-            let reason = result.err().unwrap_or_else(Error::failed);
+            let reason = result.err().unwrap_or_else(Error::of_emptied);
             return Err(self.engine.fail(reason));
         }
         let orders = tables.take_orders().map_err(|e| self.engine.fail(e))?;
@@ -103,17 +103,25 @@ impl<F: Files> Turn<'_, F> {
     }
 
     /// Carries out one order on the files.
+    ///
+    /// # Errors
+    ///
+    /// `Io` with the file. The engine has failed then, unless the files are as before.
     fn carry_out_one(&self, order: &Order) -> Result<()> {
         match order {
             Order::Write(queue, bytes) => self.write(*queue, bytes),
             Order::Begin(file) => self.begin(*file),
             Order::Sync(queue) => self.sync(*queue),
             Order::DeleteOldest(queue) => self.delete_oldest(*queue),
-            Order::Cut(queue, len) => self.cut(*queue, *len),
+            Order::Cut(queue, len) => self.cut_last(*queue, *len),
         }
     }
 
-    /// Puts bytes behind the last file of a queue. From then on they are read from the file.
+    /// Writes bytes behind the last file of a queue. From then on they are read from the file.
+    ///
+    /// # Errors
+    ///
+    /// Those of [`Files::write`], as `Io` with the file.
     fn write(&self, queue: Queue, bytes: &[u8]) -> Result<()> {
         let (file, len) = self.last(queue)?;
         let written = self.engine.files.write(file, bytes);
@@ -125,6 +133,10 @@ impl<F: Files> Turn<'_, F> {
     }
 
     /// Begins a file, which becomes the last one of its queue.
+    ///
+    /// # Errors
+    ///
+    /// Those of [`Files::rotate`], as `Io` with the file.
     fn begin(&self, file: FileId) -> Result<()> {
         let begun = self.engine.files.rotate(file);
         begun.map_err(|e| Error::system("the file can't be begun", e).at(file, 0))?;
@@ -134,6 +146,10 @@ impl<F: Files> Turn<'_, F> {
     }
 
     /// Syncs a queue, and counts how long that took.
+    ///
+    /// # Errors
+    ///
+    /// Those of [`Files::sync`], as `Io` with the file.
     fn sync(&self, queue: Queue) -> Result<()> {
         let (file, len) = self.last(queue)?;
         let begun = Instant::now();
@@ -149,9 +165,13 @@ impl<F: Files> Turn<'_, F> {
     }
 
     /// Deletes the oldest file of a queue.
+    ///
+    /// # Errors
+    ///
+    /// Those of [`Files::delete`], as `Io` with the file.
     fn delete_oldest(&self, queue: Queue) -> Result<()> {
         let oldest = locks::lock(&self.engine.numbers).files(queue).next();
-        let (file, _) = oldest.ok_or_else(Error::failed)?;
+        let (file, _) = oldest.ok_or_else(Error::of_emptied)?;
         let deleted = self.engine.files.delete(file);
         deleted.map_err(|e| Error::system("the file can't be deleted", e).at(file, 0))?;
         locks::lock(&self.engine.numbers).forget(file);
@@ -159,12 +179,16 @@ impl<F: Files> Turn<'_, F> {
         Ok(())
     }
 
-    /// Cuts the last file of a queue to a length, as an opening orders it.
-    fn cut(&self, queue: Queue, len: u64) -> Result<()> {
+    /// Cuts the last file of a queue to `len` bytes, as an opening orders it.
+    ///
+    /// # Errors
+    ///
+    /// Those of [`Files::truncate`], as `Io` with the file.
+    fn cut_last(&self, queue: Queue, len: u64) -> Result<()> {
         let (file, _) = self.last(queue)?;
         let cut = self.engine.files.truncate(file, len);
         cut.map_err(|e| Error::system("the file can't be cut", e).at(file, len))?;
-        locks::lock(&self.engine.numbers).cut(queue, len);
+        locks::lock(&self.engine.numbers).note_cut(queue, len);
         let recovered = &self.engine.recovered;
         for cut in recovered.cuts().filter(|cut| cut.file == file) {
             self.engine.events.note(Event::Cut(cut.clone()));
@@ -173,8 +197,12 @@ impl<F: Files> Turn<'_, F> {
     }
 
     /// Returns the last file of a queue, and how many bytes it has.
+    ///
+    /// # Errors
+    ///
+    /// `Failed` where the queue has none.
     fn last(&self, queue: Queue) -> Result<(FileId, u64)> {
         let last = locks::lock(&self.engine.numbers).last(queue);
-        last.ok_or_else(Error::failed)
+        last.ok_or_else(Error::of_emptied)
     }
 }

@@ -63,11 +63,7 @@ struct Place {
 }
 
 impl Pairs {
-    /// Makes one of pairs in order.
-    ///
-    /// # Errors
-    ///
-    /// `Memory`.
+    /// Makes one of pairs in order. The only error is `Memory`.
     pub(super) fn of(packed: PackedPairs) -> Result<Pairs> {
         let PackedPairs { lens, bytes } = packed;
         let mut places = Vec::new();
@@ -116,7 +112,7 @@ impl Pairs {
         })
     }
 
-    /// Copies a pair.
+    /// Returns copies of the key and the value at a place.
     fn pair(&self, place: Place) -> (Vec<u8>, Vec<u8>) {
         let [key, value] = [place.key, place.value].map(|range| self.bytes[range].to_vec());
         (key, value)
@@ -171,7 +167,7 @@ pub(super) fn ends_of<'a>(range: &impl RangeBounds<&'a [u8]>) -> (Vec<u8>, Optio
     (start, end)
 }
 
-/// Returns the least key above a key.
+/// Returns the least key above a key: the same with a zero byte behind.
 fn after(key: &[u8]) -> Vec<u8> {
     [key, &[0]].concat()
 }

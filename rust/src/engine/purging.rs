@@ -78,14 +78,19 @@ impl<F: Files> Engine<F> {
     ///
     /// `Memory`, `Failed`.
     pub fn needs_purge(&self) -> Result<bool> {
-        self.readable()?;
+        self.check_readable()?;
         Ok(self.gate_due().is_some()
             || self.has_needless_file(Queue::Append)?
             || self.has_needless_file(Queue::Rewrite)?
             || self.is_moving_again_due()?)
     }
 
-    /// Deletes the files that no table needs.
+    /// Deletes the files of both queues that no table needs, and says how many files and bytes.
+    ///
+    /// # Errors
+    ///
+    /// `Failed`, `Io`, `Memory`; `Full` where the rewrite queue is to be told 2^56 bytes or more
+    /// before, or its last file has more than 2^63. Some files may then be deleted.
     fn delete_files(&self) -> Result<Purged> {
         self.tell_after(|| {
             let turn = self.turn()?;
@@ -114,6 +119,10 @@ impl<F: Files> Engine<F> {
     }
 
     /// Tests whether no table needs the oldest file of a queue, which isn't its last one.
+    ///
+    /// # Errors
+    ///
+    /// `Memory`.
     fn has_needless_file(&self, queue: Queue) -> Result<bool> {
         let Some(oldest) = self.oldest_closed_file(queue) else {
             return Ok(false);
@@ -125,6 +134,10 @@ impl<F: Files> Engine<F> {
     }
 
     /// Returns the regions that need the oldest append file, if there is another one behind it.
+    ///
+    /// # Errors
+    ///
+    /// `Memory`.
     fn holders(&self) -> Result<Vec<Holder>> {
         let Some(oldest) = self.oldest_closed_file(Queue::Append) else {
             return Ok(Vec::new());
@@ -160,6 +173,10 @@ impl<F: Files> Engine<F> {
     }
 
     /// Tests whether the rewrite queue has too many bytes, and too many of them aren't needed.
+    ///
+    /// # Errors
+    ///
+    /// `Memory`.
     fn is_moving_again_due(&self) -> Result<bool> {
         let (bytes, needed) = {
             let numbers = locks::lock(&self.numbers);
@@ -174,6 +191,10 @@ impl<F: Files> Engine<F> {
     }
 
     /// Counts the bytes that tables need of the rewrite queue, and notes how many these are.
+    ///
+    /// # Errors
+    ///
+    /// `Memory`.
     fn needed_rewritten(&self) -> Result<u64> {
         let regions = self.tables().regions()?;
         let needed = regions.into_iter().try_fold(0, |sum, region| {
@@ -184,7 +205,8 @@ impl<F: Files> Engine<F> {
     }
 }
 
-/// Returns how many bytes a region's entries have in rewrite files, and all its keys with their values, which may stand there.
+/// Returns how many bytes a region's entries have in rewrite files, and all its keys with their
+/// values, which may stand there. The only error is `Memory`.
 fn rewritten_in(tables: &mut EngineHandle, region: u64) -> Result<u64> {
     let entries = places(tables, region, &(..), None)?;
     let rewritten = entries
@@ -195,7 +217,7 @@ fn rewritten_in(tables: &mut EngineHandle, region: u64) -> Result<u64> {
     Ok(rewritten.sum::<u64>() + of_pairs)
 }
 
-/// Tests whether a region needs a file.
+/// Tests whether a region needs a file, or an older one of its queue.
 fn holds(tables: &mut EngineHandle, region: u64, file: FileId) -> bool {
     let oldest = tables.summary(region).and_then(|summary| match file.queue {
         Queue::Append => summary.append_seq,

@@ -293,21 +293,29 @@ impl<F: Files> Engine<F> {
         read(&self.look_up(&find)?)
     }
 
-    /// Makes a call that reads the tables.
+    /// Makes a call that reads the tables, under their lock.
+    ///
+    /// # Errors
+    ///
+    /// `Failed` where they can't be read; those of the call.
     fn look_up<T>(&self, call: impl FnOnce(&mut EngineHandle) -> Result<T>) -> Result<T> {
-        self.readable()?;
+        self.check_readable()?;
         call(&mut self.tables())
     }
 }
 
-/// Finds the places of the entries of a range.
+/// Returns the entries of a range with their places, in order, up to a maximal size in bytes.
+///
+/// # Errors
+///
+/// `EntryCompacted` or `EntryNotFound` where the range isn't there, `Memory`.
 pub(super) fn places(
     tables: &mut EngineHandle,
     region: u64,
     range: &impl RangeBounds<u64>,
     max_size: Option<u64>,
 ) -> Result<Vec<Entry>> {
-    match closed(tables, region, range) {
+    match closed_range(tables, region, range) {
         Some(range) => tables
             .entries(region, range.clone(), max_size)
             .map_err(|e| missing(e, region, &range)),
@@ -328,7 +336,7 @@ fn missing(refused: Error, region: u64, range: &Range<u64>) -> Error {
 }
 
 /// Closes those bounds of a range of indexes that are open, and returns the range, unless it is empty.
-fn closed(
+fn closed_range(
     tables: &mut EngineHandle,
     region: u64,
     range: &impl RangeBounds<u64>,

@@ -24,7 +24,7 @@ struct Line {
 pub(super) struct Having<'a>(&'a Turns);
 
 impl Turns {
-    /// Waits for a turn.
+    /// Waits until nobody else has the turn, and takes it.
     pub(super) fn take(&self) -> Having<'_> {
         let mut line = locks::lock(&self.line);
         let number = line.next;

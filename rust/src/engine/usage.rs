@@ -83,7 +83,7 @@ impl<F: Files> Engine<F> {
     ///
     /// `Memory`, `Failed`.
     pub fn usage(&self) -> Result<Usage> {
-        self.readable()?;
+        self.check_readable()?;
         let regions = self.tables().regions()?;
         let mut live = [0, 0];
         for region in regions {
@@ -103,7 +103,9 @@ impl<F: Files> Engine<F> {
     }
 }
 
-/// Returns how many bytes the records of a region have in the append files, and in the rewrite files.
+/// Returns how many bytes the records of a region have in the append files, and in the rewrite
+/// files. Its keys with their values all count for the rewrite files where the region has anything
+/// there, and else for the append files. The only error is `Memory`.
 fn live_in(tables: &mut EngineHandle, region: u64) -> Result<[u64; 2]> {
     let mut live = [0, 0];
     for entry in super::reading::places(tables, region, &(..), None)? {

@@ -56,9 +56,13 @@ impl<F: Files> Engine<F> {
         self.write_in_turn(&mut LogBatch::new()?, true)
     }
 
-    /// Hands in a batch, and waits until a thread has written it.
+    /// Hands in a batch, and waits until a thread has written it, this one or another.
+    ///
+    /// # Errors
+    ///
+    /// Those of [`Engine::write`].
     fn write_in_turn(&self, batch: &mut LogBatch, sync: bool) -> Result<()> {
-        self.intact()?;
+        self.check_intact()?;
         self.tell_after(|| self.commits.write(batch, sync, |group| self.lead(group)))
     }
 
@@ -81,7 +85,7 @@ impl<F: Files> Engine<F> {
             }
             Ok(())
         });
-        locks::lock(&self.numbers).batches += group.written();
+        locks::lock(&self.numbers).batches += group.count_written();
         if written.is_err() {
             return group.end(&written);
         }

@@ -67,7 +67,11 @@ impl LogBatch {
         self.add_packed(region, first)
     }
 
-    /// Adds the entries that were packed.
+    /// Adds the entries that were packed, the first of them at the index `first`.
+    ///
+    /// # Errors
+    ///
+    /// Those of [`LogBatch::add_entries`]. The batch is then as it was.
     fn add_packed(&mut self, region: u64, first: u64) -> Result<()> {
         let count = self.room.len() as u64;
         self.add_run(region, first, count, |batch| {
@@ -77,7 +81,11 @@ impl LogBatch {
         Ok(())
     }
 
-    /// Makes a call that adds so many entries, and notes them.
+    /// Makes a call that adds so many entries, and notes what they look like.
+    ///
+    /// # Errors
+    ///
+    /// Those of the call, and then nothing is noted.
     fn add_run(
         &mut self,
         region: u64,

@@ -50,17 +50,17 @@ impl Shapes {
         self.0.try_reserve(more.len()).map_err(|_| Error::memory())
     }
 
-    /// Notes an item.
+    /// Notes that an item of this shape was added behind the others.
     pub(super) fn note(&mut self, region: u64, shape: Shape) {
         self.0.push((region, shape));
     }
 
-    /// Moves those of another batch here.
+    /// Moves the shapes of another batch's items behind these.
     pub(super) fn append(&mut self, more: &mut Shapes) {
         self.0.append(&mut more.0);
     }
 
-    /// Forgets all.
+    /// Forgets all items.
     pub(super) fn clear(&mut self) {
         self.0.clear();
     }
@@ -80,7 +80,7 @@ impl Shapes {
                 .entry(*region)
                 .or_insert_with(|| extent_of(summary(*region)));
             let misfit = shape.misfit(now);
-            *now = shape.applied_to(now);
+            *now = shape.extent_after(now);
             misfit.map(|index| (item, *region, index))
         })
     }
@@ -98,8 +98,8 @@ impl Shape {
         }
     }
 
-    /// Returns the extent that the item leaves.
-    fn applied_to(self, extent: &Extent) -> Extent {
+    /// Returns the extent of a region's entries that the item leaves of this one.
+    fn extent_after(self, extent: &Extent) -> Extent {
         let extent = extent.clone();
         let kept = match self {
             Shape::Run { first, end } => Some(extent.map_or(first, |extent| extent.start)..end),

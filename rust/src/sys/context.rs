@@ -1,6 +1,6 @@
 //! The handle of a context.
 
-use super::{File, Handle, Status, TablesHandle, checked, remembered};
+use super::{File, Handle, Status, TablesHandle, check_call, memory_result};
 use crate::{FilePart, Kept, Queue, Result};
 use std::cell::Cell;
 use std::mem;
@@ -17,7 +17,11 @@ struct KeptNumbers {
 }
 
 unsafe extern "C" {
+    /// Makes a context that has read nothing.
     fn raft_ffi_context_new(context: *mut Handle) -> u32;
+    /// Replays the batches of bytes that stand in the file from `offset` on. Where that is refused
+    /// the context is gone: it may have taken in some of them. The status is 12 where the context
+    /// doesn't read on.
     fn raft_ffi_context_replay(
         context: *mut Handle,
         file: File,
@@ -27,6 +31,8 @@ unsafe extern "C" {
         text: *mut u8,
         text_len: usize,
     ) -> Status;
+    /// Takes in the context of the batches that follow. That one is gone then, and where it is
+    /// refused both are.
     fn raft_ffi_context_merge(
         context: *mut Handle,
         newer: Handle,
@@ -34,24 +40,29 @@ unsafe extern "C" {
         text: *mut u8,
         text_len: usize,
     ) -> Status;
+    /// Takes in the context of the append queue; the other one is that of the rewrite queue. That
+    /// one is gone then, and where it is refused both are.
     fn raft_ffi_context_overlay(
         context: *mut Handle,
         append: Handle,
         text: *mut u8,
         text_len: usize,
     ) -> Status;
+    /// Says how much a context holds. The number is 12 where it was refused something.
     fn raft_ffi_context_kept(
         context: *mut Handle,
         kept: *mut KeptNumbers,
         text: *mut u8,
         text_len: usize,
     ) -> Status;
+    /// Makes the tables of a context, which is gone then, also where that is refused.
     fn raft_ffi_context_finish(
         context: Handle,
         tables: *mut Handle,
         text: *mut u8,
         text_len: usize,
     ) -> Status;
+    /// Frees the context.
     fn raft_ffi_context_drop(context: Handle);
 }
 
@@ -63,28 +74,32 @@ pub(crate) struct ContextHandle(Handle);
 unsafe impl Send for ContextHandle {}
 
 impl ContextHandle {
-    /// Holds a context that has read nothing.
+    /// Makes a context that has read nothing. The only error is `Memory`.
     pub(crate) fn new() -> Result<ContextHandle> {
         let mut handle = Handle::EMPTY;
         // SAFETY: `empty`: the handle is empty.
-        remembered(unsafe { raft_ffi_context_new(&mut handle) })?;
+        memory_result(unsafe { raft_ffi_context_new(&mut handle) })?;
         Ok(ContextHandle(handle))
     }
 
-    /// Gives the library's handle away.
+    /// Gives the library's handle away, which is to be freed by someone else.
     pub(super) fn into_raw(self) -> Handle {
         let handle = self.0;
         mem::forget(self);
         handle
     }
 
-    /// Replays a part.
+    /// Replays the batches of a part.
+    ///
+    /// # Errors
+    ///
+    /// The refusal of the first batch that is refused. The context is then gone.
     pub(crate) fn replay(self, part: FilePart<'_>) -> Result<ContextHandle> {
         part.check()?;
         let mut handle = self.into_raw();
         // SAFETY: `held`, `ends`: the handle holds a context, and the bytes end where an offset can. After a refusal
         // the handle is empty.
-        checked(|text, text_len| unsafe {
+        check_call(|text, text_len| unsafe {
             raft_ffi_context_replay(
                 &mut handle,
                 part.file.into(),
@@ -99,32 +114,44 @@ impl ContextHandle {
     }
 
     /// Takes in the context of the batches that follow.
+    ///
+    /// # Errors
+    ///
+    /// Those of [`Context::merge`](crate::Context::merge). Both contexts are then gone.
     pub(crate) fn merge(self, newer: ContextHandle, queue: Queue) -> Result<ContextHandle> {
         let (mut handle, newer) = (self.into_raw(), newer.into_raw());
         // SAFETY: `held`, `newer`: both handles hold a context, and the newer one is given away. After a refusal the
         // other one is empty.
-        checked(|text, text_len| unsafe {
+        check_call(|text, text_len| unsafe {
             raft_ffi_context_merge(&mut handle, newer, queue == Queue::Rewrite, text, text_len)
         })?;
         Ok(ContextHandle(handle))
     }
 
-    /// Takes in the context of the append queue.
+    /// Takes in the context of the append queue over this one, that of the rewrite queue.
+    ///
+    /// # Errors
+    ///
+    /// Those of the library. Both contexts are then gone.
     pub(crate) fn overlay(self, append: ContextHandle) -> Result<ContextHandle> {
         let (mut handle, append) = (self.into_raw(), append.into_raw());
         // SAFETY: `held`, `append`: both handles hold a context, and the second one is given away. After a refusal
         // the first one is empty.
-        checked(|text, text_len| unsafe {
+        check_call(|text, text_len| unsafe {
             raft_ffi_context_overlay(&mut handle, append, text, text_len)
         })?;
         Ok(ContextHandle(handle))
     }
 
-    /// Says how much the context holds.
-    pub(crate) fn kept(&mut self) -> Result<Kept> {
+    /// Counts what the context holds.
+    ///
+    /// # Errors
+    ///
+    /// `Failed` after a refusal.
+    pub(crate) fn count_kept(&mut self) -> Result<Kept> {
         let mut kept = KeptNumbers::default();
         // SAFETY: `held`: the handle holds a context, before and after.
-        checked(|text, text_len| unsafe {
+        check_call(|text, text_len| unsafe {
             raft_ffi_context_kept(&mut self.0, &mut kept, text, text_len)
         })?;
         Ok(Kept {
@@ -137,12 +164,16 @@ impl ContextHandle {
         })
     }
 
-    /// Makes the tables.
+    /// Makes the tables of what was read.
+    ///
+    /// # Errors
+    ///
+    /// `Failed` after a refusal, `Memory`. The context is then gone.
     pub(crate) fn finish(self) -> Result<TablesHandle> {
         let context = self.into_raw();
         let mut handle = Handle::EMPTY;
         // SAFETY: `held`, `empty`: the one handle holds a context, which is given away, and the other one is empty.
-        checked(|text, text_len| unsafe {
+        check_call(|text, text_len| unsafe {
             raft_ffi_context_finish(context, &mut handle, text, text_len)
         })?;
         Ok(TablesHandle(Cell::new(handle)))

@@ -11,8 +11,8 @@ use super::engine_calls::{
     raft_ffi_engine_value, raft_ffi_engine_write,
 };
 use super::{
-    EntryNumbers, Handle, LogBatchHandle, PackedPairs, Status, SummaryNumbers, checked, entries,
-    listed, listed_in, make_room, packed_pairs, remembered,
+    EntryNumbers, Handle, LogBatchHandle, PackedPairs, Status, SummaryNumbers, check_call, entries,
+    list, list_in, make_room, memory_result, packed_pairs,
 };
 use crate::{Block, Entry, FileId, Queue, Result, Summary};
 use std::mem;
@@ -63,22 +63,36 @@ impl EngineHandle {
         unsafe { raft_ffi_engine_is_intact(&mut self.handle) }
     }
 
-    /// Writes an open batch, which is empty afterwards.
+    /// Writes an open batch to the tables, which order its bytes of the files. The batch is empty
+    /// then.
+    ///
+    /// # Errors
+    ///
+    /// `InvalidArgument` for a batch that isn't open, and those of the library. The batch is then
+    /// as it was, unless the engine isn't intact any more.
     pub(crate) fn write(&mut self, batch: &mut LogBatchHandle) -> Result<()> {
         batch.check_open()?;
         // SAFETY: `held`, `batch`, `open`: the handles hold an engine and an open batch.
-        checked(|text, text_len| unsafe {
+        check_call(|text, text_len| unsafe {
             raft_ffi_engine_write(&mut self.handle, batch.as_ptr(), false, text, text_len)
         })
     }
 
     /// Orders a sync of the append queue, so that all that was written lasts.
+    ///
+    /// # Errors
+    ///
+    /// `Failed`; `Full` or `Memory` where no further order can be kept.
     pub(crate) fn sync(&mut self) -> Result<()> {
         // SAFETY: `held`: the handle holds an engine.
         self.call(|engine, text, text_len| unsafe { raft_ffi_engine_sync(engine, text, text_len) })
     }
 
-    /// Begins an append file.
+    /// Orders that the next append file is begun.
+    ///
+    /// # Errors
+    ///
+    /// `Failed`, `Full` where no number is left, `Memory`.
     pub(crate) fn rotate(&mut self) -> Result<()> {
         // SAFETY: `held`: the handle holds an engine.
         self.call(|engine, text, text_len| unsafe {
@@ -86,7 +100,13 @@ impl EngineHandle {
         })
     }
 
-    /// Moves what append files up to the gate have, as far as its blocks are lent.
+    /// Moves what append files up to the gate have to the rewrite queue, and lets go of the lent
+    /// blocks.
+    ///
+    /// # Errors
+    ///
+    /// `TryAgain` where a block isn't lent, and those of the library. Some regions may then have
+    /// moved.
     pub(crate) fn rewrite(&mut self, gate: u64) -> Result<()> {
         // SAFETY: `held`: the handle holds an engine.
         self.call(|engine, text, text_len| unsafe {
@@ -94,7 +114,12 @@ impl EngineHandle {
         })
     }
 
-    /// Moves what rewrite files have to a new one, as far as its blocks are lent.
+    /// Moves what rewrite files have to a new one, and lets go of the lent blocks.
+    ///
+    /// # Errors
+    ///
+    /// `TryAgain` where a block isn't lent, and those of the library. Some regions may then have
+    /// moved.
     pub(crate) fn rewrite_again(&mut self) -> Result<()> {
         // SAFETY: `held`: the handle holds an engine.
         self.call(|engine, text, text_len| unsafe {
@@ -102,7 +127,12 @@ impl EngineHandle {
         })
     }
 
-    /// Deletes the append files that no table needs.
+    /// Orders that the append files go that no table needs, and returns how many.
+    ///
+    /// # Errors
+    ///
+    /// `Failed`; `Full` where what is to be told before has 2^56 bytes or more, or the last rewrite
+    /// file more than 2^63; `Memory`.
     pub(crate) fn purge_expired_files(&mut self) -> Result<usize> {
         let mut count = 0;
         // SAFETY: `held`: the handle holds an engine.
@@ -112,7 +142,12 @@ impl EngineHandle {
         Ok(count)
     }
 
-    /// Deletes the rewrite files that no table needs.
+    /// Orders that the rewrite files go that no table needs, and returns how many.
+    ///
+    /// # Errors
+    ///
+    /// `Failed`; `Full` where what is to be told before has 2^56 bytes or more, or the last rewrite
+    /// file more than 2^63; `Memory`.
     pub(crate) fn purge_rewrite_files(&mut self) -> Result<usize> {
         let mut count = 0;
         // SAFETY: `held`: the handle holds an engine.
@@ -123,11 +158,16 @@ impl EngineHandle {
     }
 
     /// Makes a call that asks nothing but an engine.
+    ///
+    /// # Errors
+    ///
+    /// The refusal.
     fn call(&mut self, call: impl FnOnce(*mut Handle, *mut u8, usize) -> Status) -> Result<()> {
-        checked(|text, text_len| call(&mut self.handle, text, text_len))
+        check_call(|text, text_len| call(&mut self.handle, text, text_len))
     }
 
-    /// Takes all orders, in order. Bytes that follow one another in a queue come in one.
+    /// Takes all orders, in order. Bytes that follow one another in a queue come in one. The only
+    /// error is `Memory`.
     pub(crate) fn take_orders(&mut self) -> Result<Vec<Order>> {
         let mut orders = Vec::new();
         let mut none = Vec::new();
@@ -156,7 +196,8 @@ impl EngineHandle {
         }
     }
 
-    /// Takes the oldest order, if there is one, and puts its bytes behind these.
+    /// Takes the oldest order, if there is one, and puts its bytes behind these. The only error is
+    /// `Memory`. The order is then not taken.
     fn take_order(&mut self, bytes: &mut Vec<u8>) -> Result<Option<OrderNumbers>> {
         let len = bytes.len();
         loop {
@@ -188,16 +229,16 @@ impl EngineHandle {
         }
     }
 
-    /// Lists the blocks that a rewriting up to the gate, or one of rewritten records, reads: those of whole regions, up to
-    /// this many bytes.
+    /// Lists the blocks that a rewriting up to the gate, or one of rewritten records, reads: those
+    /// of whole regions, until they have `max_size` bytes. The only error is `Memory`.
     pub(crate) fn moving_blocks(
         &mut self,
         gate: Option<u64>,
         max_size: usize,
     ) -> Result<Vec<Block>> {
-        let places = listed(|room, len, count| {
+        let places = list(|room, len, count| {
             // SAFETY: `held`: the handle holds an engine.
-            remembered(unsafe {
+            memory_result(unsafe {
                 raft_ffi_engine_moving_blocks(
                     &mut self.handle,
                     gate.into(),
@@ -211,11 +252,12 @@ impl EngineHandle {
         Ok(places.into_iter().map(Block::from).collect())
     }
 
-    /// Lends the bytes of a block to the next call.
+    /// Lends the bytes of a block to the next call that moves records. They are copied. The only
+    /// error is `Memory`.
     pub(crate) fn lend(&mut self, block: Block, bytes: &[u8]) -> Result<()> {
         let is_rewrite = block.file.queue == Queue::Rewrite;
         // SAFETY: `held`: the handle holds an engine.
-        remembered(unsafe {
+        memory_result(unsafe {
             raft_ffi_engine_lend(
                 &mut self.handle,
                 is_rewrite,
@@ -227,12 +269,12 @@ impl EngineHandle {
         })
     }
 
-    /// Finds the value of a key.
+    /// Returns the value of a region's key, `None` where it has none. The only error is `Memory`.
     pub(crate) fn value(&mut self, region: u64, key: &[u8]) -> Result<Option<Vec<u8>>> {
         let mut is_found = false;
         let mut room = Vec::new();
         make_room(&mut room, MOST_VALUES)?;
-        let value = listed_in(room, |room, len, count| {
+        let value = list_in(room, |room, len, count| {
             // SAFETY: `held`: the handle holds an engine.
             is_found = unsafe {
                 raft_ffi_engine_value(
@@ -250,7 +292,8 @@ impl EngineHandle {
         Ok(is_found.then_some(value))
     }
 
-    /// Lists the keys from one on and below another, if that is there, with their values.
+    /// Lists the keys of a region from `start` on and, with an `end`, below it, with their values,
+    /// in order. The only error is `Memory`.
     pub(crate) fn scan(
         &mut self,
         region: u64,
@@ -260,7 +303,7 @@ impl EngineHandle {
         let (is_bounded, end) = (end.is_some(), end.unwrap_or_default());
         packed_pairs(|lens, lens_len, count, bytes, bytes_len, len| {
             // SAFETY: `held`: the handle holds an engine.
-            remembered(unsafe {
+            memory_result(unsafe {
                 raft_ffi_engine_scan(
                     &mut self.handle,
                     region,
@@ -280,7 +323,7 @@ impl EngineHandle {
         })
     }
 
-    /// Finds what a region's table has.
+    /// Returns what a region's table has, `None` where there is none.
     pub(crate) fn summary(&mut self, region: u64) -> Option<Summary> {
         let mut summary = SummaryNumbers::default();
         // SAFETY: `held`: the handle holds an engine.
@@ -288,7 +331,7 @@ impl EngineHandle {
         is_found.then(|| summary.into())
     }
 
-    /// Finds the least index of a region's entries.
+    /// Returns the least index of a region's entries, `None` without entries.
     pub(crate) fn first_index(&mut self, region: u64) -> Option<u64> {
         let mut index = 0;
         // SAFETY: `held`: the handle holds an engine.
@@ -296,7 +339,7 @@ impl EngineHandle {
         is_found.then_some(index)
     }
 
-    /// Finds the greatest index of a region's entries.
+    /// Returns the greatest index of a region's entries, `None` without entries.
     pub(crate) fn last_index(&mut self, region: u64) -> Option<u64> {
         let mut index = 0;
         // SAFETY: `held`: the handle holds an engine.
@@ -304,7 +347,7 @@ impl EngineHandle {
         is_found.then_some(index)
     }
 
-    /// Finds an entry.
+    /// Returns where the entry of a region at an index is, `None` where none stands there.
     pub(crate) fn entry(&mut self, region: u64, index: u64) -> Option<Entry> {
         let mut entry = EntryNumbers::default();
         // SAFETY: `held`: the handle holds an engine.
@@ -313,16 +356,20 @@ impl EngineHandle {
         is_found.then(|| entry.into())
     }
 
-    /// Lists the entries of a range.
+    /// Lists the entries of a range, up to a maximal size in bytes.
+    ///
+    /// # Errors
+    ///
+    /// `EntryCompacted` or `EntryNotFound` where the range isn't there, `Memory`.
     pub(crate) fn entries(
         &mut self,
         region: u64,
         range: Range<u64>,
         max_size: Option<u64>,
     ) -> Result<Vec<Entry>> {
-        let list = listed(|room, len, count| {
+        let list = list(|room, len, count| {
             // SAFETY: `held`: the handle holds an engine.
-            checked(|text, text_len| unsafe {
+            check_call(|text, text_len| unsafe {
                 raft_ffi_engine_entries(
                     &mut self.handle,
                     region,
@@ -340,11 +387,11 @@ impl EngineHandle {
         Ok(entries(list))
     }
 
-    /// Lists the regions.
+    /// Lists the regions that have a table, in rising order. The only error is `Memory`.
     pub(crate) fn regions(&mut self) -> Result<Vec<u64>> {
-        listed(|room, len, count| {
+        list(|room, len, count| {
             // SAFETY: `held`: the handle holds an engine.
-            remembered(unsafe { raft_ffi_engine_regions(&mut self.handle, room, len, count) })
+            memory_result(unsafe { raft_ffi_engine_regions(&mut self.handle, room, len, count) })
         })
     }
 
@@ -381,11 +428,16 @@ fn queue_of(is_rewrite: bool) -> Queue {
     }
 }
 
-/// Tests the checksum of an entry block, and returns how many of its bytes are entry bytes.
+/// Tests the checksum of a whole entry block, and returns how many of its bytes, from the first on,
+/// are entry bytes: none of one without bytes.
+///
+/// # Errors
+///
+/// `Corruption` where it has one to four bytes, or the checksum is another; `Memory`.
 pub(crate) fn block_entries(bytes: &[u8]) -> Result<usize> {
     let mut len = 0;
     // SAFETY: the bytes are lent for the call.
-    checked(|text, text_len| unsafe {
+    check_call(|text, text_len| unsafe {
         raft_ffi_block_entries(bytes.as_ptr(), bytes.len(), &mut len, text, text_len)
     })?;
     Ok(len)

@@ -3,7 +3,7 @@
 use super::engine_calls::{
     TailNumbers, raft_ffi_engine_open, raft_ffi_found_add, raft_ffi_found_drop, raft_ffi_found_new,
 };
-use super::{ContextHandle, EngineHandle, Handle, TEXT_LEN, checked, refused, remembered};
+use super::{ContextHandle, EngineHandle, Handle, TEXT_LEN, check_call, memory_result, refusal_of};
 use crate::{CutTail, FileId, Queue, Recovered, RecoveryMode, Result, Version};
 use std::mem;
 
@@ -15,19 +15,20 @@ pub(crate) struct FoundHandle(Handle);
 unsafe impl Send for FoundHandle {}
 
 impl FoundHandle {
-    /// Holds no files.
+    /// Makes found files, of which there are none yet. The only error is `Memory`.
     pub(crate) fn new() -> Result<FoundHandle> {
         let mut handle = Handle::EMPTY;
         // SAFETY: `empty`: the handle is empty.
-        remembered(unsafe { raft_ffi_found_new(&mut handle) })?;
+        memory_result(unsafe { raft_ffi_found_new(&mut handle) })?;
         Ok(FoundHandle(handle))
     }
 
-    /// Adds the file that comes next in its queue.
+    /// Adds a copy of the file that comes next in its queue. The only error is `Memory`. The files
+    /// are then as they were.
     pub(crate) fn add(&mut self, file: FileId, bytes: &[u8]) -> Result<()> {
         let is_rewrite = file.queue == Queue::Rewrite;
         // SAFETY: `held`: the handle holds files.
-        remembered(unsafe {
+        memory_result(unsafe {
             raft_ffi_found_add(
                 &mut self.0,
                 is_rewrite,
@@ -38,8 +39,12 @@ impl FoundHandle {
         })
     }
 
-    /// Opens an engine over the files, of which the contexts have read all batches, up to where the last ones can't be read, and
-    /// tells what was cut off.
+    /// Opens an engine over the files, of which the contexts have read all batches, up to where the
+    /// last ones can't be read, and tells what was cut off.
+    ///
+    /// # Errors
+    ///
+    /// Those of the library. Files and contexts are then gone, and nothing was ordered.
     pub(crate) fn open(
         self,
         rewritten: ContextHandle,
@@ -53,7 +58,7 @@ impl FoundHandle {
         let (rewritten, appended) = (rewritten.into_raw(), appended.into_raw());
         let is_signed = version == Version::V2;
         // SAFETY: `empty`, `read`: the one handle is empty, and the others hold something, which is given away.
-        checked(|text, text_len| unsafe {
+        check_call(|text, text_len| unsafe {
             raft_ffi_engine_open(
                 &mut handle,
                 found,
@@ -78,7 +83,7 @@ impl FoundHandle {
         Ok((EngineHandle::of(handle), recovered))
     }
 
-    /// Gives the library's handle away.
+    /// Gives the library's handle away, which is to be freed by someone else.
     fn into_raw(self) -> Handle {
         let handle = self.0;
         mem::forget(self);
@@ -102,11 +107,11 @@ impl Default for Tail {
 }
 
 impl Tail {
-    /// Returns what is told, if a tail was cut off.
+    /// Returns what is told of the tail, if one was cut off.
     fn into_cut(self, queue: Queue) -> Option<CutTail> {
         let numbers = self.numbers.is_some.then_some(self.numbers)?;
         let file = FileId::new(queue, numbers.seq);
-        let reason = refused(numbers.code, numbers.text_len, &self.reason);
+        let reason = refusal_of(numbers.code, numbers.text_len, &self.reason);
         Some(CutTail {
             file,
             offset: numbers.offset,
@@ -116,7 +121,7 @@ impl Tail {
     }
 }
 
-/// Returns the library's number of a mode.
+/// Returns the number that the library has for a mode.
 fn number_of(mode: RecoveryMode) -> u32 {
     match mode {
         RecoveryMode::AbsoluteConsistency => 0,

@@ -1,6 +1,6 @@
 //! The handle of the items of a batch.
 
-use super::{EntryNumbers, File, Handle, Status, checked, entries, found, with};
+use super::{EntryNumbers, File, Handle, Status, check_call, entries, list_found, with};
 use crate::{Content, Entry, FilePart, Item, Result};
 use std::cell::Cell;
 use std::mem;
@@ -14,6 +14,8 @@ struct ItemHead {
 }
 
 unsafe extern "C" {
+    /// Reads the items of the log batch that stands at `at` in the bytes, and says where the next
+    /// batch begins; nothing at the end.
     fn raft_ffi_items_next(
         items: *mut Handle,
         file: File,
@@ -25,8 +27,12 @@ unsafe extern "C" {
         text: *mut u8,
         text_len: usize,
     ) -> Status;
+    /// Returns how many items there are.
     fn raft_ffi_items_len(items: *mut Handle) -> usize;
+    /// Finds what an item says, if there is one.
     fn raft_ffi_items_head(items: *mut Handle, i: usize, head: *mut ItemHead) -> bool;
+    /// Lists the entries of an item, if it has some, as far as there is room, and says how many
+    /// they are.
     fn raft_ffi_items_entries(
         items: *mut Handle,
         i: usize,
@@ -34,6 +40,8 @@ unsafe extern "C" {
         entries_len: usize,
         count: *mut usize,
     ) -> bool;
+    /// Finds the key of an item, if it changes one: as much of it as there is room for, and how
+    /// long it is.
     fn raft_ffi_items_key(
         items: *mut Handle,
         i: usize,
@@ -41,6 +49,8 @@ unsafe extern "C" {
         key_len: usize,
         len: *mut usize,
     ) -> bool;
+    /// Finds the value of an item, if it puts one: as much of it as there is room for, and how long
+    /// it is.
     fn raft_ffi_items_value(
         items: *mut Handle,
         i: usize,
@@ -48,6 +58,7 @@ unsafe extern "C" {
         value_len: usize,
         len: *mut usize,
     ) -> bool;
+    /// Frees the items.
     fn raft_ffi_items_drop(items: Handle);
 }
 
@@ -59,7 +70,12 @@ pub(crate) struct ItemsHandle(pub(super) Cell<Handle>);
 unsafe impl Send for ItemsHandle {}
 
 impl ItemsHandle {
-    /// Reads the batch that stands at `at` in a part, and says where the next one begins; nothing at the end.
+    /// Reads the batch that stands at `at` in a part, and says where the next one begins; nothing
+    /// at the end.
+    ///
+    /// # Errors
+    ///
+    /// The reason why no batch can be read there, with its place; `Memory`.
     pub(crate) fn next(part: FilePart<'_>, at: usize) -> Result<Option<(ItemsHandle, usize)>> {
         part.check()?;
         assert!(at <= part.bytes.len(), "no batch stands behind the end");
@@ -68,7 +84,7 @@ impl ItemsHandle {
         }
         let (mut handle, mut next) = (Handle::EMPTY, at);
         // SAFETY: `empty`, `inside`, `ends`: the handle is empty, `at` is within the bytes, and these end where an offset can.
-        checked(|text, text_len| unsafe {
+        check_call(|text, text_len| unsafe {
             raft_ffi_items_next(
                 &mut handle,
                 part.file.into(),
@@ -85,25 +101,25 @@ impl ItemsHandle {
         Ok(Some((ItemsHandle(Cell::new(handle)), next)))
     }
 
-    /// Gives the library's handle away.
+    /// Gives the library's handle away, which is to be freed by someone else.
     pub(super) fn into_raw(self) -> Handle {
         let handle = self.0.get();
         mem::forget(self);
         handle
     }
 
-    /// Counts the items.
+    /// Returns how many items there are.
     pub(crate) fn len(&self) -> usize {
         // SAFETY: `held`: the handle holds items.
         with(&self.0, |items| unsafe { raft_ffi_items_len(items) })
     }
 
-    /// Finds the region of an item.
+    /// Returns the region of the item at a position, `None` behind the last one.
     pub(crate) fn region(&self, i: usize) -> Option<u64> {
         Some(self.head(i)?.region)
     }
 
-    /// Returns the item at a position, unless it is behind the last one.
+    /// Returns the item at a position, copied out of the library; `None` behind the last one.
     pub(crate) fn item(&self, i: usize) -> Option<Item> {
         let head = self.head(i)?;
         let index = head.number;
@@ -123,7 +139,7 @@ impl ItemsHandle {
         })
     }
 
-    /// Finds what an item says, without its lists.
+    /// Returns what the item at a position says, without its lists; `None` behind the last one.
     fn head(&self, i: usize) -> Option<ItemHead> {
         let mut head = ItemHead::default();
         // SAFETY: `held`: the handle holds items.
@@ -133,9 +149,9 @@ impl ItemsHandle {
         is_found.then_some(head)
     }
 
-    /// Lists the entries of an item that has some.
+    /// Returns the entries of an item that is known to have a list of them.
     fn entries(&self, i: usize) -> Vec<Entry> {
-        let list = found(|room, len, count| {
+        let list = list_found(|room, len, count| {
             // SAFETY: `held`: the handle holds items.
             with(&self.0, |items| unsafe {
                 raft_ffi_items_entries(items, i, room, len, count)
@@ -144,9 +160,9 @@ impl ItemsHandle {
         entries(list.expect("an item of entries has entries"))
     }
 
-    /// Finds the key of an item that changes one.
+    /// Returns the key of an item that is known to change one.
     fn key(&self, i: usize) -> Vec<u8> {
-        found(|room, len, count| {
+        list_found(|room, len, count| {
             // SAFETY: `held`: the handle holds items.
             with(&self.0, |items| unsafe {
                 raft_ffi_items_key(items, i, room, len, count)
@@ -155,9 +171,9 @@ impl ItemsHandle {
         .expect("a change of a key has a key")
     }
 
-    /// Finds the value of an item that puts one.
+    /// Returns the value of an item that is known to put one.
     fn value(&self, i: usize) -> Vec<u8> {
-        found(|room, len, count| {
+        list_found(|room, len, count| {
             // SAFETY: `held`: the handle holds items.
             with(&self.0, |items| unsafe {
                 raft_ffi_items_value(items, i, room, len, count)

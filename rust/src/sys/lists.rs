@@ -4,14 +4,22 @@ use crate::{Error, Pair, Result};
 use std::alloc::{Layout, handle_alloc_error};
 
 /// Lists what a call finds: it gets room, puts as much there as fits, and says how much there is.
-pub(super) fn listed<T: Copy + Default>(
+///
+/// # Errors
+///
+/// Those of the call, `Memory`.
+pub(super) fn list<T: Copy + Default>(
     call: impl FnMut(*mut T, usize, &mut usize) -> Result<()>,
 ) -> Result<Vec<T>> {
-    listed_in(Vec::new(), call)
+    list_in(Vec::new(), call)
 }
 
-/// Lists what a call finds, as [`listed`] does, by one call where this room is enough.
-pub(super) fn listed_in<T: Copy + Default>(
+/// Lists what a call finds, as [`list`] does, by one call where this room is enough.
+///
+/// # Errors
+///
+/// Those of the call, `Memory`.
+pub(super) fn list_in<T: Copy + Default>(
     mut room: Vec<T>,
     mut call: impl FnMut(*mut T, usize, &mut usize) -> Result<()>,
 ) -> Result<Vec<T>> {
@@ -35,11 +43,11 @@ pub(super) fn make_room<T: Copy + Default>(room: &mut Vec<T>, count: usize) -> R
 }
 
 /// Lists what a call finds, if it finds something. Without memory for the list the program ends, as where a `Vec` grows.
-pub(super) fn found<T: Copy + Default>(
+pub(super) fn list_found<T: Copy + Default>(
     mut call: impl FnMut(*mut T, usize, &mut usize) -> bool,
 ) -> Option<Vec<T>> {
     let mut is_found = false;
-    let list = listed(|room, len, count| {
+    let list = list(|room, len, count| {
         is_found = call(room, len, count);
         Ok(())
     });
@@ -59,6 +67,10 @@ pub(crate) struct PackedPairs {
 }
 
 /// Lists keys with their values, which a call finds as the length of each and the bytes of all.
+///
+/// # Errors
+///
+/// Those of the call, `Memory`.
 pub(super) fn packed_pairs(
     mut call: impl FnMut(*mut usize, usize, &mut usize, *mut u8, usize, &mut usize) -> Result<()>,
 ) -> Result<PackedPairs> {
@@ -83,6 +95,10 @@ pub(super) fn packed_pairs(
 }
 
 /// Lists keys with their values, as [`packed_pairs`] does, each as bytes of its own.
+///
+/// # Errors
+///
+/// Those of the call, `Memory`.
 pub(super) fn pairs(
     call: impl FnMut(*mut usize, usize, &mut usize, *mut u8, usize, &mut usize) -> Result<()>,
 ) -> Result<Vec<Pair>> {

@@ -1,14 +1,21 @@
 //! The handle of a batch that is written.
 
-use super::{File, Handle, ItemsHandle, Packed, Status, checked, listed, remembered, with};
+use super::{File, Handle, ItemsHandle, Packed, Status, check_call, list, memory_result, with};
 use crate::{Error, FileId, LogFile, Queue, Result, Stage};
 use std::cell::Cell;
 use std::mem;
 
 unsafe extern "C" {
+    /// Makes an open batch without items.
     fn raft_ffi_batch_new(batch: *mut Handle) -> u32;
+    /// Says how far a batch has come: 0 while it is open, 1 once its bytes are made, 2 once they
+    /// are signed.
     fn raft_ffi_batch_stage(batch: *mut Handle) -> u32;
+    /// Says about how many bytes a batch has or will have.
     fn raft_ffi_batch_size(batch: *mut Handle) -> usize;
+    /// Adds entries of a region to an open batch: their indexes rise by one from `first` on, and
+    /// the bytes are those of one after the other, each of which has so many as `lens` says. No
+    /// entries add nothing. Bytes behind the last string are not looked at.
     fn raft_ffi_batch_add_entries(
         batch: *mut Handle,
         region: u64,
@@ -20,9 +27,13 @@ unsafe extern "C" {
         text: *mut u8,
         text_len: usize,
     ) -> Status;
+    /// Adds to an open batch that all records of a region go.
     fn raft_ffi_batch_clean(batch: *mut Handle, region: u64) -> u32;
+    /// Adds to an open batch that the entries of a region below an index go.
     fn raft_ffi_batch_compact(batch: *mut Handle, region: u64, index: u64) -> u32;
+    /// Adds to an open batch that the entries of a region from an index on go.
     fn raft_ffi_batch_truncate(batch: *mut Handle, region: u64, index: u64) -> u32;
+    /// Adds to an open batch that a key of a region gets a value.
     fn raft_ffi_batch_put(
         batch: *mut Handle,
         region: u64,
@@ -33,26 +44,37 @@ unsafe extern "C" {
         text: *mut u8,
         text_len: usize,
     ) -> Status;
+    /// Adds to an open batch that a key of a region goes.
     fn raft_ffi_batch_delete(
         batch: *mut Handle,
         region: u64,
         key: *const u8,
         key_len: usize,
     ) -> u32;
+    /// Moves all items of another open batch to the end of an open one. The other one is then
+    /// empty.
     fn raft_ffi_batch_merge(
         batch: *mut Handle,
         more: *mut Handle,
         text: *mut u8,
         text_len: usize,
     ) -> Status;
+    /// Makes the bytes of an open batch, to which nothing is added from then on, and says how many
+    /// they are: none without items.
     fn raft_ffi_batch_finish(
         batch: *mut Handle,
         len: *mut usize,
         text: *mut u8,
         text_len: usize,
     ) -> Status;
+    /// Signs the bytes of a batch that is no longer open for a file. It may be repeated for other
+    /// files.
     fn raft_ffi_batch_sign(batch: *mut Handle, file: File);
+    /// Copies the bytes of a signed batch as far as there is room, and returns how many they are:
+    /// none without items.
     fn raft_ffi_batch_bytes(batch: *mut Handle, bytes: *mut u8, bytes_len: usize) -> usize;
+    /// Gives each entry and each key value of a signed batch its place: the batch was written to a
+    /// file, from `offset` on.
     fn raft_ffi_batch_written(
         batch: *mut Handle,
         is_rewrite: bool,
@@ -60,7 +82,9 @@ unsafe extern "C" {
         offset: u64,
         len: usize,
     );
+    /// Takes the items out of a batch, at whatever stage. The batch is gone then.
     fn raft_ffi_batch_into_items(batch: Handle, items: *mut Handle) -> u32;
+    /// Frees the batch.
     fn raft_ffi_batch_drop(batch: Handle);
 }
 
@@ -75,11 +99,11 @@ pub(crate) struct LogBatchHandle(pub(super) Cell<Handle>);
 unsafe impl Send for LogBatchHandle {}
 
 impl LogBatchHandle {
-    /// Holds an open batch without items.
+    /// Makes an open batch without items. The only error is `Memory`.
     pub(crate) fn new() -> Result<LogBatchHandle> {
         let mut handle = Handle::EMPTY;
         // SAFETY: `empty`: the handle is empty.
-        remembered(unsafe { raft_ffi_batch_new(&mut handle) })?;
+        memory_result(unsafe { raft_ffi_batch_new(&mut handle) })?;
         Ok(LogBatchHandle::of(handle))
     }
 
@@ -93,14 +117,14 @@ impl LogBatchHandle {
         self.0.as_ptr()
     }
 
-    /// Gives the library's handle away.
+    /// Gives the library's handle away, which is to be freed by someone else.
     fn into_raw(self) -> Handle {
         let handle = self.0.get();
         mem::forget(self);
         handle
     }
 
-    /// Says how far the batch has come.
+    /// Says whether the batch is open, encoded or signed.
     pub(crate) fn stage(&self) -> Stage {
         // SAFETY: `held`: the handle holds a batch.
         match with(&self.0, |batch| unsafe { raft_ffi_batch_stage(batch) }) {
@@ -111,6 +135,10 @@ impl LogBatchHandle {
     }
 
     /// Tests that items may be added.
+    ///
+    /// # Errors
+    ///
+    /// `InvalidArgument` where the batch is no longer open.
     pub(super) fn check_open(&self) -> Result<()> {
         match self.stage() {
             Stage::Open => Ok(()),
@@ -119,6 +147,10 @@ impl LogBatchHandle {
     }
 
     /// Tests that the bytes are signed.
+    ///
+    /// # Errors
+    ///
+    /// `InvalidArgument` where they aren't.
     fn check_signed(&self) -> Result<()> {
         match self.stage() {
             Stage::Signed => Ok(()),
@@ -126,24 +158,38 @@ impl LogBatchHandle {
         }
     }
 
-    /// Says about how many bytes there are or will be.
+    /// Returns about how many bytes there are or will be.
     pub(crate) fn size(&self) -> usize {
         // SAFETY: `held`: the handle holds a batch.
         with(&self.0, |batch| unsafe { raft_ffi_batch_size(batch) })
     }
 
-    /// Adds entries that are packed.
+    /// Adds entries that are packed, the first of them at the index `first`.
+    ///
+    /// # Errors
+    ///
+    /// Those of `add`.
     pub(crate) fn add_packed(&mut self, region: u64, first: u64, packed: &Packed) -> Result<()> {
         let (lens, bytes) = packed.parts();
         self.add(region, first, lens, bytes)
     }
 
-    /// Adds an entry.
+    /// Adds one entry of these bytes.
+    ///
+    /// # Errors
+    ///
+    /// Those of `add`.
     pub(crate) fn add_entry(&mut self, region: u64, index: u64, entry: &[u8]) -> Result<()> {
         self.add(region, index, &[entry.len()], entry)
     }
 
-    /// Adds entries of these lengths, which are those of the bytes.
+    /// Adds entries from the index `first` on, whose bytes stand one behind the other, each as long
+    /// as `lens` says.
+    ///
+    /// # Errors
+    ///
+    /// `InvalidArgument` for a batch that isn't open, or where an index would be 2^64 - 1 or more;
+    /// `Full` where the entry bytes would pass 2^31 - 1; `Memory`. The batch is then as it was.
     fn add(&mut self, region: u64, first: u64, lens: &[usize], bytes: &[u8]) -> Result<()> {
         self.check_open()?;
         if first.checked_add(lens.len() as u64).is_none() {
@@ -153,7 +199,7 @@ impl LogBatchHandle {
         }
         // SAFETY: `held`, `open`, `indexes`, `strings`: the handle holds an open batch, the last index is below 2^64
         // - 1, and the lengths are those of the bytes.
-        checked(|text, text_len| unsafe {
+        check_call(|text, text_len| unsafe {
             raft_ffi_batch_add_entries(
                 self.0.as_ptr(),
                 region,
@@ -168,32 +214,49 @@ impl LogBatchHandle {
         })
     }
 
-    /// Adds that all records go.
+    /// Adds that all records of a region go.
+    ///
+    /// # Errors
+    ///
+    /// `InvalidArgument` for a batch that isn't open, `Memory`. The batch is then as it was.
     pub(crate) fn clean(&mut self, region: u64) -> Result<()> {
         self.check_open()?;
         // SAFETY: `held`, `open`: the handle holds an open batch.
-        remembered(unsafe { raft_ffi_batch_clean(self.0.as_ptr(), region) })
+        memory_result(unsafe { raft_ffi_batch_clean(self.0.as_ptr(), region) })
     }
 
-    /// Adds that the entries below an index go.
+    /// Adds that the entries of a region below an index go.
+    ///
+    /// # Errors
+    ///
+    /// `InvalidArgument` for a batch that isn't open, `Memory`. The batch is then as it was.
     pub(crate) fn compact(&mut self, region: u64, index: u64) -> Result<()> {
         self.check_open()?;
         // SAFETY: `held`, `open`: the handle holds an open batch.
-        remembered(unsafe { raft_ffi_batch_compact(self.0.as_ptr(), region, index) })
+        memory_result(unsafe { raft_ffi_batch_compact(self.0.as_ptr(), region, index) })
     }
 
-    /// Adds that the entries from an index on go.
+    /// Adds that the entries of a region from an index on go.
+    ///
+    /// # Errors
+    ///
+    /// `InvalidArgument` for a batch that isn't open, `Memory`. The batch is then as it was.
     pub(crate) fn truncate(&mut self, region: u64, index: u64) -> Result<()> {
         self.check_open()?;
         // SAFETY: `held`, `open`: the handle holds an open batch.
-        remembered(unsafe { raft_ffi_batch_truncate(self.0.as_ptr(), region, index) })
+        memory_result(unsafe { raft_ffi_batch_truncate(self.0.as_ptr(), region, index) })
     }
 
-    /// Adds that a key gets a value.
+    /// Adds that a key of a region gets a value. Both are copied.
+    ///
+    /// # Errors
+    ///
+    /// `InvalidArgument` for a batch that isn't open, or for the key of the group markers;
+    /// `Memory`. The batch is then as it was.
     pub(crate) fn put(&mut self, region: u64, key: &[u8], value: &[u8]) -> Result<()> {
         self.check_open()?;
         // SAFETY: `held`, `open`: the handle holds an open batch.
-        checked(|text, text_len| unsafe {
+        check_call(|text, text_len| unsafe {
             raft_ffi_batch_put(
                 self.0.as_ptr(),
                 region,
@@ -207,37 +270,55 @@ impl LogBatchHandle {
         })
     }
 
-    /// Adds that a key goes.
+    /// Adds that a key of a region goes.
+    ///
+    /// # Errors
+    ///
+    /// `InvalidArgument` for a batch that isn't open, `Memory`. The batch is then as it was.
     pub(crate) fn delete(&mut self, region: u64, key: &[u8]) -> Result<()> {
         self.check_open()?;
         // SAFETY: `held`, `open`: the handle holds an open batch.
-        remembered(unsafe {
+        memory_result(unsafe {
             raft_ffi_batch_delete(self.0.as_ptr(), region, key.as_ptr(), key.len())
         })
     }
 
-    /// Moves the items of another batch to the end.
+    /// Moves the items of another open batch to the end of this one.
+    ///
+    /// # Errors
+    ///
+    /// `InvalidArgument` for a batch that isn't open; `Full` where the entry bytes would pass 2^31
+    /// - 1; `Memory`. Both are then as they were.
     pub(crate) fn merge(&mut self, more: &mut LogBatchHandle) -> Result<()> {
         self.check_open()?;
         more.check_open()?;
         // SAFETY: `held`, `more_held`, `open`, `more_open`: both handles hold an open batch, and they are two.
-        checked(|text, text_len| unsafe {
+        check_call(|text, text_len| unsafe {
             raft_ffi_batch_merge(self.0.as_ptr(), more.0.as_ptr(), text, text_len)
         })
     }
 
-    /// Makes the bytes.
+    /// Makes the bytes, to which nothing is added from then on, and returns how many they are.
+    ///
+    /// # Errors
+    ///
+    /// `InvalidArgument` for a batch that isn't open, `Full` from 2^56 bytes on, `Memory`. The
+    /// batch is then as it was.
     pub(crate) fn finish(&mut self) -> Result<usize> {
         self.check_open()?;
         let mut len = 0;
         // SAFETY: `held`, `open`: the handle holds an open batch.
-        checked(|text, text_len| unsafe {
+        check_call(|text, text_len| unsafe {
             raft_ffi_batch_finish(self.0.as_ptr(), &mut len, text, text_len)
         })?;
         Ok(len)
     }
 
-    /// Signs the bytes for a file.
+    /// Signs the bytes for a file; it may be repeated for others.
+    ///
+    /// # Errors
+    ///
+    /// `InvalidArgument` for a batch that is still open.
     pub(crate) fn sign(&mut self, file: LogFile) -> Result<()> {
         if self.stage() == Stage::Open {
             return Err(Error::invalid_argument("the batch is still open"));
@@ -247,10 +328,14 @@ impl LogBatchHandle {
         Ok(())
     }
 
-    /// Copies the bytes.
+    /// Returns a copy of the signed bytes.
+    ///
+    /// # Errors
+    ///
+    /// `InvalidArgument` for a batch that isn't signed, `Memory`.
     pub(crate) fn bytes(&self) -> Result<Vec<u8>> {
         self.check_signed()?;
-        listed(|room, len, count| {
+        list(|room, len, count| {
             // SAFETY: `held`, `sealed`: the handle holds a signed batch.
             *count = with(&self.0, |batch| unsafe {
                 raft_ffi_batch_bytes(batch, room, len)
@@ -259,8 +344,12 @@ impl LogBatchHandle {
         })
     }
 
-    /// Gives entries and key values their places.
-    pub(crate) fn written(&mut self, file: FileId, offset: u64, len: usize) -> Result<()> {
+    /// Gives entries and key values their places: the batch stands at `offset` in a file.
+    ///
+    /// # Errors
+    ///
+    /// `InvalidArgument` for a batch that isn't signed, or an offset above 2^64 - 17.
+    pub(crate) fn place_items(&mut self, file: FileId, offset: u64, len: usize) -> Result<()> {
         self.check_signed()?;
         if offset > LAST_OFFSET {
             return Err(Error::invalid_argument(
@@ -280,12 +369,13 @@ impl LogBatchHandle {
         Ok(())
     }
 
-    /// Takes the items out.
+    /// Takes the items out, at whatever stage the batch is. The only error is `Memory`. The batch
+    /// is gone then.
     pub(crate) fn into_items(self) -> Result<ItemsHandle> {
         let batch = self.into_raw();
         let mut items = Handle::EMPTY;
         // SAFETY: `held`, `empty`: the one handle holds a batch, which is given away, and the other one is empty.
-        remembered(unsafe { raft_ffi_batch_into_items(batch, &mut items) })?;
+        memory_result(unsafe { raft_ffi_batch_into_items(batch, &mut items) })?;
         Ok(ItemsHandle(Cell::new(items)))
     }
 }

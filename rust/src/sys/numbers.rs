@@ -118,12 +118,12 @@ impl From<EntryNumbers> for Entry {
     }
 }
 
-/// Makes numbers of entries.
+/// Returns entries as the library takes them.
 pub(super) fn numbers(entries: &[Entry]) -> Vec<EntryNumbers> {
     entries.iter().map(EntryNumbers::from).collect()
 }
 
-/// Makes entries of numbers.
+/// Returns entries that the library gave.
 pub(super) fn entries(numbers: Vec<EntryNumbers>) -> Vec<Entry> {
     numbers.into_iter().map(Entry::from).collect()
 }

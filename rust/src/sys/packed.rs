@@ -33,7 +33,7 @@ impl Packed {
         Ok(packed)
     }
 
-    /// Forgets all entries.
+    /// Forgets all entries, and keeps the room.
     pub(crate) fn clear(&mut self) {
         self.lens.clear();
         self.bytes.clear();

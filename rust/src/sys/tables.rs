@@ -14,8 +14,8 @@ use super::table_calls::{
     raft_ffi_tables_summary, raft_ffi_tables_truncate, raft_ffi_tables_value,
 };
 use super::{
-    EntryNumbers, Handle, ItemsHandle, LogBatchHandle, SummaryNumbers, checked, entries, found,
-    listed, numbers, pairs, remembered, with,
+    EntryNumbers, Handle, ItemsHandle, LogBatchHandle, SummaryNumbers, check_call, entries, list,
+    list_found, memory_result, numbers, pairs, with,
 };
 use crate::{Entry, FileId, Pair, Queue, Result, Summary};
 use std::cell::Cell;
@@ -30,15 +30,15 @@ pub(crate) struct TablesHandle(pub(super) Cell<Handle>);
 unsafe impl Send for TablesHandle {}
 
 impl TablesHandle {
-    /// Holds no tables of regions.
+    /// Makes tables of no region. The only error is `Memory`.
     pub(crate) fn new() -> Result<TablesHandle> {
         let mut handle = Handle::EMPTY;
         // SAFETY: `empty`: the handle is empty.
-        remembered(unsafe { raft_ffi_tables_new(&mut handle) })?;
+        memory_result(unsafe { raft_ffi_tables_new(&mut handle) })?;
         Ok(TablesHandle(Cell::new(handle)))
     }
 
-    /// Gives the library's handle away.
+    /// Gives the library's handle away, which is to be freed by someone else.
     fn into_raw(self) -> Handle {
         let handle = self.0.get();
         mem::forget(self);
@@ -53,7 +53,7 @@ impl TablesHandle {
         })
     }
 
-    /// Finds what a region's table has.
+    /// Returns what a region's table has, `None` where there is none.
     pub(crate) fn summary(&self, region: u64) -> Option<Summary> {
         let mut summary = SummaryNumbers::default();
         // SAFETY: `held`: the handle holds tables.
@@ -63,19 +63,19 @@ impl TablesHandle {
         is_found.then(|| summary.into())
     }
 
-    /// Lists the regions that have a table.
+    /// Lists the regions that have a table, in rising order. The only error is `Memory`.
     pub(crate) fn regions(&self) -> Result<Vec<u64>> {
-        listed(|room, len, count| {
+        list(|room, len, count| {
             // SAFETY: `held`: the handle holds tables.
-            remembered(with(&self.0, |tables| unsafe {
+            memory_result(with(&self.0, |tables| unsafe {
                 raft_ffi_tables_regions(tables, room, len, count)
             }))
         })
     }
 
-    /// Lists the regions that were cleaned.
+    /// Lists the regions that were cleaned, in order.
     pub(crate) fn cleaned(&self) -> Vec<u64> {
-        found(|room, len, count| {
+        list_found(|room, len, count| {
             // SAFETY: `held`: the handle holds tables.
             *count = with(&self.0, |tables| unsafe {
                 raft_ffi_tables_cleaned(tables, room, len)
@@ -85,7 +85,7 @@ impl TablesHandle {
         .unwrap_or_default()
     }
 
-    /// Finds an entry.
+    /// Returns where the entry of a region at an index is, `None` where none stands there.
     pub(crate) fn entry(&self, region: u64, index: u64) -> Option<Entry> {
         let mut entry = EntryNumbers::default();
         // SAFETY: `held`: the handle holds tables.
@@ -95,15 +95,19 @@ impl TablesHandle {
         is_found.then(|| entry.into())
     }
 
-    /// Lists the entries of a range.
+    /// Lists the entries of a range, up to a maximal size in bytes.
+    ///
+    /// # Errors
+    ///
+    /// `EntryCompacted` or `EntryNotFound` where the range isn't there, `Memory`.
     pub(crate) fn entries(
         &self,
         region: u64,
         range: Range<u64>,
         max_size: Option<u64>,
     ) -> Result<Vec<Entry>> {
-        let list = listed(|room, len, count| {
-            checked(|text, text_len| {
+        let list = list(|room, len, count| {
+            check_call(|text, text_len| {
                 // SAFETY: `held`: the handle holds tables.
                 with(&self.0, |tables| unsafe {
                     raft_ffi_tables_entries(
@@ -124,31 +128,32 @@ impl TablesHandle {
         Ok(entries(list))
     }
 
-    /// Lists the appended entries up to a gate.
+    /// Lists the appended entries of a region, from the first on while their file is at or below a
+    /// gate. The only error is `Memory`.
     pub(crate) fn entries_before(&self, region: u64, gate: u64) -> Result<Vec<Entry>> {
-        let list = listed(|room, len, count| {
+        let list = list(|room, len, count| {
             // SAFETY: `held`: the handle holds tables.
-            remembered(with(&self.0, |tables| unsafe {
+            memory_result(with(&self.0, |tables| unsafe {
                 raft_ffi_tables_entries_before(tables, region, gate, room, len, count)
             }))
         })?;
         Ok(entries(list))
     }
 
-    /// Lists the rewritten entries.
+    /// Lists the rewritten entries of a region. The only error is `Memory`.
     pub(crate) fn rewritten_entries(&self, region: u64) -> Result<Vec<Entry>> {
-        let list = listed(|room, len, count| {
+        let list = list(|room, len, count| {
             // SAFETY: `held`: the handle holds tables.
-            remembered(with(&self.0, |tables| unsafe {
+            memory_result(with(&self.0, |tables| unsafe {
                 raft_ffi_tables_rewritten_entries(tables, region, room, len, count)
             }))
         })?;
         Ok(entries(list))
     }
 
-    /// Finds the value of a key.
+    /// Returns the value of a region's key, `None` where it has none.
     pub(crate) fn value(&self, region: u64, key: &[u8]) -> Option<Vec<u8>> {
-        found(|room, len, count| {
+        list_found(|room, len, count| {
             // SAFETY: `held`: the handle holds tables.
             with(&self.0, |tables| unsafe {
                 raft_ffi_tables_value(tables, region, key.as_ptr(), key.len(), room, len, count)
@@ -156,11 +161,12 @@ impl TablesHandle {
         })
     }
 
-    /// Lists the appended keys and values up to a gate.
+    /// Lists the appended keys of a region whose file is at or below a gate, with their values, in
+    /// order. The only error is `Memory`.
     pub(crate) fn pairs_before(&self, region: u64, gate: u64) -> Result<Vec<Pair>> {
         pairs(|lens, lens_len, count, bytes, bytes_len, len| {
             // SAFETY: `held`: the handle holds tables.
-            remembered(with(&self.0, |tables| unsafe {
+            memory_result(with(&self.0, |tables| unsafe {
                 raft_ffi_tables_pairs_before(
                     tables, region, gate, lens, lens_len, count, bytes, bytes_len, len,
                 )
@@ -168,11 +174,12 @@ impl TablesHandle {
         })
     }
 
-    /// Lists the rewritten keys and values.
+    /// Lists the rewritten keys of a region with their values, in order. The only error is
+    /// `Memory`.
     pub(crate) fn rewritten_pairs(&self, region: u64) -> Result<Vec<Pair>> {
         pairs(|lens, lens_len, count, bytes, bytes_len, len| {
             // SAFETY: `held`: the handle holds tables.
-            remembered(with(&self.0, |tables| unsafe {
+            memory_result(with(&self.0, |tables| unsafe {
                 raft_ffi_tables_rewritten_pairs(
                     tables, region, lens, lens_len, count, bytes, bytes_len, len,
                 )
@@ -180,12 +187,12 @@ impl TablesHandle {
         })
     }
 
-    /// Lists the keys and values.
+    /// Lists all keys of a region with their values, in order. The only error is `Memory`.
     pub(crate) fn pairs(&self, region: u64) -> Result<Vec<Pair>> {
         let none: &[u8] = &[];
         pairs(|lens, lens_len, count, bytes, bytes_len, len| {
             // SAFETY: `held`: the handle holds tables.
-            remembered(with(&self.0, |tables| unsafe {
+            memory_result(with(&self.0, |tables| unsafe {
                 raft_ffi_tables_scan(
                     tables,
                     region,
@@ -205,9 +212,10 @@ impl TablesHandle {
         })
     }
 
-    /// Tests whether the items of a batch would be accepted.
+    /// Tests whether the tables would accept the items of a batch of the append queue: `Corruption`
+    /// where they would refuse one, or `Memory`.
     pub(crate) fn check_append(&self, batch: &LogBatchHandle) -> Result<()> {
-        checked(|text, text_len| {
+        check_call(|text, text_len| {
             with(&self.0, |tables| {
                 // SAFETY: `held`, `batch`: the handles hold tables and a batch.
                 with(&batch.0, |batch| unsafe {
@@ -217,9 +225,10 @@ impl TablesHandle {
         })
     }
 
-    /// Tests whether those items of a batch would be accepted whose regions are of a slot.
+    /// Tests whether the tables would accept those items of a batch whose regions are of the slot
+    /// `number`: `Corruption` where they would refuse one, or `Memory`.
     pub(crate) fn check_share(&self, number: usize, batch: &LogBatchHandle) -> Result<()> {
-        checked(|text, text_len| {
+        check_call(|text, text_len| {
             with(&self.0, |tables| {
                 // SAFETY: `held`, `batch`: the handles hold tables and a batch.
                 with(&batch.0, |batch| unsafe {
@@ -229,19 +238,25 @@ impl TablesHandle {
         })
     }
 
-    /// Hands out the cleaned regions as a batch.
+    /// Hands out the cleaned regions as an open batch with a `Clean` for each. The list is then
+    /// empty. The only error is `Memory`. The list is then as it was.
     pub(crate) fn cleaned_logs(&mut self) -> Result<LogBatchHandle> {
         let mut batch = Handle::EMPTY;
         // SAFETY: `held`, `empty`: the one handle holds tables, and the other one is empty.
-        remembered(unsafe { raft_ffi_tables_cleaned_logs(self.0.as_ptr(), &mut batch) })?;
+        memory_result(unsafe { raft_ffi_tables_cleaned_logs(self.0.as_ptr(), &mut batch) })?;
         Ok(LogBatchHandle::of(batch))
     }
 
-    /// Appends entries.
+    /// Puts new entries of the append queue in place of those of a region from their start on.
+    ///
+    /// # Errors
+    ///
+    /// `InvalidArgument` where they are no run of the append queue, `Corruption` where they leave a
+    /// hole or begin below the first entry, `Full`, `Memory`. The tables are then as they were.
     pub(crate) fn append(&mut self, region: u64, entries: &[Entry]) -> Result<()> {
         let run = numbers(entries);
         // SAFETY: `held`: the handle holds tables.
-        checked(|text, text_len| unsafe {
+        check_call(|text, text_len| unsafe {
             raft_ffi_tables_append(
                 self.0.as_ptr(),
                 region,
@@ -253,27 +268,30 @@ impl TablesHandle {
         })
     }
 
-    /// Drops the entries below an index.
+    /// Drops the entries of a region below an index, and returns how many they were. The only error
+    /// is `Memory`. The tables are then as they were.
     pub(crate) fn compact(&mut self, region: u64, index: u64) -> Result<u64> {
         let mut dropped = 0;
         // SAFETY: `held`: the handle holds tables.
-        checked(|text, text_len| unsafe {
+        check_call(|text, text_len| unsafe {
             raft_ffi_tables_compact(self.0.as_ptr(), region, index, &mut dropped, text, text_len)
         })?;
         Ok(dropped)
     }
 
-    /// Drops the entries at or above an index.
+    /// Drops the entries of a region at or above an index, and returns how many they were. The only
+    /// error is `Memory`. The tables are then as they were.
     pub(crate) fn truncate(&mut self, region: u64, index: u64) -> Result<u64> {
         let mut dropped = 0;
         // SAFETY: `held`: the handle holds tables.
-        checked(|text, text_len| unsafe {
+        check_call(|text, text_len| unsafe {
             raft_ffi_tables_truncate(self.0.as_ptr(), region, index, &mut dropped, text, text_len)
         })?;
         Ok(dropped)
     }
 
-    /// Puts a key.
+    /// Puts a key of a region with its value, both copied, as from this file. It is refused with
+    /// `Full` or `Memory`, and the tables are then as they were.
     pub(crate) fn put(
         &mut self,
         region: u64,
@@ -282,7 +300,7 @@ impl TablesHandle {
         file: FileId,
     ) -> Result<()> {
         // SAFETY: `held`: the handle holds tables.
-        checked(|text, text_len| unsafe {
+        check_call(|text, text_len| unsafe {
             raft_ffi_tables_put(
                 self.0.as_ptr(),
                 region,
@@ -298,10 +316,11 @@ impl TablesHandle {
         })
     }
 
-    /// Deletes a key.
+    /// Deletes a key of a region with its value. The only error is `Memory`. The tables are then as
+    /// they were.
     pub(crate) fn delete(&mut self, region: u64, key: &[u8]) -> Result<()> {
         // SAFETY: `held`: the handle holds tables.
-        checked(|text, text_len| unsafe {
+        check_call(|text, text_len| unsafe {
             raft_ffi_tables_delete(
                 self.0.as_ptr(),
                 region,
@@ -313,7 +332,14 @@ impl TablesHandle {
         })
     }
 
-    /// Moves entries to rewritten places.
+    /// Gives entries of a region the places of a run of the rewrite queue, as far as the gate lets
+    /// them move.
+    ///
+    /// # Errors
+    ///
+    /// `InvalidArgument` where it is no run of the rewrite queue, `Corruption` where the common
+    /// indexes begin behind the rewritten entries, or with a gate before their end, `Full`,
+    /// `Memory`. The tables are then as they were.
     pub(crate) fn rewrite(
         &mut self,
         region: u64,
@@ -322,7 +348,7 @@ impl TablesHandle {
     ) -> Result<()> {
         let run = numbers(entries);
         // SAFETY: `held`: the handle holds tables.
-        checked(|text, text_len| unsafe {
+        check_call(|text, text_len| unsafe {
             raft_ffi_tables_rewrite(
                 self.0.as_ptr(),
                 region,
@@ -335,7 +361,13 @@ impl TablesHandle {
         })
     }
 
-    /// Moves a key to a rewritten file.
+    /// Moves a key of a region to the file of number `seq` of the rewrite queue, if the gate lets
+    /// it.
+    ///
+    /// # Errors
+    ///
+    /// `Corruption` where it stands in a later rewrite file, `Full`, `Memory`. The tables are then
+    /// as they were.
     pub(crate) fn rewrite_key(
         &mut self,
         region: u64,
@@ -344,7 +376,7 @@ impl TablesHandle {
         seq: u64,
     ) -> Result<()> {
         // SAFETY: `held`: the handle holds tables.
-        checked(|text, text_len| unsafe {
+        check_call(|text, text_len| unsafe {
             raft_ffi_tables_rewrite_key(
                 self.0.as_ptr(),
                 region,
@@ -358,59 +390,68 @@ impl TablesHandle {
         })
     }
 
-    /// Sets the files of an atomic group, the first of which is at or below the last.
+    /// Sets the first and the last file of a region's atomic group, the first of which is at or
+    /// below the last. The only error is `Memory`. The tables are then as they were.
     pub(crate) fn set_atomic_group(&mut self, region: u64, start: u64, end: u64) -> Result<()> {
         assert!(start <= end, "an atomic group starts behind its end");
         // SAFETY: `held`, `range`: the handle holds tables, and the files are in order.
-        remembered(unsafe { raft_ffi_tables_atomic_group(self.0.as_ptr(), region, start, end) })
+        memory_result(unsafe { raft_ffi_tables_atomic_group(self.0.as_ptr(), region, start, end) })
     }
 
-    /// Takes a region's table away.
+    /// Takes a region's table away, lists the region as cleaned where that is asked for, and
+    /// returns whether there was a table. The only error is `Memory`. The tables are then as they
+    /// were.
     pub(crate) fn remove(&mut self, region: u64, is_listed: bool) -> Result<bool> {
         let mut is_found = false;
         // SAFETY: `held`: the handle holds tables.
-        remembered(unsafe {
+        memory_result(unsafe {
             raft_ffi_tables_remove(self.0.as_ptr(), region, is_listed, &mut is_found)
         })?;
         Ok(is_found)
     }
 
-    /// Moves the table of a region into others.
+    /// Moves the table of a region, if there is one, in place of that of the other tables. Where
+    /// that is refused, with `Full` or `Memory`, the table is gone, and the others are as they
+    /// were.
     pub(crate) fn move_table(&mut self, region: u64, to: &mut TablesHandle) -> Result<()> {
         // SAFETY: `held`, `to`: both handles hold tables.
-        checked(|text, text_len| unsafe {
+        check_call(|text, text_len| unsafe {
             raft_ffi_tables_move_table(self.0.as_ptr(), to.0.as_ptr(), region, text, text_len)
         })
     }
 
-    /// Merges newer tables.
+    /// Merges the tables of a newer neighbor, each into the table of its region. Where one can't be
+    /// merged others are merged or as they were, and the rest is lost.
     pub(crate) fn merge_newer(&mut self, newer: TablesHandle) -> Result<()> {
         let newer = newer.into_raw();
         // SAFETY: `held`, `newer`: both handles hold tables, and the newer one is given away.
-        checked(|text, text_len| unsafe {
+        check_call(|text, text_len| unsafe {
             raft_ffi_tables_merge_newer(self.0.as_ptr(), newer, text, text_len)
         })
     }
 
-    /// Merges appended tables.
+    /// Merges appended tables, each into the rewritten table of its region. Where one can't be
+    /// merged others are merged or as they were, and the rest is lost.
     pub(crate) fn merge_append(&mut self, append: TablesHandle) -> Result<()> {
         let append = append.into_raw();
         // SAFETY: `held`, `append`: both handles hold tables, and the second one is given away.
-        checked(|text, text_len| unsafe {
+        check_call(|text, text_len| unsafe {
             raft_ffi_tables_merge_append(self.0.as_ptr(), append, text, text_len)
         })
     }
 
-    /// Writes items of the append queue.
+    /// Writes items of the append queue to the tables, in order. Where an item is refused those in
+    /// front of it are written, and nothing else.
     pub(crate) fn apply_append(&mut self, items: ItemsHandle) -> Result<()> {
         let items = items.into_raw();
         // SAFETY: `held`, `items`: the handles hold tables and items, and the items are given away.
-        checked(|text, text_len| unsafe {
+        check_call(|text, text_len| unsafe {
             raft_ffi_tables_apply_append(self.0.as_ptr(), items, text, text_len)
         })
     }
 
-    /// Writes rewritten items.
+    /// Writes items that were rewritten to the file of number `seq` to the tables, in order. Where
+    /// an item is refused those in front of it are written, and nothing else.
     pub(crate) fn apply_rewrite(
         &mut self,
         items: ItemsHandle,
@@ -419,14 +460,16 @@ impl TablesHandle {
     ) -> Result<()> {
         let items = items.into_raw();
         // SAFETY: `held`, `items`: the handles hold tables and items, and the items are given away.
-        checked(|text, text_len| unsafe {
+        check_call(|text, text_len| unsafe {
             raft_ffi_tables_apply_rewrite(self.0.as_ptr(), items, gate.into(), seq, text, text_len)
         })
     }
 
-    /// Writes those items of the append queue whose regions are of a slot.
+    /// Writes those items of the append queue whose regions are of the slot `number`, in order.
+    /// Where an item is refused those in front of it are written; without memory for copies of the
+    /// items none.
     pub(crate) fn apply_share(&mut self, number: usize, items: &ItemsHandle) -> Result<()> {
-        checked(|text, text_len| {
+        check_call(|text, text_len| {
             // SAFETY: `held`, `items`: the handles hold tables and items.
             with(&items.0, |items| unsafe {
                 raft_ffi_slot_apply_append(self.0.as_ptr(), number, items, text, text_len)
@@ -434,7 +477,8 @@ impl TablesHandle {
         })
     }
 
-    /// Writes those rewritten items whose regions are of a slot.
+    /// Writes those rewritten items whose regions are of the slot `number`, in order. Where an item
+    /// is refused those in front of it are written; without memory for copies of the items none.
     pub(crate) fn rewrite_share(
         &mut self,
         number: usize,
@@ -442,7 +486,7 @@ impl TablesHandle {
         gate: Option<u64>,
         seq: u64,
     ) -> Result<()> {
-        checked(|text, text_len| {
+        check_call(|text, text_len| {
             // SAFETY: `held`, `items`: the handles hold tables and items.
             with(&items.0, |items| unsafe {
                 raft_ffi_slot_apply_rewrite(

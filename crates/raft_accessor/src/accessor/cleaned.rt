@@ -49,6 +49,11 @@ impl MemTableAccessor {
         mem::swap(&mut self.cleaned, &mut appended.cleaned);
     }
 
+    /// Lists a region as cleaned.
+    ///
+    /// # Errors
+    ///
+    /// `Memory`. The list is then as it was.
     pub(super) fn list(&mut self, id: u64) -> Result<()>
         ensures ok { OnOk result (self.new ≡ record self.old
             { cleaned = self.old.cleaned ++ id ∷ [] }) }

@@ -114,6 +114,12 @@ impl MemTableAccessor {
         self.write_items(Writing::Rewriting(watermark, new_file), items)
     }
 
+    /// Writes items to the tables in order, as `how` says.
+    ///
+    /// # Errors
+    ///
+    /// Those of `write_item` at the first item that is refused. The items in front of it are
+    /// written, and nothing else.
     #[inline(always)]
     fn write_items<I: IntoIterator<Item = LogItem>>(&mut self, how: Writing, items: I) -> Result<()>
         requires { (it : I.IntoIter) → I.into_iter_gives items it
@@ -131,6 +137,12 @@ impl MemTableAccessor {
         Ok(())
     }
 
+    /// Writes an item to the table of its region, as `how` says.
+    ///
+    /// # Errors
+    ///
+    /// Those of [`RegionTables::append_item`], [`RegionTables::replay_item`] or
+    /// [`RegionTables::rewrite_item`]. Tables, counts and list are then as they were.
     #[inline(always)]
     fn write_item(&mut self, how: Writing, item: LogItem) -> Result<()>
         ensures { IsWritten (writing_shown how) (item_of item) result self.old self.new }

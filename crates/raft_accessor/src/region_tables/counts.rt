@@ -8,6 +8,7 @@ use raft_base::LogQueue;
 use raft_table::GlobalStats;
 
 impl RegionTables {
+    /// Takes the records of all tables off the counts, and returns counts that have them alone.
     pub(crate) fn take_counts(&self, stats: &mut GlobalStats) -> GlobalStats
         requires { (q : LogQueue) → live_in_all q self.now ≤ live q stats.old }
         ensures taken { result ≡ counts_of self.now }
@@ -22,6 +23,7 @@ impl RegionTables {
         )
     }
 
+    /// Takes the records of all tables off the counts.
     fn delete_all(&self, stats: &mut GlobalStats)
         requires { (q : LogQueue) → live_in_all q self.now ≤ live q stats.old }
         ensures { stats.new ≡ with_all_deleted self.now stats.old }
@@ -32,6 +34,7 @@ impl RegionTables {
     }
 }
 
+/// Makes counts of so many live records of each queue.
 fn new_counts(append: usize, rewrite: usize) -> GlobalStats
     ensures { result ≡ record { append = append; written = rewrite; deleted = 0 } }
 {

@@ -25,6 +25,13 @@ impl RegionTables {
         Ok(unboxed(self.put(id, table, stats)?))
     }
 
+    /// Puts a table under its region's id and counts its records. Hands back the one that stood
+    /// there, which is taken off the counts.
+    ///
+    /// # Errors
+    ///
+    /// `Full` where more than 2^64 - 1 records would be live in a queue beside the replaced table,
+    /// and `Memory`. Tables and counts are then as they were, and the new table is lost.
     pub(crate) fn put(
         &mut self,
         id: u64,
@@ -54,6 +61,7 @@ impl RegionTables {
         unboxed(self.take(id, stats))
     }
 
+    /// Takes a region's table away in its box, and its records off the counts.
     pub(crate) fn take(&mut self, id: u64, stats: &mut GlobalStats) -> Option<BoxedTable>
         requires { IsCounted (table_in self.old id) stats.old }
         ensures { IsTakenOut id result self.old stats.old self.new stats.new }
@@ -64,6 +72,7 @@ impl RegionTables {
     }
 }
 
+/// Takes the records of a table off the counts, if there is one.
 fn delete_replaced(id: u64, table: &Option<BoxedTable>, stats: &mut GlobalStats)
     requires { (q : LogQueue) → live_of q (table_of id table.now) ≤ live q stats.old }
     ensures counts { stats.new ≡ with_table_deleted (table_of id table.now) stats.old }

@@ -39,12 +39,23 @@ impl RegionTables {
         self.tables.len()
     }
 
+    /// Makes room for `count` tables.
+    ///
+    /// # Errors
+    ///
+    /// Where there is no memory for it.
     pub(crate) fn make_room(&mut self, count: usize) -> AllocResult<()>
         ensures { self.new ≡ self.old }
     {
         self.tables.reserve(count.saturating_sub(self.tables.len()))
     }
 
+    /// Puts a newer table of a region over its own one, if it has one, as the newer region mark
+    /// says, and returns what `join_table` returns.
+    ///
+    /// # Errors
+    ///
+    /// Those of `join_table`.
     fn put_newer(
         &mut self,
         queue: LogQueue,
@@ -67,7 +78,13 @@ impl RegionTables {
         Ok((0, 0))
     }
 
-    /// Drops of a region's table what a newer region mark drops whose region has no table.
+    /// Drops what a newer region mark takes away of a region's table, where the newer neighbor has
+    /// no table of the region. Returns what `join_table` returns.
+    ///
+    /// # Errors
+    ///
+    /// `Corruption` where the mark's steps are refused over these entries; `Memory`. The counts
+    /// still agree with the table then.
     fn drop_under(
         &mut self,
         queue: LogQueue,
@@ -95,6 +112,12 @@ impl RegionTables {
     }
 }
 
+/// Puts a newer table over an older one as the newer region mark says. Returns where the older
+/// entries begin, and the end of those that the mark's first run meets.
+///
+/// # Errors
+///
+/// Those of [`MemTable::join_under`].
 fn put_over(
     older: &mut MemTable,
     queue: LogQueue,
@@ -115,6 +138,7 @@ fn put_over(
     Ok((start, end))
 }
 
+/// Returns the first index of a table's entries, 0 without entries.
 fn start_of(table: &MemTable) -> u64
     ensures start { result ≡ start_of table.now.entries }
     ensures run { IsRun table.now.entries }

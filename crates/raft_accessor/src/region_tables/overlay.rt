@@ -9,6 +9,12 @@ use raft_base::Result;
 use raft_table::{GlobalStats, Mark, MemTable};
 
 impl RegionTables {
+    /// Puts an appended table of a region, or its absence, over the rewritten one, as the region
+    /// mark of the append queue says.
+    ///
+    /// # Errors
+    ///
+    /// Those of [`MemTable::overlay`], and `Memory`. The counts still agree with the tables then.
     pub(crate) fn overlay_table(
         &mut self,
         id: u64,
@@ -28,6 +34,12 @@ impl RegionTables {
         }
     }
 
+    /// Puts an appended table of a region over the rewritten one, which is made where there is
+    /// none.
+    ///
+    /// # Errors
+    ///
+    /// Those of [`MemTable::overlay`], and `Memory`. The counts still agree with the tables then.
     fn put_appended(
         &mut self,
         id: u64,
@@ -59,6 +71,12 @@ impl RegionTables {
         )
     }
 
+    /// Drops of a region's rewritten table what the append queue takes away, in which it has no
+    /// table.
+    ///
+    /// # Errors
+    ///
+    /// Those of [`MemTable::overlay`], and `Memory`. The counts still agree with the table then.
     fn drop_rewritten(&mut self, id: u64, mark: &Mark, stats: &mut GlobalStats) -> Result<()>
         requires counted { IsCounted (table_in self.old id) stats.old }
         ensures { IsTableOverlaid mark.now None self.old id stats.old result self.new stats.new }

@@ -11,6 +11,11 @@ use raft_base::{EntryIndex, FileId, FileSeq, LogQueue, Result};
 use raft_table::{GlobalStats, Step};
 
 impl RegionTables {
+    /// Puts a new run of the append queue into a region's table.
+    ///
+    /// # Errors
+    ///
+    /// Those of [`MemTable::append`], and `Memory`. Tables and counts are then as they were.
     pub(crate) fn append_run(
         &mut self,
         id: u64,
@@ -29,6 +34,13 @@ impl RegionTables {
         self.update(id, stats, move |table, stats| table.append(run, stats))
     }
 
+    /// Does a step of a queue on a region's table. A clean takes the table away, and in the append
+    /// queue lists the region.
+    ///
+    /// # Errors
+    ///
+    /// Those of [`MemTable::take_step`], and `Memory`. Tables, counts and list are then as they
+    /// were.
     pub(crate) fn take_step(
         &mut self,
         queue: LogQueue,
@@ -50,6 +62,8 @@ impl RegionTables {
         })
     }
 
+    /// Puts copies of a key and its value into a region's table, where that has entries, and
+    /// returns whether it did. Where it did not, as for want of memory, nothing has changed.
     pub(crate) fn try_put(
         &mut self,
         id: u64,
@@ -70,6 +84,11 @@ impl RegionTables {
         table.boxed.try_put(key, value, file, stats)
     }
 
+    /// Takes a region's table away, and in the append queue lists the region.
+    ///
+    /// # Errors
+    ///
+    /// `Memory`, in the append queue alone. Tables, counts and list are then as they were.
     fn clean(
         &mut self,
         queue: LogQueue,
@@ -94,6 +113,11 @@ impl RegionTables {
         }
     }
 
+    /// Gives the entries of a region's table the places of a run of the rewrite queue.
+    ///
+    /// # Errors
+    ///
+    /// Those of [`MemTable::rewrite`], and `Memory`. Tables and counts are then as they were.
     pub(crate) fn rewrite_run(
         &mut self,
         id: u64,
@@ -115,6 +139,11 @@ impl RegionTables {
         })
     }
 
+    /// Moves a region's key to the file of number `seq` of the rewrite queue, if the gate lets it.
+    ///
+    /// # Errors
+    ///
+    /// Those of [`MemTable::rewrite_key`], and `Memory`. Tables and counts are then as they were.
     pub(crate) fn rewrite_key(
         &mut self,
         id: u64,

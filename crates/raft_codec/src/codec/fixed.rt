@@ -14,6 +14,8 @@ use crate::codec::{BytesSlice, Error, Result};
 /// The sign bit of an `i64` in two's complement.
 pub(crate) const SIGN_BIT: u64 = 1 << 63;
 
+/// Takes the first `N` bytes off the slice. On `Err` there are fewer, the slice is as it was, and
+/// the error is `Io` of kind `UnexpectedEof`.
 #[inline]
 fn take_front<const N: usize>(buf: &mut BytesSlice<'_>) -> Result<[u8; N]>
     ensures ok { IfOk result (λ front. buf.old.now ≡ front ++ buf.new.now) }

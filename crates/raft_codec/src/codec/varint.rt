@@ -72,6 +72,7 @@ pub fn parse_short_var_u64(bytes: &[u8]) -> Option<(u64, &[u8])>
     }
 }
 
+/// Returns the number of two septets, the lower one first. Their top bits count for nothing.
 #[inline(always)]
 fn two_septets(first: u8, second: u8) -> u64
     ensures { result ≡ first % 128 + 128 * (second % 128) }
@@ -79,6 +80,12 @@ fn two_septets(first: u8, second: u8) -> u64
     u64::from(first % 0x80) + (u64::from(second % 0x80) << 7)
 }
 
+/// Returns the number at the front of `bytes` and what follows it, septet by septet.
+///
+/// # Errors
+///
+/// `UnexpectedEof` where the bytes end before their number does, `InvalidData` where it passes 64
+/// bits.
 #[inline(never)]
 fn parse_septets(bytes: &[u8]) -> Result<(u64, &[u8])>
     ensures ok { IfOk result (λ read. Reads IsVarint bytes.now read.1.now read.0) }
@@ -99,6 +106,7 @@ fn parse_septets(bytes: &[u8]) -> Result<(u64, &[u8])>
     Err(Error::unexpected_eof())
 }
 
+/// Returns what a septet adds to the number at its place, the lowest of which is 0.
 #[inline]
 fn at_place(bits: u8, place: usize) -> u64
     requires septet { bits < 128 }
@@ -109,6 +117,7 @@ fn at_place(bits: u8, place: usize) -> u64
     u64::from(bits) << (7 * place)
 }
 
+/// Writes the shortest spelling of a number into the front of `bytes`, and returns its length.
 #[inline]
 pub(crate) fn put_var_u64(bytes: &mut [u8; 10], number: u64) -> usize
     ensures written { take result bytes.new ≡ varint number }
@@ -127,7 +136,12 @@ pub(crate) fn put_var_u64(bytes: &mut [u8; 10], number: u64) -> usize
     MAX_VAR_U64_LEN
 }
 
-/// Writes a byte, and returns whether the writer took it at once. It may be asked again where it did not.
+/// Writes a byte, and returns whether the writer took it at once. It may be asked again where it
+/// did not.
+///
+/// # Errors
+///
+/// That of the writer, as `Io`.
 pub(crate) fn takes_byte<W: Write>(writer: &mut W, byte: u8) -> Result<bool>
     ensures written { IfOk result (λ written. MatchBool written
         (Appends (W.contents writer.old) (W.contents writer.new) (byte ∷ []))
@@ -167,6 +181,7 @@ pub fn append_var_u64(buf: &mut Vec<u8>, number: u64) -> std::result::Result<(),
     buf.extend_from_slice(&bytes[..len])
 }
 
+/// Returns the spelling of a number that takes two bytes.
 fn in_two_bytes(number: u64) -> [u8; 2]
     requires least { 128 ≤ number }
     requires below { number < 16384 }
@@ -175,6 +190,7 @@ fn in_two_bytes(number: u64) -> [u8; 2]
     [septet(number), (number >> 7) as u8]
 }
 
+/// Returns the spelling of a number that takes three bytes.
 fn in_three_bytes(number: u64) -> [u8; 3]
     requires least { 16384 ≤ number }
     requires below { number < 2097152 }
@@ -183,6 +199,7 @@ fn in_three_bytes(number: u64) -> [u8; 3]
     [septet(number), septet(number >> 7), (number >> 14) as u8]
 }
 
+/// Returns the spelling of a number that takes four bytes.
 fn in_four_bytes(number: u64) -> [u8; 4]
     requires least { 2097152 ≤ number }
     requires below { number < 268435456 }
@@ -196,6 +213,7 @@ fn in_four_bytes(number: u64) -> [u8; 4]
     ]
 }
 
+/// Returns the byte of a number's lowest septet, behind which others follow.
 fn septet(number: u64) -> u8
     ensures { result ≡ number % 128 + 128 }
 {

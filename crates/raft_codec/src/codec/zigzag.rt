@@ -22,6 +22,7 @@ pub fn decode_var_i64(buf: &mut BytesSlice<'_>) -> Result<i64>
     Ok(number_of(code))
 }
 
+/// Returns the code of a number, which is small where the number is near 0.
 #[inline]
 pub(crate) fn code_of(number: i64) -> u64
     ensures { result ≡ zigzag number }
@@ -30,6 +31,7 @@ pub(crate) fn code_of(number: i64) -> u64
     if number < 0 { !doubled } else { doubled }
 }
 
+/// Returns the number that a code stands for.
 #[inline]
 fn number_of(code: u64) -> i64
     ensures { zigzag result ≡ code }

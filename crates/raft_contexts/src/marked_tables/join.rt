@@ -10,7 +10,12 @@ use raft_accessor::{BoxedTable, MemTableAccessor, RegionTables};
 use raft_base::{AllocResult, LogQueue, Result};
 
 impl MarkedTables {
-    /// After an `Err` some regions are joined.
+    /// Joins the tables, region marks and cleaned regions of a newer neighbor.
+    ///
+    /// # Errors
+    ///
+    /// `Corruption` where entries leave a hole in the append queue; `Full` where both hold more
+    /// than 2^64 - 1 records; `Memory`. Some regions are then joined.
     pub(crate) fn join(&mut self, queue: LogQueue, newer: MarkedTables) -> Result<()>
         requires older { live_in_all (other queue) self.old.accessor.tables ≡ 0 }
         requires newer { live_in_all (other queue) newer.accessor.tables ≡ 0 }
@@ -35,6 +40,10 @@ impl MarkedTables {
     }
 
     /// Joins the regions whose newer region mark is kept, and takes their tables out.
+    ///
+    /// # Errors
+    ///
+    /// Those of [`join`](MarkedTables::join). Some regions are then joined.
     fn join_regions(
         &mut self,
         queue: LogQueue,
@@ -54,6 +63,11 @@ impl MarkedTables {
         Ok(())
     }
 
+    /// Makes room in a slot for the tables and the region marks of `count` regions.
+    ///
+    /// # Errors
+    ///
+    /// Where there is no memory for them.
     fn make_room(&mut self, slot: usize, count: usize) -> AllocResult<()>
         requires { slot < 128 }
         ensures { self.new ≡ self.old }
@@ -62,6 +76,12 @@ impl MarkedTables {
         self.accessor.make_room(slot, count)
     }
 
+    /// Joins the regions of a slot whose newer region mark is kept, and takes their tables out of
+    /// `tables`.
+    ///
+    /// # Errors
+    ///
+    /// Those of [`join`](MarkedTables::join). Some regions are then joined.
     fn join_slot(
         &mut self,
         queue: LogQueue,
@@ -79,6 +99,12 @@ impl MarkedTables {
         Ok(())
     }
 
+    /// Joins a newer region, with its table, if it has one, to the own one: the table under the
+    /// newer region mark, and then the marks.
+    ///
+    /// # Errors
+    ///
+    /// Those of [`join`](MarkedTables::join). The table may then be joined alone.
     fn join_region(
         &mut self,
         queue: LogQueue,
@@ -117,6 +143,10 @@ impl MarkedTables {
     }
 
     /// Joins the newer tables that are left, each under the region mark that it implies.
+    ///
+    /// # Errors
+    ///
+    /// Those of [`join`](MarkedTables::join). Some regions are then joined.
     fn join_rest(&mut self, queue: LogQueue, tables: MemTableAccessor) -> Result<()>
         requires older { live_in_all (other queue) self.old.accessor.tables ≡ 0 }
         requires newer { live_in_all (other queue) tables.tables ≡ 0 }
@@ -141,6 +171,11 @@ impl MarkedTables {
         Ok(())
     }
 
+    /// Joins newer tables, each under the region mark that it implies.
+    ///
+    /// # Errors
+    ///
+    /// Those of [`join`](MarkedTables::join). Some regions are then joined.
     fn join_tables(&mut self, queue: LogQueue, tables: RegionTables) -> Result<()>
         requires older { live_in_all (other queue) self.old.accessor.tables ≡ 0 }
         requires newer { live_in_all (other queue) tables ≡ 0 }
@@ -161,6 +196,11 @@ impl MarkedTables {
         Ok(())
     }
 
+    /// Joins a newer table under the region mark that it implies.
+    ///
+    /// # Errors
+    ///
+    /// Those of [`join`](MarkedTables::join). The table may then be joined alone.
     fn join_implied(&mut self, queue: LogQueue, id: u64, newer: BoxedTable) -> Result<()>
         requires region { newer.region_id ≡ id }
         requires own { live_of (other queue) newer ≡ 0 }

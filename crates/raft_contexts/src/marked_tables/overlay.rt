@@ -9,7 +9,12 @@ use raft_accessor::{MemTableAccessor, RegionTables};
 use raft_base::Result;
 
 impl MarkedTables {
-    /// After an `Err` some regions are overlaid.
+    /// Puts the tables of the append queue over these rewritten ones, as their region marks say,
+    /// and lists its cleaned regions alone.
+    ///
+    /// # Errors
+    ///
+    /// `Full` where both hold more than 2^64 - 1 records; `Memory`. Some regions are then overlaid.
     pub(crate) fn overlay(&mut self, appended: MarkedTables) -> Result<()>
         requires own { live_in_all Rewrite appended.accessor.tables ≡ 0 }
         ensures ok { StandForSteps Rewrite (regions_in self.old)
@@ -29,7 +34,12 @@ impl MarkedTables {
         self.overlay_rest(accessor)
     }
 
-    /// Puts the regions of the append queue whose region mark is kept over the rewritten ones, and takes their tables out.
+    /// Puts the regions of the append queue whose region mark is kept over the rewritten ones, and
+    /// takes their tables out.
+    ///
+    /// # Errors
+    ///
+    /// Those of [`overlay`](MarkedTables::overlay). Some regions are then overlaid.
     fn overlay_regions(&mut self, marks: RegionMarks, appended: &mut MemTableAccessor) -> Result<()>
         requires own { live_in_all Rewrite appended.old.tables ≡ 0 }
         ensures { AreMarksOverlaid marks result self.old.accessor.tables self.new.accessor.tables
@@ -41,6 +51,12 @@ impl MarkedTables {
         Ok(())
     }
 
+    /// Puts the regions of a slot whose region mark is kept over the rewritten ones, and takes
+    /// their tables out of `appended`.
+    ///
+    /// # Errors
+    ///
+    /// Those of [`overlay`](MarkedTables::overlay). Some regions are then overlaid.
     fn overlay_slot(&mut self, marks: SlotMarks, appended: &mut MemTableAccessor) -> Result<()>
         requires own { live_in_all Rewrite appended.old.tables ≡ 0 }
         ensures { AreMarksOverlaid marks result self.old.accessor.tables self.new.accessor.tables
@@ -54,7 +70,12 @@ impl MarkedTables {
         Ok(())
     }
 
-    /// Puts tables of the append queue over the rewritten ones, each under the region mark that it implies.
+    /// Puts tables of the append queue over the rewritten ones, each under the region mark that it
+    /// implies.
+    ///
+    /// # Errors
+    ///
+    /// Those of [`overlay`](MarkedTables::overlay). Some regions are then overlaid.
     fn overlay_rest(&mut self, appended: MemTableAccessor) -> Result<()>
         requires own { live_in_all Rewrite appended.tables ≡ 0 }
         ensures ok { AreRunsOverlaid (implied_marks appended.tables) appended.tables
@@ -73,6 +94,12 @@ impl MarkedTables {
         Ok(())
     }
 
+    /// Puts tables of the append queue over the rewritten ones, each under the region mark that it
+    /// implies.
+    ///
+    /// # Errors
+    ///
+    /// Those of [`overlay`](MarkedTables::overlay). Some regions are then overlaid.
     fn overlay_tables(&mut self, appended: RegionTables) -> Result<()>
         requires own { live_in_all Rewrite appended ≡ 0 }
         ensures ok { AreRunsOverlaid (implied_marks appended) appended self.old.accessor.tables

@@ -9,7 +9,11 @@ use raft_records::{ReadBatch, ReadContent, ReadItem, is_reserved};
 use std::alloc::Global;
 
 impl MarkedTables {
-    /// After an `Err` some items are taken in.
+    /// Takes in the items of a batch that was read, in order.
+    ///
+    /// # Errors
+    ///
+    /// Those of [`take_items`](MarkedTables::take_items). Some items are then taken in.
     pub(crate) fn take_read(
         &mut self,
         alloc: Global,
@@ -34,6 +38,12 @@ impl MarkedTables {
         Ok(())
     }
 
+    /// Takes in an item that was read. A run has these spans at this place.
+    ///
+    /// # Errors
+    ///
+    /// Those of [`take_items`](MarkedTables::take_items). The step may then be in one of table and
+    /// region mark alone.
     fn take_read_item(
         &mut self,
         alloc: Global,
@@ -59,8 +69,15 @@ impl MarkedTables {
         self.take_item(queue, item)
     }
 
-    /// A run that begins among the entries of its region, or right after them, leaves the region mark as it is, which
-    /// then isn't looked up. After an `Err` the run is in its table, and not in the region mark.
+    /// Takes in an item that is a run of entries, and returns whether it did. `false` comes for
+    /// another item, for a run without entries, and for one that the table refuses, as for want of
+    /// memory; nothing has then changed. A run that begins among the entries of its region, or
+    /// right after them, leaves the region mark as it is, which then isn't looked up.
+    ///
+    /// # Errors
+    ///
+    /// Where there is no memory for the region mark. The run is then in its table, and not in the
+    /// mark.
     fn try_spans(
         &mut self,
         queue: LogQueue,
@@ -97,6 +114,8 @@ impl MarkedTables {
         Ok(true)
     }
 
+    /// Takes in an item that puts a value, where the region has entries, and returns whether it
+    /// did. Where it did not, as for another item or for want of memory, nothing has changed.
     fn try_put(&mut self, place: FileBlockHandle, item: &ReadItem<'_>) -> bool
         ensures { (queue : LogQueue) (spans : List (ℕ × ℕ)) → MatchBool result
             (AreStepsTaken queue (steps_of_items (item_shown place item.now spans ∷ []))

@@ -10,6 +10,14 @@ use crate::waiting_groups::WaitingGroups;
 use raft_base::{Error, LogQueue, Result};
 
 impl ReadState {
+    /// Takes in what was read of the append queue over this, which was read of the rewrite queue.
+    /// Groups that aren't whole are dropped.
+    ///
+    /// # Errors
+    ///
+    /// `InvalidArgument` where this isn't of the rewrite queue, or `append` isn't of the append
+    /// queue; `Full` where both hold more than 2^64 - 1 records; `Memory`. Some regions may then be
+    /// overlaid.
     pub(crate) fn overlay(&mut self, append: ReadState) -> Result<()>
         requires rewritten { IsOfHistory (context_in self.old) }
         requires appended { IsOfHistory (context_in append) }
@@ -26,6 +34,11 @@ impl ReadState {
         self.put_append(append)
     }
 
+    /// Refuses to put over each other what isn't of the rewrite queue and of the append queue.
+    ///
+    /// # Errors
+    ///
+    /// `InvalidArgument`, or `Memory` where its text finds none.
     fn check_append(&self, append: &ReadState) -> Result<()>
         ensures queues { OnOk result (AreOfBothQueues (context_in self.now)
             (context_in append.now)) }
@@ -40,6 +53,11 @@ impl ReadState {
         Ok(())
     }
 
+    /// Puts the tables of the append queue over these, and drops region marks and groups that wait.
+    ///
+    /// # Errors
+    ///
+    /// `Full` and `Memory`, as those of `overlay`.
     fn put_append(&mut self, append: ReadState) -> Result<()>
         requires rewritten { IsOfHistory (context_in self.old) }
         requires appended { IsOfHistory (context_in append) }

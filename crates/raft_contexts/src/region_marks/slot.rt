@@ -43,6 +43,7 @@ impl Model for SlotMarks {
 }
 
 impl SlotMarks {
+    /// Makes one without region marks.
     pub(crate) fn new(alloc: Global) -> SlotMarks
         ensures { result ≡ finite.empty }
     {
@@ -52,6 +53,7 @@ impl SlotMarks {
         }
     }
 
+    /// Returns how many regions have a region mark.
     pub(crate) fn len(&self) -> usize
         ensures value { result ≡ finite.len self.now }
         ensures few { result < 2 ^ 57 }
@@ -59,18 +61,25 @@ impl SlotMarks {
         self.marks.len()
     }
 
+    /// Tests whether the region mark of a region is kept.
     pub(crate) fn has(&self, id: u64) -> bool
         ensures { result ≡ is_some (finite.get self.now id) }
     {
         self.marks.contains_key(&id)
     }
 
+    /// Returns the region mark that is kept of a region, if one is.
     pub(crate) fn get(&self, id: u64) -> Option<&SmallMark>
         ensures { option_map (λ m. m.now) result ≡ finite.get self.now id }
     {
         self.marks.get(&id)
     }
 
+    /// Keeps the region mark of a run from `start` on as that of a region.
+    ///
+    /// # Errors
+    ///
+    /// Where there is no memory for it. The region marks are then as they were.
     pub(crate) fn put_run(&mut self, id: u64, start: u64) -> AllocResult<()>
         ensures ok { OnOk result (self.new ≡ finite.insert self.old id (run_at start)) }
         ensures err { OnErr result (self.new ≡ self.old) }
@@ -78,6 +87,7 @@ impl SlotMarks {
         self.put(id, SmallMark::of_run(self.alloc, start))
     }
 
+    /// Counts the deleted keys of all region marks.
     pub(crate) fn deleted_keys(&self) -> u128
         ensures value { result ≡ total (λ (m : Mark). finset.len m.deleted) self.now }
         ensures few { result < 2 ^ 121 }
@@ -89,6 +99,7 @@ impl SlotMarks {
         count
     }
 
+    /// Counts the regions that have no table.
     pub(crate) fn count_absent(&self, tables: &MemTableAccessor) -> u64
         ensures value { result ≡ count_absent tables.now.tables (keys_of (finite.entries self.now)) }
         ensures few { result < 2 ^ 57 }
@@ -100,6 +111,12 @@ impl SlotMarks {
         count
     }
 
+    /// Joins the region mark of a run from `start` on to that of a region, whose own entries end at
+    /// `end`.
+    ///
+    /// # Errors
+    ///
+    /// Where there is no memory for it. The region marks are then as they were.
     pub(crate) fn add_run(
         &mut self,
         id: u64,
@@ -118,7 +135,12 @@ impl SlotMarks {
         self.put(id, SmallMark::of_run(self.alloc, start))
     }
 
-    /// A deleted key is copied.
+    /// Joins the region mark of a step to that of a region. Where the step is a run, the region's
+    /// own entries in front of it end at `end`. A deleted key is copied.
+    ///
+    /// # Errors
+    ///
+    /// Where there is no memory for it. The region marks are then as they were.
     pub(crate) fn add_step(
         &mut self,
         id: u64,
@@ -134,7 +156,13 @@ impl SlotMarks {
         self.update(id, move |mark: &mut Mark| mark.add_step(queue, end, step))
     }
 
-    /// After an `Err` the region mark of the region may lack deleted keys, and serves no more.
+    /// Joins the region mark of newer steps to that of a region, whose own entries that their first
+    /// run meets end at `end_at_reach`.
+    ///
+    /// # Errors
+    ///
+    /// Where there is no memory for it. The region mark may then lack deleted keys, and serves no
+    /// more.
     pub(crate) fn join(
         &mut self,
         id: u64,
@@ -154,6 +182,10 @@ impl SlotMarks {
     }
 
     /// Makes room, up to `count` region marks.
+    ///
+    /// # Errors
+    ///
+    /// Where there is no memory for it. No region mark changes in either case.
     pub(crate) fn make_room(&mut self, count: usize) -> AllocResult<()>
         ensures { self.new ≡ self.old }
     {
@@ -168,7 +200,12 @@ impl SlotMarks {
         self.marks.into_iter()
     }
 
-    /// Changes the region mark of a region, that of no step where it has none. It is looked up once where it is there.
+    /// Changes the region mark of a region, that of no step where it has none. It is looked up once
+    /// where it is there.
+    ///
+    /// # Errors
+    ///
+    /// Those of the change, and where there is no memory to keep the result.
     #[inline(always)]
     fn update<F: FnOnce(&mut Mark) -> AllocResult<()>>(
         &mut self,
@@ -187,6 +224,12 @@ impl SlotMarks {
         self.put(id, mark)
     }
 
+    /// Keeps a region mark as that of a region.
+    ///
+    /// # Errors
+    ///
+    /// Where there is no memory for it, or as many are kept as can be counted. The region marks are
+    /// then as they were.
     fn put(&mut self, id: u64, mark: SmallMark) -> AllocResult<()>
         ensures ok { OnOk result (self.new ≡ finite.insert self.old id mark) }
         ensures err { OnErr result (self.new ≡ self.old) }
@@ -199,6 +242,7 @@ impl SlotMarks {
     }
 }
 
+/// Returns 1 for a region without a table, 0 for another.
 fn absent(tables: &MemTableAccessor, id: u64) -> u64
     ensures { result ≡ absent_in tables.now.tables id }
 {

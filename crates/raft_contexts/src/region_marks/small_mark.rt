@@ -43,6 +43,7 @@ impl Model for SmallMark {
 }
 
 impl SmallMark {
+    /// Returns the region mark of a run from `start` on. It takes no memory.
     pub(crate) fn of_run(alloc: Global, start: u64) -> SmallMark
         ensures { result ≡ record fresh { reach = Some start; cut = Some start } }
     {
@@ -52,7 +53,12 @@ impl SmallMark {
         }
     }
 
-    /// Keeps a region mark. That of a run alone is kept as the run's start, which no clause says: it saves room alone.
+    /// Keeps a region mark. That of a run alone is kept as the run's start, which no clause says:
+    /// it saves room alone.
+    ///
+    /// # Errors
+    ///
+    /// Where there is no memory for another one.
     fn of(alloc: Global, mark: Mark) -> AllocResult<SmallMark>
         ensures { IfOk result (λ kept. kept ≡ mark) }
     {
@@ -63,6 +69,7 @@ impl SmallMark {
         Ok(SmallMark { form, alloc })
     }
 
+    /// Returns the region mark with its deleted keys.
     pub(crate) fn into_mark(self) -> Mark
         ensures { result ≡ self }
     {
@@ -94,6 +101,7 @@ impl SmallMark {
         }
     }
 
+    /// Returns the start of the run where the region mark is kept as that of a run alone.
     pub(crate) fn run_alone(&self) -> Option<u64>
         ensures { IfSome result (λ start. self.now
             ≡ record fresh { reach = Some start; cut = Some start }) }
@@ -104,6 +112,7 @@ impl SmallMark {
         }
     }
 
+    /// Returns how many keys are deleted.
     pub(crate) fn deleted_keys(&self) -> usize
         ensures { result ≡ finset.len self.now.deleted }
     {
@@ -113,6 +122,11 @@ impl SmallMark {
         }
     }
 
+    /// Joins the region mark of a run from `start` on, where the own entries end at `end`.
+    ///
+    /// # Errors
+    ///
+    /// Where there is no memory for it. The region mark is then as it was.
     pub(crate) fn add_run(&mut self, queue: LogQueue, end: u64, start: u64) -> AllocResult<()>
         ensures ok { OnOk result (self.new ≡ joined_at queue end self.old
             (record fresh { reach = Some start; cut = Some start })) }
@@ -127,6 +141,12 @@ impl SmallMark {
         })
     }
 
+    /// Changes the region mark.
+    ///
+    /// # Errors
+    ///
+    /// Those of the change, and where there is no memory to keep the result. A mark of a run alone
+    /// is then as it was, another one as the change left it.
     #[inline(always)]
     pub(crate) fn update<F: FnOnce(&mut Mark) -> AllocResult<()>>(
         &mut self,
@@ -147,6 +167,11 @@ impl SmallMark {
         }
     }
 
+    /// Returns what a change makes of a region mark.
+    ///
+    /// # Errors
+    ///
+    /// Those of the change, and where there is no memory to keep the result.
     #[inline(always)]
     pub(crate) fn changed<F: FnOnce(&mut Mark) -> AllocResult<()>>(
         alloc: Global,
@@ -162,6 +187,8 @@ impl SmallMark {
         SmallMark::of(alloc, mark)
     }
 
+    /// Tests whether it is plain that a run from `start` on changes nothing, where the own entries
+    /// end at `end`. `false` says nothing of it.
     fn covers(&self, end: u64, start: u64) -> bool
         ensures { MatchBool result ((queue : LogQueue) → joined_at queue end self.now
             (record fresh { reach = Some start; cut = Some start }) ≡ self.now) (Unit {0}) }
@@ -173,6 +200,7 @@ impl SmallMark {
     }
 }
 
+/// Returns the start of the run where a region mark is seen to be that of a run alone.
 fn only_run(mark: &Mark) -> Option<u64>
     ensures { IfSome result (λ start. mark.now
         ≡ record fresh { reach = Some start; cut = Some start }) }

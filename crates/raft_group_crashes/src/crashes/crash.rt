@@ -28,7 +28,7 @@ impl<'a, R: Host + Print> Crashes<'a, R> {
     /// Opens the folder, with tables that so many threads recover, and looks whether the store holds what it has to.
     pub(crate) fn reopen(&mut self, workers: usize, expected: &str) -> Result<()> {
         self.tried = self.tried.saturating_add(1);
-        match self.recovered(workers) {
+        match self.recover_text(workers) {
             Ok(found) => self.compare(found.as_str(), expected),
             Err(e) => {
                 self.different = self.different.saturating_add(1);
@@ -47,7 +47,7 @@ impl<'a, R: Host + Print> Crashes<'a, R> {
     }
 
     /// Returns what the store holds that is opened from the folder, with tables that so many workers recover.
-    fn recovered(&self, workers: usize) -> Result<String> {
+    fn recover_text(&self, workers: usize) -> Result<String> {
         let alloc = self.rt.alloc();
         let mut store = Store::open(self.rt, CRASHED, FILE_SIZE, 1)?;
         if workers > 1 {

@@ -10,7 +10,7 @@ use std::alloc::Global;
 use std::{fs, mem};
 
 /// The files of both queues: the older ones in the folder of the crashes, the last ones here. A failure of power leaves
-/// what was synced, and of what was written since a front, of each queue by itself.
+/// what was synced, and of what was written since a prefix, of each queue by itself.
 #[derive(Drop)]
 pub(crate) struct DiskNotes {
     alloc: Global,
@@ -19,7 +19,7 @@ pub(crate) struct DiskNotes {
     append: Tail,
     rewrite: Tail,
     /// What the store held at the last sync of the append queue, and after each batch since.
-    fronts: Vec<String>,
+    prefix_texts: Vec<String>,
 }
 
 impl DiskNotes {
@@ -30,10 +30,11 @@ impl DiskNotes {
             least: (first, first),
             append: Tail::new(alloc, FileId::new(LogQueue::Append, first)),
             rewrite: Tail::new(alloc, FileId::new(LogQueue::Rewrite, first)),
-            fronts: vec![in alloc; String::new(alloc)]?,
+            prefix_texts: vec![in alloc; String::new(alloc)]?,
         })
     }
 
+    /// Returns the last file of a queue, to be changed.
     fn tail(&mut self, queue: LogQueue) -> &mut Tail {
         match queue {
             LogQueue::Append => &mut self.append,
@@ -73,7 +74,7 @@ impl DiskNotes {
         let old = tail.len();
         tail.write(bytes)?;
         if id.queue == LogQueue::Append {
-            self.fronts.push(text(self.alloc, new)?)?;
+            self.prefix_texts.push(text(self.alloc, new)?)?;
         }
         if crashes.each_byte {
             self.try_each_byte(crashes, id.queue, old)?;
@@ -118,20 +119,23 @@ impl DiskNotes {
     ) -> Result<()> {
         self.put(crashes.rt, &self.append, append)?;
         self.put(crashes.rt, &self.rewrite, rewrite)?;
-        crashes.reopen(workers, self.front_of(append))
+        crashes.reopen(workers, self.text_of_prefix(append))
     }
 
     /// Writes the last file of a queue, as far as a crash leaves it.
     fn put<R: Host>(&self, rt: &R, tail: &Tail, len: usize) -> Result<()> {
         let path = path_in(self.alloc, CRASHED, tail.id)?;
-        Ok(fs::write(rt, path.as_str(), tail.front(len))?)
+        Ok(fs::write(rt, path.as_str(), tail.prefix(len))?)
     }
 
     /// Returns what the store has to hold where so many bytes of the last append file are left.
-    fn front_of(&self, append: usize) -> &str {
-        let lost = self.append.lost_behind(append).saturating_add(1);
-        match self.fronts.get(self.fronts.len().saturating_sub(lost)) {
-            Some(front) => front.as_str(),
+    fn text_of_prefix(&self, append: usize) -> &str {
+        let lost = self.append.count_lost_behind(append).saturating_add(1);
+        match self
+            .prefix_texts
+            .get(self.prefix_texts.len().saturating_sub(lost))
+        {
+            Some(prefix) => prefix.as_str(),
             None => "",
         }
     }
@@ -140,8 +144,8 @@ impl DiskNotes {
     fn sync(&mut self, queue: LogQueue) -> Result<()> {
         self.tail(queue).sync();
         if queue == LogQueue::Append {
-            let front = text(self.alloc, self.front_of(usize::MAX))?;
-            self.fronts = vec![in self.alloc; front]?;
+            let prefix = text(self.alloc, self.text_of_prefix(usize::MAX))?;
+            self.prefix_texts = vec![in self.alloc; prefix]?;
         }
         Ok(())
     }
@@ -187,11 +191,11 @@ impl DiskNotes {
         dice: &mut Dice,
     ) -> Result<((FileId, usize), (FileId, usize), String)> {
         let (append, rewrite) = (self.append.draw(dice), self.rewrite.draw(dice));
-        let front = text(self.alloc, self.front_of(append))?;
+        let prefix = text(self.alloc, self.text_of_prefix(append))?;
         self.append.keep(append);
         self.rewrite.keep(rewrite);
-        self.fronts = vec![in self.alloc; text(self.alloc, &front)?]?;
-        Ok(((self.append.id, append), (self.rewrite.id, rewrite), front))
+        self.prefix_texts = vec![in self.alloc; text(self.alloc, &prefix)?]?;
+        Ok(((self.append.id, append), (self.rewrite.id, rewrite), prefix))
     }
 }
 

@@ -20,7 +20,8 @@ pub(crate) const FOLDER: &str = "raft_group_crashes_history";
 /// move, entries are replaced and compacted to their end, and all append files go.
 static REPLACED: [u64; 4] = [24, 25, 26, 20];
 
-fn replaced() -> &'static [u64] {
+/// Returns the steps in a row that [`REPLACED`] lists.
+fn replacing_steps() -> &'static [u64] {
     &REPLACED
 }
 
@@ -52,7 +53,7 @@ impl<'a, R: Host + Print> History<'a, R> {
             kept: BTreeMap::new(rt.alloc()),
             disk: DiskNotes::new(rt.alloc(), first)?,
             dice: Dice::new(seed),
-            taken: replaced().len(),
+            taken: replacing_steps().len(),
         })
     }
 
@@ -78,7 +79,7 @@ impl<'a, R: Host + Print> History<'a, R> {
 
     /// Returns the next step of the row that was begun, or else one that is drawn.
     fn next_step(&mut self) -> u64 {
-        if let Some(step) = replaced().get(self.taken) {
+        if let Some(step) = replacing_steps().get(self.taken) {
             self.taken = self.taken.saturating_add(1);
             return *step;
         }
@@ -144,12 +145,12 @@ impl<'a, R: Host + Print> History<'a, R> {
     /// Loses what a failure of power takes, and opens the store again.
     fn fail(&mut self, crashes: &mut Crashes<'a, R>) -> Result<()> {
         let alloc = self.rt.alloc();
-        let (append, rewrite, front) = self.disk.fail(&mut self.dice)?;
-        self.store.pipe.cut(append.0, append.1 as u64)?;
-        self.store.pipe.cut(rewrite.0, rewrite.1 as u64)?;
+        let (append, rewrite, prefix) = self.disk.fail(&mut self.dice)?;
+        self.store.pipe.cut_file(append.0, append.1 as u64)?;
+        self.store.pipe.cut_file(rewrite.0, rewrite.1 as u64)?;
         self.store = open(self.rt, self.file_size)?;
         self.kept = self.store.contents()?;
-        crashes.compare(text_of(alloc, &self.kept)?.as_str(), front.as_str())
+        crashes.compare(text_of(alloc, &self.kept)?.as_str(), prefix.as_str())
     }
 
     /// Writes a batch of one to three changes, and syncs some.

@@ -16,6 +16,7 @@ pub(crate) struct Tail {
 }
 
 impl Tail {
+    /// Makes an empty file.
     pub(crate) fn new(alloc: Global, id: FileId) -> Tail {
         Tail {
             id,
@@ -25,6 +26,7 @@ impl Tail {
         }
     }
 
+    /// Returns how many bytes it has.
     pub(crate) fn len(&self) -> usize {
         self.bytes.len()
     }
@@ -35,12 +37,13 @@ impl Tail {
         Ok(self.ends.push(self.bytes.len())?)
     }
 
+    /// Notes that all bytes last.
     pub(crate) fn sync(&mut self) {
         self.synced = self.bytes.len();
     }
 
     /// Returns the first bytes.
-    pub(crate) fn front(&self, len: usize) -> &[u8] {
+    pub(crate) fn prefix(&self, len: usize) -> &[u8] {
         self.bytes.get(..len).unwrap_or(b"")
     }
 
@@ -52,13 +55,13 @@ impl Tail {
         match dice.below(4) {
             0 => self.bytes.len(),
             1 => self.synced,
-            2 => self.whole_front(len),
+            2 => self.whole_prefix_len(len),
             _ => len,
         }
     }
 
     /// Returns how many of the first bytes are whole batches.
-    fn whole_front(&self, len: usize) -> usize {
+    fn whole_prefix_len(&self, len: usize) -> usize {
         let mut whole = 0;
         for end in &self.ends {
             if *end <= len {
@@ -69,7 +72,7 @@ impl Tail {
     }
 
     /// Returns how many batches the first bytes lack.
-    pub(crate) fn lost_behind(&self, len: usize) -> usize {
+    pub(crate) fn count_lost_behind(&self, len: usize) -> usize {
         let mut lost = 0usize;
         for end in &self.ends {
             if *end > len {
@@ -81,7 +84,7 @@ impl Tail {
 
     /// Drops what a failure doesn't leave; the rest lasts.
     pub(crate) fn keep(&mut self, len: usize) {
-        let whole = self.whole_front(len);
+        let whole = self.whole_prefix_len(len);
         self.bytes.truncate(whole);
         self.ends.retain(|end: &usize| *end <= whole);
         self.synced = whole;

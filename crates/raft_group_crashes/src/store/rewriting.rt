@@ -67,6 +67,7 @@ impl<R: Host> Store<'_, R> {
         Ok((appended, rewritten))
     }
 
+    /// Deletes the files of a queue below the least one that a table needs, and returns how many.
     fn purge_queue(&mut self, queue: LogQueue) -> Result<usize> {
         let (_, last) = self.pipe.file_span(queue);
         let least = self.tables.fold(last, |least: FileSeq, table: &MemTable| {
@@ -77,7 +78,7 @@ impl<R: Host> Store<'_, R> {
         });
         let least = FileId::new(queue, least);
         let deleted = self.pipe.purge_to(least)?;
-        self.pipe = self.pipe.reopened()?;
+        self.pipe = self.pipe.reopen()?;
         self.note(FileChange::DeletedBelow(least))?;
         Ok(deleted)
     }

@@ -173,6 +173,12 @@ impl LogBatch {
     }
 }
 
+/// Appends the entry bytes, a string for each index, and adds the item of the entries.
+///
+/// # Errors
+///
+/// `Full` where the entry bytes of the batch would pass 2^31 - 1, `Memory`. The items are then as
+/// they were, and some of the bytes may be appended.
 fn write_strings(
     buf: &mut Vec<u8>,
     item_batch: &mut LogItemBatch,
@@ -200,6 +206,12 @@ fn write_strings(
     item_batch.add_entry_indexes(region, entry_indexes)
 }
 
+/// Appends the entry bytes, a string for each index, and sets the lengths of the entries.
+///
+/// # Errors
+///
+/// `Full` where the entry bytes of the batch would pass 2^31 - 1, `Memory`. Some of the bytes may
+/// then be appended, and some lengths set.
 fn append_strings(
     buf: &mut Vec<u8>,
     entry_indexes: &mut Vec<EntryIndex>,
@@ -226,6 +238,12 @@ fn append_strings(
     Ok(())
 }
 
+/// Appends the entry bytes, which stand one behind another, and adds the item of the entries.
+///
+/// # Errors
+///
+/// `Full` where the entry bytes of the batch would pass 2^31 - 1, `Memory`. The items are then as
+/// they were, and the bytes may be appended.
 fn write_joined(
     buf: &mut Vec<u8>,
     item_batch: &mut LogItemBatch,
@@ -252,6 +270,13 @@ fn write_joined(
     item_batch.add_entry_indexes(region, entry_indexes)
 }
 
+/// Appends the bytes of messages, and adds the item of their entries.
+///
+/// # Errors
+///
+/// `InvalidArgument` where their indexes are not consecutive, `Full` where the entry bytes of the
+/// batch would pass 2^31 - 1, `Message` where a message refuses to write itself, `Memory`. The
+/// items are then as they were, and some of the bytes may be appended.
 fn write_messages<M: MessageExt>(
     buf: &mut Vec<u8>,
     item_batch: &mut LogItemBatch,
@@ -287,6 +312,7 @@ fn write_messages<M: MessageExt>(
     Ok(item_batch.add_laid_entries(region, entry_indexes, end)?)
 }
 
+/// Tests whether the indexes of messages rise by one, and none is 2^64 - 1.
 fn have_consecutive_indexes<M: MessageExt>(entries: &[M::Entry]) -> bool
     ensures { IsTrue result ↔ IsConsecutive (map (λ e. entry_with_index (M.index_of e)) entries.now) }
 {
@@ -303,6 +329,12 @@ fn have_consecutive_indexes<M: MessageExt>(entries: &[M::Entry]) -> bool
     true
 }
 
+/// Appends the bytes of messages, and pushes an entry for each, for which there is room.
+///
+/// # Errors
+///
+/// `Full` where the entry bytes of the batch would pass 2^31 - 1, `Message` where a message refuses
+/// to write itself, `Memory`. Some of the bytes may then be appended, and some entries pushed.
 fn append_messages<M: MessageExt>(
     buf: &mut Vec<u8>,
     entry_indexes: &mut Vec<EntryIndex>,
@@ -340,6 +372,12 @@ fn append_messages<M: MessageExt>(
     Ok(())
 }
 
+/// Makes room for the entry bytes of a buffer of `len` bytes, unless the own buffer has none and
+/// can be swapped.
+///
+/// # Errors
+///
+/// Where there is no memory for them.
 fn reserve_behind(buf: &mut Vec<u8>, len: usize) -> AllocResult<()>
     ensures same { buf.new.items ≡ buf.old.items }
     ensures room { OnOk result (16 < length buf.old.items →
@@ -351,6 +389,8 @@ fn reserve_behind(buf: &mut Vec<u8>, len: usize) -> AllocResult<()>
     Ok(())
 }
 
+/// Moves the entry bytes of another buffer behind the own ones, for which there is room. The other
+/// is left empty, and keeps 8 MiB of room at most.
 fn move_entry_bytes(buf: &mut Vec<u8>, others: &mut Vec<u8>)
     requires { 16 < length buf.old.items →
         length buf.old.items + (length others.old.items - 16) ≤ vec_capacity buf.old }
@@ -366,6 +406,7 @@ fn move_entry_bytes(buf: &mut Vec<u8>, others: &mut Vec<u8>)
     others.shrink_to(MAX_LOG_BATCH_BUFFER_CAP);
 }
 
+/// Appends the entry bytes of another buffer, for which there is room.
 fn append_entry_bytes(buf: &mut Vec<u8>, others: &[u8])
     requires { length buf.old.items + (length others.now - 16) ≤ vec_capacity buf.old }
     ensures { buf.new.items ≡ buf.old.items ++ drop 16 others.now }

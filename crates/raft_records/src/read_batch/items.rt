@@ -18,6 +18,7 @@ pub(crate) trait Kept: Sized {
     /// What is kept of this entry.
     ghost kept_of: { EntryIndex → Self };
 
+    /// Returns what is kept of the entry `index`, whose bytes go from `offset` to `tail`.
     fn from_tail(index: u64, offset: u32, tail: u32) -> Self
         requires { offset ≤ tail }
         ensures { result ≡ kept_of (entry_between index offset tail) };
@@ -48,6 +49,11 @@ impl Kept for (u32, u32) {
     }
 }
 
+/// Reads this many items, and returns what follows them.
+///
+/// # Errors
+///
+/// Those of [`LogItem::decode`](crate::LogItem::decode). Some items and spans may then be added.
 pub(super) fn read_items<'a>(
     alloc: Global,
     bytes: &'a [u8],
@@ -79,7 +85,12 @@ pub(super) fn read_items<'a>(
     Ok(rest)
 }
 
-/// Returns the end of the entries' bytes of the item, and what follows it.
+/// Reads an item, whose entries' bytes begin at `start`, and returns where they end and what
+/// follows it.
+///
+/// # Errors
+///
+/// Those of [`LogItem::decode`](crate::LogItem::decode). Some spans may then be added.
 #[inline(never)]
 #[tactic(auto, using(crate::proofs::ReadBatchLemmas::held_item))]
 fn read_item<'a>(
@@ -100,7 +111,12 @@ fn read_item<'a>(
     Ok((end, rest))
 }
 
-/// Returns the content, the end of its entries' bytes, and what follows it.
+/// Reads the content of an item, and returns it with the end of its entries' bytes and what follows
+/// it.
+///
+/// # Errors
+///
+/// Those of [`LogItem::decode`](crate::LogItem::decode). Some entries may then be kept.
 #[tactic(auto, using(crate::proofs::ReadBatchLemmas::entries_are_content, crate::proofs::ReadBatchLemmas::command_read, crate::proofs::ReadBatchLemmas::pair_read))]
 pub(crate) fn read_content<'a, T: Kept>(
     alloc: Global,
@@ -137,7 +153,12 @@ pub(crate) fn read_content<'a, T: Kept>(
     }
 }
 
-/// Returns the first one's index, how many they are, the end of their bytes, and what follows them.
+/// Reads the entries of an item, and returns the first one's index, how many they are, the end of
+/// their bytes, and what follows them.
+///
+/// # Errors
+///
+/// Those of [`EntryIndexes::decode`](crate::EntryIndexes::decode). Some entries may then be kept.
 #[tactic(auto, using(crate::proofs::ReadBatchLemmas::no_entries_read, crate::proofs::ReadBatchLemmas::run_read_of))]
 pub(crate) fn read_entries<'a, T: Kept>(
     alloc: Global,
@@ -159,6 +180,12 @@ pub(crate) fn read_entries<'a, T: Kept>(
     Ok((first, count as usize, end, rest))
 }
 
+/// Reads this many entries from the index `first` on, whose bytes begin at `start`, and returns
+/// where they end and what follows them.
+///
+/// # Errors
+///
+/// Those of [`EntryIndexes::decode`](crate::EntryIndexes::decode). Some entries may then be kept.
 #[inline(never)]
 fn read_tails<'a, T: Kept>(
     alloc: Global,
@@ -221,6 +248,8 @@ fn read_short_item<'a>(
     Some((end, rest))
 }
 
+/// Reads a run or a put whose numbers are short, and returns it with the end of its entries' bytes
+/// and what follows it. Where it isn't one, nothing is returned, and no span is added.
 #[inline(always)]
 fn read_short_content<'a>(
     bytes: &'a [u8],
@@ -279,6 +308,9 @@ fn parse_short_put(bytes: &[u8]) -> Option<(ReadContent<'_>, &[u8])>
     Some((ReadContent::Put { key, value }, rest))
 }
 
+/// Reads this many entries whose bytes begin at `start` and whose tail offsets are short, and
+/// returns where they end and what follows them. Where one isn't, nothing is returned, and no span
+/// is added.
 #[inline(always)]
 fn read_short_spans<'a>(
     bytes: &'a [u8],
@@ -307,6 +339,9 @@ fn read_short_spans<'a>(
     Some((offset, rest))
 }
 
+/// Reads a short length and as many bytes, which it returns with what follows them. Nothing is
+/// returned where no length stands there, it takes more than four bytes, or fewer bytes than it
+/// says are left.
 #[inline(always)]
 #[tactic(auto, using(crate::proofs::ItemLemmas::text_read, raft_codec::proofs::VarintLemmas::short_is_read))]
 fn parse_short_byte_string(bytes: &[u8]) -> Option<(&[u8], &[u8])>

@@ -93,6 +93,12 @@ impl DeletedKeys {
         self.take_each(rhs)
     }
 
+    /// Moves the keys of `rhs` into these, one after another.
+    ///
+    /// # Errors
+    ///
+    /// Where there is no memory for a key. It is lost then, those before it have been moved, and
+    /// the others are left in `rhs`.
     fn take_each(&mut self, rhs: &mut DeletedKeys) -> AllocResult<()>
         ensures ok { OnOk result (self.new ≡ finset.union self.old rhs.old) }
         ensures emptied { OnOk result (rhs.new ≡ finset.empty) }
@@ -103,6 +109,7 @@ impl DeletedKeys {
         Ok(())
     }
 
+    /// Takes the first key out, in the order of bytes; `None` where there is none.
     fn take_first(&mut self) -> Option<Vec<u8>>
         ensures first { IfSome result (λ k. self.old ≡ finset.insert self.new k.items) }
         ensures fewer { IfSome result (λ k. finset.len self.new < finset.len self.old) }
@@ -121,6 +128,7 @@ impl DeletedKeys {
     }
 }
 
+/// Takes the pairs of the keys in `deleted` away.
 fn delete_all(deleted: &BTreeMap<Vec<u8>, ()>, keys: &mut KeyValues)
     ensures after { keys.new
         ≡ without (finset.from_list (map (λ e. e.0.items) deleted.now.entries)) keys.old }

@@ -70,6 +70,7 @@ impl Model for Entries {
 }
 
 impl Entries {
+    /// Makes one without entries.
     pub fn new(alloc: Global) -> Entries
         ensures { result ≡ [] }
     {
@@ -82,12 +83,15 @@ impl Entries {
         }
     }
 
+    /// States that the entries are one run, the rewritten ones first.
     pub fn holds_one_run(&self)
         ensures { AreTableEntries self.now }
     {
         let _ = &self.blocks;
     }
 
+    /// Returns the blocks that the entries are kept in, in order. None is empty, and neighboring
+    /// ones have different places.
     pub fn blocks(&self) -> &VecDeque<Block>
         ensures entries { entries_in_blocks (start_of self.now) (shown result.now) ≡ self.now }
         ensures distinct { AreDistinctBlocks (shown result.now) }
@@ -96,6 +100,7 @@ impl Entries {
         &self.blocks
     }
 
+    /// Returns the index of the first entry, `None` without entries.
     pub fn first_index(&self) -> Option<u64>
         ensures { MatchOption result (self.now ≡ []) (λ i. (self.now ≢ []) ×
             (i ≡ start_of self.now)) }
@@ -106,6 +111,7 @@ impl Entries {
         Some(self.first)
     }
 
+    /// Returns the index of the last entry, `None` without entries.
     pub fn last_index(&self) -> Option<u64>
         ensures { MatchOption result (self.now ≡ []) (λ i. i + 1 ≡ end_of self.now) }
     {
@@ -115,6 +121,7 @@ impl Entries {
         Some(self.first + (self.len - 1) as u64)
     }
 
+    /// Returns how many entries there are.
     #[tactic(auto, using(crate::proofs::BlockCuts::kept_facts))]
     pub fn len(&self) -> usize
         ensures { result ≡ length self.now }
@@ -122,6 +129,7 @@ impl Entries {
         self.len
     }
 
+    /// Returns how many entries have their place in `queue`.
     pub fn count_in(&self, queue: LogQueue) -> usize
         ensures { result ≡ entry_count queue self.now }
     {
@@ -131,10 +139,12 @@ impl Entries {
         }
     }
 
+    /// Returns the allocator of the blocks.
     pub(crate) fn allocator(&self) -> Global {
         *self.blocks.allocator()
     }
 
+    /// Returns the entry at an index, `None` where none stands there.
     pub fn get(&self, index: u64) -> Option<EntryIndex>
         ensures { result ≡ entry_at index self.now }
     {

@@ -13,12 +13,16 @@ pub fn hole_error(alloc: Global, region_id: u64, start: u64, end: u64) -> Error
     hole_error_from(alloc, region_id, "index ", start, end)
 }
 
+/// Makes the `Corruption` for a run that starts above the index `below`, and so leaves a hole
+/// behind entries that end before the index `end`; `Memory` where its text finds none.
 pub fn hole_error_above(alloc: Global, region_id: u64, below: u64, end: u64) -> Error
     ensures { IsCorruption (hole_text_above region_id below end) result }
 {
     hole_error_from(alloc, region_id, "above index ", below, end)
 }
 
+/// Makes the `Corruption` for a run that leaves a hole, with `words` in front of the index where it
+/// starts; `Memory` where its text finds none.
 fn hole_error_from(alloc: Global, region_id: u64, words: &str, index: u64, end: u64) -> Error
     ensures { IsCorruption (hole_text_from region_id words.now index end) result }
 {

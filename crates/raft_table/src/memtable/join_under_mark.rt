@@ -117,6 +117,7 @@ impl MemTable {
         Ok(())
     }
 
+    /// Tests whether the table is as a new one: it has no entry, no key, and no atomic group.
     fn is_blank(&self) -> bool
         ensures { MatchBool result (self.now ≡ empty_table self.now.region_id) (Unit {0}) }
     {
@@ -126,6 +127,9 @@ impl MemTable {
         }
     }
 
+    /// Tests whether the entries of this rewritten table all go because those of the newer,
+    /// appended one don't join them: these don't begin at the mark's cut, or the own ones end below
+    /// it.
     fn is_unjoined(&self, rhs: &MemTable, mark: &Mark) -> bool
         ensures { result ≡ is_unjoined mark.now.cut (end_of self.now.entries) rhs.now.entries }
     {
@@ -135,6 +139,8 @@ impl MemTable {
         }
     }
 
+    /// Puts the atomic group of `rhs` in place of the own one, if it has one, and takes it from
+    /// `rhs`.
     pub(super) fn take_atomic_group(&mut self, rhs: &mut MemTable)
         ensures atomic_group { self.new ≡ record self.old {
           atomic_group = newer_atomic_group rhs.old.atomic_group self.old.atomic_group;
@@ -146,6 +152,8 @@ impl MemTable {
         }
     }
 
+    /// Takes the atomic group of an appended table from it. It replaces the own one where the mark
+    /// says that the region was cleaned, and else it is dropped.
     fn take_appended_group(&mut self, rhs: &mut MemTable, mark: &Mark)
         ensures atomic_group { self.new ≡ record self.old {
           atomic_group = if mark.now.cleaned then rhs.old.atomic_group else self.old.atomic_group;
@@ -195,6 +203,11 @@ impl MemTable {
         }
     }
 
+    /// Refuses a region mark whose first run leaves a hole after entries that end at `end`.
+    ///
+    /// # Errors
+    ///
+    /// `Corruption`, or `Memory` where its text finds none.
     fn check_first_run(&self, mark: &Mark, end: u64) -> Result<()>
         requires { end ≡ end_at_reach mark.now self.now }
         ensures ok { OnOk result (is_missed mark.now self.now.entries ≡ false) }
@@ -211,6 +224,11 @@ impl MemTable {
         Err(hole_error(self.entries.allocator(), self.region_id, start, end))
     }
 
+    /// Refuses a region mark that bars indexes at which entries stand.
+    ///
+    /// # Errors
+    ///
+    /// `Corruption`, or `Memory` where its text finds none.
     fn check_barred(&self, mark: &Mark) -> Result<()>
         ensures ok { OnOk result (is_barred mark.now.barred self.now.entries ≡ false) }
         ensures fault { IfErr result (IsMarkFault
@@ -229,6 +247,9 @@ impl MemTable {
         Err(hole_error_above(self.entries.allocator(), self.region_id, below, end))
     }
 
+    /// Drops what the steps of a newer region mark take away, and takes it off the counts: all
+    /// after a clean; else the deleted keys, and the entries outside of floor and cut, or all where
+    /// `gone`.
     fn drop_older(&mut self, gone: bool, mark: &Mark, stats: &mut GlobalStats)
         requires counted { IsCounted self.old stats.old }
         ensures left { self.new ≡ left_by gone mark.now self.old }
@@ -246,6 +267,8 @@ impl MemTable {
         self.drop_deleted(mark.deleted(), stats);
     }
 
+    /// Drops the entries outside of the mark's floor and cut, or all where `gone`, and takes them
+    /// off the counts.
     fn drop_entries(&mut self, gone: bool, mark: &Mark, stats: &mut GlobalStats)
         requires counted { IsCounted self.old stats.old }
         ensures left { self.new ≡ record self.old {
@@ -261,6 +284,7 @@ impl MemTable {
         self.entries.keep_within(mark.floor(), mark.cut(), stats);
     }
 
+    /// Drops all key values, and takes them off the counts.
     fn drop_keys(&mut self, stats: &mut GlobalStats)
         requires counted { IsCounted self.old stats.old }
         ensures dropped { self.new ≡ record self.old { keys = finite.empty } }
@@ -271,6 +295,7 @@ impl MemTable {
         self.keys.clear();
     }
 
+    /// Drops the values of the deleted keys, and takes them off the counts.
     fn drop_deleted(&mut self, deleted: &DeletedKeys, stats: &mut GlobalStats)
         requires counted { IsCounted self.old stats.old }
         ensures dropped { self.new ≡ record self.old { keys = without deleted.now self.old.keys } }

@@ -47,6 +47,7 @@ impl Model for KeyValues {
 }
 
 impl KeyValues {
+    /// Makes one without keys.
     pub fn new(alloc: Global) -> KeyValues
         ensures { result ≡ finite.empty }
     {
@@ -57,18 +58,21 @@ impl KeyValues {
         }
     }
 
+    /// Returns how many keys have a value.
     pub fn len(&self) -> usize
         ensures { result ≡ finite.len self.now }
     {
         self.pairs.len()
     }
 
+    /// Tests whether no key has a value.
     pub fn is_empty(&self) -> bool
         ensures { IsTrue result ↔ (self.now ≡ finite.empty) }
     {
         self.pairs.is_empty()
     }
 
+    /// Takes all keys away.
     pub fn clear(&mut self)
         ensures { self.new ≡ finite.empty }
     {
@@ -76,6 +80,7 @@ impl KeyValues {
         self.rewritten = 0;
     }
 
+    /// Returns how many values are in files of `queue`.
     pub fn count_in(&self, queue: LogQueue) -> usize
         ensures { result ≡ pair_count queue self.now }
     {
@@ -85,6 +90,7 @@ impl KeyValues {
         }
     }
 
+    /// Returns the value of a key, `None` where it has none.
     pub fn get(&self, key: &[u8]) -> Option<&[u8]>
         ensures { option_map (λ v. v.now) result ≡ value_at self.now key.now }
     {
@@ -92,6 +98,10 @@ impl KeyValues {
     }
 
     /// Copies the keys that are in `set` too, in order.
+    ///
+    /// # Errors
+    ///
+    /// Where there is no memory for them.
     pub fn keys_in(&self, set: &DeletedKeys) -> AllocResult<Vec<Vec<u8>>>
         ensures { IfOk result (λ keys. map (λ k. k.items) keys.items
             ≡ filter (finset.contains set.now) (finite.keys self.now)) }
@@ -99,12 +109,19 @@ impl KeyValues {
         copied_keys(self.alloc, &self.pairs, set)
     }
 
+    /// Returns the file that the value of a key is in, `None` where it has none.
     pub fn file_of(&self, key: &[u8]) -> Option<FileId>
         ensures { result ≡ file_at self.now key.now }
     {
         Some(self.pairs.get(key)?.file)
     }
 
+    /// Puts a value with its file under a key, and returns the file of the value that it replaces.
+    ///
+    /// # Errors
+    ///
+    /// Where there is no memory for it. The key values are then as they were, and the new one is
+    /// lost.
     #[inline(always)]
     pub fn insert(
         &mut self,
@@ -126,6 +143,7 @@ impl KeyValues {
         Ok(replaced)
     }
 
+    /// Takes a key away, and returns the file that its value was in; `None` where it had none.
     pub fn remove(&mut self, key: &[u8]) -> Option<FileId>
         ensures after { self.new ≡ finite.remove self.old key.now }
         ensures removed { result ≡ file_at self.old key.now }
@@ -137,6 +155,8 @@ impl KeyValues {
         Some(removed.file)
     }
 
+    /// Sets the file of a key's value, and returns the one before; `None` where the key has no
+    /// value.
     pub fn set_file(&mut self, key: &[u8], file: FileId) -> Option<FileId>
         ensures after { self.new ≡ with_moved self.old key.now file }
         ensures moved { result ≡ file_at self.old key.now }
@@ -152,6 +172,8 @@ impl KeyValues {
         Some(left)
     }
 
+    /// Returns the lowest number of a file of `queue` in which a value is; `None` where there is
+    /// none.
     pub fn least_seq_in(&self, queue: LogQueue) -> Option<FileSeq>
         ensures { result ≡ least (seqs_in queue self.now) }
     {
@@ -164,6 +186,12 @@ impl KeyValues {
         least
     }
 
+    /// Appends copies of keys and values to `vec`, in the order of the keys: those whose file is of
+    /// `queue` and, with a gate, at or below it.
+    ///
+    /// # Errors
+    ///
+    /// Where there is no memory for them. `vec` is then as it was.
     pub fn fetch(
         &self,
         queue: LogQueue,
@@ -182,6 +210,9 @@ impl KeyValues {
         pushed
     }
 
+    /// Calls `f` at the keys from `start` on and below `end` with their values, in the order of the
+    /// keys or, where `reverse`, from the last one back, until it returns false. A bound that is
+    /// `None` leaves its side open; where `start` is above `end` nothing is visited.
     pub fn scan<F: FnMut(&[u8], &[u8]) -> bool>(
         &self,
         start: Option<&[u8]>,
@@ -226,6 +257,7 @@ impl KeyValues {
         Ok(())
     }
 
+    /// Takes the first key out with its value, `None` where there is none.
     fn take_first(&mut self) -> Option<(Vec<u8>, StoredValue)>
         ensures first { IfSome result (λ p. finite.entries self.old
             ≡ (p.0.items, record { value = p.1.value.items; file = p.1.file })
@@ -239,6 +271,11 @@ impl KeyValues {
     }
 }
 
+/// Pushes copies of the keys and values that `fetch` appends.
+///
+/// # Errors
+///
+/// Where there is no memory for one. Those before it have been pushed then.
 fn push_fetched(
     pairs: &BTreeMap<Vec<u8>, StoredValue>,
     queue: LogQueue,
@@ -258,6 +295,11 @@ fn push_fetched(
     Ok(())
 }
 
+/// Copies the keys that are in `set` too, in order.
+///
+/// # Errors
+///
+/// Where there is no memory for them.
 fn copied_keys(
     alloc: Global,
     pairs: &BTreeMap<Vec<u8>, StoredValue>,
@@ -275,24 +317,33 @@ fn copied_keys(
     Ok(keys)
 }
 
+/// Copies bytes.
+///
+/// # Errors
+///
+/// Where there is no memory for them.
 fn copied(bytes: &Vec<u8>) -> AllocResult<Vec<u8>>
     ensures { IfOk result (λ copy. copy.items ≡ bytes.now.items) }
 {
     bytes.clone()
 }
 
+/// Tests whether a file is of `queue` and, with a gate, at or below it.
 fn is_up_to(file: FileId, queue: LogQueue, gate: Option<FileSeq>) -> bool
     ensures { result ≡ is_up_to queue gate file }
 {
     file.queue == queue && gate.is_none_or(|gate| file.seq <= gate)
 }
 
+/// Returns the file that a value is in, `None` without a value.
 fn file_in(pair: Option<StoredValue>) -> Option<FileId>
     ensures { result ≡ option_map (λ s. s.file) pair }
 {
     pair.map(|pair| pair.file)
 }
 
+/// Returns what a value in this file adds to the number of rewritten ones: 1 in the rewrite queue,
+/// 0 in the append queue or without a value.
 fn rewritten(file: Option<FileId>) -> usize
     ensures { result ≡ file_weight LogQueue.Rewrite file }
 {

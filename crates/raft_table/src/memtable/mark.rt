@@ -34,6 +34,7 @@ struct Bounds {
 }
 
 impl Bounds {
+    /// Returns the bounds of one step.
     fn of_step(step: &Step) -> Bounds
         ensures { with_bounds result ≡ record (mark_of (step_shown step.now))
             { deleted = finset.empty } }
@@ -59,6 +60,7 @@ impl Bounds {
         }
     }
 
+    /// Returns the bounds of a run that starts at `start`.
     fn of_start(start: u64) -> Bounds
         ensures { with_bounds result ≡ record fresh { reach = Some start; cut = Some start } }
     {
@@ -222,6 +224,12 @@ impl Mark {
         Ok(())
     }
 
+    /// Joins the deleted keys of a step: adds a copy of the key of a deletion, and forgets all keys
+    /// after a clean.
+    ///
+    /// # Errors
+    ///
+    /// Where there is no memory for the copy. The region mark is then as it was.
     #[tactic(auto, using(crate::proofs::MarkExact::union_empty, crate::proofs::MarkExact::union_one))]
     fn delete_keys(&mut self, step: &Step) -> AllocResult<()>
         ensures ok { OnOk result (self.new ≡ record self.old
@@ -238,6 +246,9 @@ impl Mark {
         }
     }
 
+    /// Tests whether it is plain that a run from `start` on changes nothing, where the own entries
+    /// end at `end`: a run came before, this one starts at or above the cut, and it meets own
+    /// entries without a hole. `false` says nothing of it.
     fn covers(&self, end: u64, start: u64) -> bool
         ensures { MatchBool result ((queue : LogQueue) → joined_at queue end self.now
             (record fresh { reach = Some start; cut = Some start }) ≡ self.now) (Unit {0}) }
@@ -251,12 +262,16 @@ impl Mark {
         0 < end
     }
 
+    /// Tests whether newer steps leave the region mark as it is: after a clean, or where there is a
+    /// run and no cut, which no steps give.
     fn is_settled(&self) -> bool
         ensures { result ≡ is_settled self.now }
     {
         self.bounds.cleaned || self.bounds.reach.is_some() && self.bounds.cut.is_none()
     }
 
+    /// Joins the bounds of newer steps, whose first run meets own entries that end at `end`. The
+    /// deleted keys stay.
     #[inline(always)]
     fn join_bounds(&mut self, queue: LogQueue, end: u64, newer: Bounds)
         ensures { self.new ≡ record (joined_at queue end self.old (with_bounds newer))
@@ -291,6 +306,13 @@ impl Mark {
         self.bounds.cleaned = newer.cleaned;
     }
 
+    /// Joins the deleted keys of newer steps, which are moved out of `newer`. Where those cleaned
+    /// the region, they alone are left.
+    ///
+    /// # Errors
+    ///
+    /// Where there is no memory for them. The deleted keys are then divided between both, but for
+    /// one that is lost.
     fn join_deleted(&mut self, newer: &mut Mark) -> AllocResult<()>
         ensures err { OnErr result (self.new ≡ record self.old { deleted = self.new.deleted }) }
         ensures ok { OnOk result (self.new ≡ record self.old
@@ -305,12 +327,15 @@ impl Mark {
     }
 }
 
+/// Tests whether a run from `reach` on leaves a hole after entries that end at `end`. It is false
+/// without a run, and without entries, where `end` is 0.
 fn misses(reach: Option<u64>, end: u64) -> bool
     ensures { result ≡ misses reach end }
 {
     reach.is_some_and(|start| end > 0 && end < start)
 }
 
+/// Narrows bars to the older entries that stay: those from `floor` on and, with a cut, below it.
 fn narrowed(floor: u64, cut: Option<u64>, barred: Bars) -> Bars
     ensures { result ≡ narrowed_bars floor cut barred }
 {
@@ -318,18 +343,23 @@ fn narrowed(floor: u64, cut: Option<u64>, barred: Bars) -> Bars
     Some((floor.max(from), capped(below, cut)))
 }
 
+/// Tests whether a first run meets no own entries, as `end` is 0, and starts above `bound`.
 fn is_detached(reach: Option<u64>, end: u64, bound: u64) -> bool
     ensures { result ≡ is_detached reach end bound }
 {
     reach.is_some_and(|start| end == 0 && bound < start)
 }
 
+/// Tests whether, in the rewrite queue, a first run drops all that stands below it: it leaves a
+/// hole after the own entries, or meets none and starts above `bound`.
 fn drops_below(reach: Option<u64>, end: u64, bound: u64) -> bool
     ensures { result ≡ is_detached reach end bound || misses reach end }
 {
     is_detached(reach, end, bound) || misses(reach, end)
 }
 
+/// Returns the bars of joined steps: the older ones, but in the append queue, where there are none,
+/// the indexes `met` if the newer run is detached, and else the newer bars.
 fn joined_bars(queue: LogQueue, detached: bool, older: Bars, met: (u64, u64), newer: Bars) -> Bars
     ensures { result ≡ joined_barred queue detached older met newer }
 {
@@ -339,6 +369,8 @@ fn joined_bars(queue: LogQueue, detached: bool, older: Bars, met: (u64, u64), ne
     }
 }
 
+/// Returns the floor of joined steps: `floor`, and in the rewrite queue, where the run dropped what
+/// stands below it, at least `cut`.
 fn joined_floor(queue: LogQueue, dropped: bool, floor: u64, cut: u64) -> u64
     ensures { result ≡ joined_floor queue dropped floor cut }
 {
@@ -348,6 +380,7 @@ fn joined_floor(queue: LogQueue, dropped: bool, floor: u64, cut: u64) -> u64
     }
 }
 
+/// Returns the lesser of two bounds, or the one that there is; `None` where there is none.
 pub(super) fn lesser(a: Option<u64>, b: Option<u64>) -> Option<u64>
     ensures { result ≡ lesser a b }
 {
@@ -357,6 +390,7 @@ pub(super) fn lesser(a: Option<u64>, b: Option<u64>) -> Option<u64>
     }
 }
 
+/// Returns the bound, or the other one where that is less.
 pub(super) fn capped(bound: u64, other: Option<u64>) -> u64
     ensures { result ≡ at_most_bound bound other }
 {

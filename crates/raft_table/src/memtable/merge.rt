@@ -93,6 +93,8 @@ impl MemTable {
         self.merge_by_rule(rule, rhs, LogQueue::Append, stats)
     }
 
+    /// Returns the queue that has all records of both tables, the append queue where there are
+    /// none; `None` where both queues have some.
     fn joint_queue(&self, rhs: &MemTable) -> Option<LogQueue>
         ensures { result ≡ joint_queue self.now rhs.now }
     {
@@ -105,6 +107,8 @@ impl MemTable {
         Some(LogQueue::Append)
     }
 
+    /// Returns the queue whose start rule holds for an appended table over this rewritten one;
+    /// `None` where this one has appended records, or `rhs` has rewritten ones or an atomic group.
     fn append_rule(&self, rhs: &MemTable) -> Option<LogQueue>
         ensures { result ≡ append_rule self.now rhs.now }
     {
@@ -117,6 +121,13 @@ impl MemTable {
         Some(LogQueue::Rewrite)
     }
 
+    /// Moves the entries of `rhs`, by the start rule of the queue `rule`, and its pairs into this
+    /// table, and counts them. The records of `rhs` are all in `queue`, and weren't counted.
+    ///
+    /// # Errors
+    ///
+    /// `Corruption` where the entries leave a hole that the rule refuses. Both tables and the
+    /// counts are then as they were; after `Memory` the counts still agree with this table.
     pub(super) fn merge_by_rule(
         &mut self,
         rule: LogQueue,
@@ -146,6 +157,12 @@ impl MemTable {
     }
 }
 
+/// Puts the pairs of `newer`, which weren't counted, over these, and counts the change.
+///
+/// # Errors
+///
+/// `Memory`. Some of the pairs have then been put and counted, one is lost, and the others are left
+/// in `newer`.
 fn absorb_keys(keys: &mut KeyValues, newer: &mut KeyValues, stats: &mut GlobalStats) -> Result<()>
     requires room { (q : LogQueue) → live q stats.old + pair_count q newer.old < 2 ^ 64 }
     requires counted { (q : LogQueue) → pair_count q keys.old ≤ live q stats.old }
@@ -165,6 +182,7 @@ fn absorb_keys(keys: &mut KeyValues, newer: &mut KeyValues, stats: &mut GlobalSt
     Ok(())
 }
 
+/// Counts the pairs of `queue` as they are now, in place of the `before` ones that were counted.
 fn recount(stats: &mut GlobalStats, queue: LogQueue, before: usize, keys: &KeyValues)
     requires counted { before ≤ live queue stats.old }
     requires room { live queue stats.old + pair_count queue keys.now < 2 ^ 64 + before }

@@ -184,6 +184,8 @@ impl MemTable {
     }
 }
 
+/// Lowers a file number that is at or below the last file of an atomic group to at most the group's
+/// first.
 fn lowered(atomic_group: Option<(FileSeq, FileSeq)>, seq: Option<FileSeq>) -> Option<FileSeq>
     ensures { result ≡ at_most_group_seq atomic_group seq }
 {

@@ -21,6 +21,7 @@ pub enum Run<'a> {
 }
 
 impl Run<'_> {
+    /// Returns the index of the first entry, `None` without entries.
     pub(crate) fn first_index(&self) -> Option<u64>
         ensures { MatchOption result (run_shown self.now ≡ [])
             (λ i. (i ≡ start_of (run_shown self.now)) × (0 < length (run_shown self.now))) }
@@ -31,6 +32,7 @@ impl Run<'_> {
         }
     }
 
+    /// Returns how many entries there are.
     pub(crate) fn len(&self) -> usize
         ensures { result ≡ length (run_shown self.now) }
     {

@@ -21,7 +21,7 @@ pub(in crate::engine) struct Group<'a> {
 }
 
 impl<'a> Group<'a> {
-    /// Makes a group that has taken no batches yet.
+    /// Makes the group that the thread with the ticket `leader` leads. It has taken no batches yet.
     pub(super) fn of(commits: &'a Commits, leader: u64) -> Group<'a> {
         Group {
             commits,
@@ -44,8 +44,8 @@ impl<'a> Group<'a> {
         &mut self.taken
     }
 
-    /// Returns of how many of these items were written.
-    pub(in crate::engine) fn written(&self) -> u64 {
+    /// Counts the batches of which items were written.
+    pub(in crate::engine) fn count_written(&self) -> u64 {
         self.taken.iter().filter(|commit| commit.is_written).count() as u64
     }
 
@@ -69,7 +69,8 @@ impl<'a> Group<'a> {
         is_due
     }
 
-    /// Ends it for all batches that have no result yet.
+    /// Lets the threads of all other batches go on, and tells those that have no result yet this
+    /// one.
     pub(in crate::engine) fn end(&mut self, result: &Result<()>) {
         let mut all = mem::take(&mut self.taken);
         all.append(&mut self.unsynced);

@@ -21,8 +21,13 @@ pub(super) fn keep(folder: &Path, id: FileId, offset: u64, bytes: &[u8]) -> io::
     })
 }
 
-/// Returns the path for bytes that are cut off at an offset: the first one where there is no file, or one with a prefix of them,
-/// which an earlier opening left that was stopped before it had cut them. Others that were cut there stay.
+/// Returns the path for bytes that are cut off at an offset: the first one where there is no file,
+/// or one with a prefix of them, which an earlier opening left that crashed before it had cut them.
+/// Others that were cut there stay.
+///
+/// # Errors
+///
+/// Those of the system, where a file that is there can't be read.
 fn path_for(folder: &Path, id: FileId, offset: u64, bytes: &[u8]) -> io::Result<PathBuf> {
     let mut nth = 1;
     loop {
@@ -36,7 +41,11 @@ fn path_for(folder: &Path, id: FileId, offset: u64, bytes: &[u8]) -> io::Result<
     }
 }
 
-/// Writes a file that is on the disk then.
+/// Writes a file and syncs it, but not its name.
+///
+/// # Errors
+///
+/// Those of the system. Some of the file may be there then.
 fn write(path: &Path, bytes: &[u8]) -> io::Result<()> {
     let mut file = File::create(path)?;
     file.write_all(bytes)?;

@@ -34,9 +34,9 @@ impl LockedFolder {
     /// # Errors
     ///
     /// `TryAgain` where another engine has it open, `Io`.
-    pub(super) fn exclusive(path: &Path) -> Result<LockedFolder> {
+    pub(super) fn lock_exclusive(path: &Path) -> Result<LockedFolder> {
         let folder = File::open(path).map_err(|e| Error::system(path.display(), e))?;
-        taken(path, folder.try_lock())?;
+        check_lock(path, folder.try_lock())?;
         let mut locked = LockedFolder { folder, lock: None };
         let lock_path = path.join(LOCK);
         let mut how = OpenOptions::new();
@@ -44,7 +44,7 @@ impl LockedFolder {
         let lock = how
             .open(&lock_path)
             .map_err(|e| Error::system(lock_path.display(), e))?;
-        taken(&lock_path, lock.try_lock())?;
+        check_lock(&lock_path, lock.try_lock())?;
         locked.lock = Some(lock);
         Ok(locked)
     }
@@ -54,23 +54,27 @@ impl LockedFolder {
     /// # Errors
     ///
     /// `TryAgain` where an engine has it open that writes, `Io`.
-    pub(super) fn shared(path: &Path) -> Result<LockedFolder> {
+    pub(super) fn lock_shared(path: &Path) -> Result<LockedFolder> {
         let folder = File::open(path).map_err(|e| Error::system(path.display(), e))?;
-        taken(path, folder.try_lock_shared())?;
+        check_lock(path, folder.try_lock_shared())?;
         let mut locked = LockedFolder { folder, lock: None };
         let lock_path = path.join(LOCK);
         let lock = match File::open(&lock_path) {
             Err(e) if e.kind() == io::ErrorKind::NotFound => return Ok(locked),
             lock => lock.map_err(|e| Error::system(lock_path.display(), e))?,
         };
-        taken(&lock_path, lock.try_lock_shared())?;
+        check_lock(&lock_path, lock.try_lock_shared())?;
         locked.lock = Some(lock);
         Ok(locked)
     }
 }
 
-/// Says how a lock was refused.
-fn taken(path: &Path, locked: std::result::Result<(), TryLockError>) -> Result<()> {
+/// Turns the answer of a lock into a refusal with the path.
+///
+/// # Errors
+///
+/// `TryAgain` where another engine has the lock, `Io`.
+fn check_lock(path: &Path, locked: std::result::Result<(), TryLockError>) -> Result<()> {
     let path = path.display();
     locked.map_err(|refused| match refused {
         TryLockError::WouldBlock => {

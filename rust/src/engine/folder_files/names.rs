@@ -2,7 +2,7 @@
 
 use crate::{Error, FileId, Queue, Result};
 
-/// Returns how the names of a queue's files end.
+/// Returns how the names of a queue's files end: `.raftlog` or `.rewrite`.
 fn ending_of(queue: Queue) -> &'static str {
     match queue {
         Queue::Append => ".raftlog",
@@ -10,7 +10,7 @@ fn ending_of(queue: Queue) -> &'static str {
     }
 }
 
-/// Returns the name of a log file.
+/// Returns the name of a log file: its number in 16 digits or more, and the ending of its queue.
 pub(super) fn name_of(file: FileId) -> String {
     format!("{:016}{}", file.seq, ending_of(file.queue))
 }

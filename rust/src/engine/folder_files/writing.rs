@@ -45,7 +45,11 @@ impl From<io::Error> for Unmade {
     }
 }
 
-/// Cuts the last `count` bytes off a file.
+/// Cuts the last `count` bytes off a file, which were just written.
+///
+/// # Errors
+///
+/// Those of the system.
 fn take_back(file: &File, count: u64) -> io::Result<()> {
     file.set_len(file.metadata()?.len().saturating_sub(count))
 }

@@ -73,7 +73,11 @@ fn on_threads<A: Send>(threads: usize, call: impl Fn() -> Vec<A> + Sync) -> Vec<
     })
 }
 
-/// Reads the bytes of a file, which are so many.
+/// Reads the first `len` bytes of a file.
+///
+/// # Errors
+///
+/// `Io` with the file, `InvalidArgument` where it begins with raft-engine's header, `Memory`.
 fn bytes_in(files: &impl Files, file: FileId, len: u64) -> Result<Vec<u8>> {
     let len = usize::try_from(len).map_err(|_| Error::memory())?;
     let mut bytes = Vec::new();

@@ -9,8 +9,12 @@ use crate::{
 /// In how many parts a thread reads its share of the files, at least.
 const PARTS_OF_A_THREAD: usize = 4;
 
-/// Reads the files of a queue, up to where the last one can't be read. Mostly it can be read to its end, so that place is looked
-/// for where the files can't be read whole.
+/// Reads the files of a queue, up to where the last one can't be read. Mostly it can be read to its
+/// end, so that place is looked for only where the files can't be read whole.
+///
+/// # Errors
+///
+/// The refusal of the first batch that can't be read, but for the tail of the last file; `Memory`.
 pub(super) fn read_queue(
     held: &[(FileId, Vec<u8>)],
     queue: Queue,
@@ -21,24 +25,28 @@ pub(super) fn read_queue(
         .iter()
         .map(|(id, bytes)| FilePart::new(LogFile::new(id.queue, id.seq, version), bytes))
         .collect();
-    match recovered(&whole, queue, threads) {
+    match recover_files(&whole, queue, threads) {
         Err(e) if e.kind != ErrorKind::Memory => {
             if let Some(last) = whole.last_mut() {
-                last.bytes = &last.bytes[..front_of(*last)?];
+                last.bytes = &last.bytes[..readable_len_of(*last)?];
             }
-            recovered(&whole, queue, threads)
+            recover_files(&whole, queue, threads)
         }
         recovered => recovered,
     }
 }
 
-/// Recovers what files have.
-fn recovered(files: &[FilePart<'_>], queue: Queue, threads: usize) -> Result<Context> {
+/// Recovers what files have, on at most this many threads.
+///
+/// # Errors
+///
+/// The refusal of the first batch that can't be read, `Memory`.
+fn recover_files(files: &[FilePart<'_>], queue: Queue, threads: usize) -> Result<Context> {
     let total: usize = files.iter().map(|file| file.bytes.len()).sum();
     let size = total / threads.saturating_mul(PARTS_OF_A_THREAD);
     let mut parts = Vec::new();
     for file in files {
-        cut(*file, size, &mut parts);
+        cut_parts(*file, size, &mut parts);
     }
     recovery::read(&parts, queue, threads)
 }
@@ -48,7 +56,7 @@ fn recovered(files: &[FilePart<'_>], queue: Queue, threads: usize) -> Result<Con
 /// # Errors
 ///
 /// `Memory`.
-fn front_of(part: FilePart<'_>) -> Result<usize> {
+fn readable_len_of(part: FilePart<'_>) -> Result<usize> {
     match readable_front(part)? {
         (_, Some(refused)) if refused.kind == ErrorKind::Memory => Err(refused),
         (front, _) => Ok(front),
@@ -56,7 +64,7 @@ fn front_of(part: FilePart<'_>) -> Result<usize> {
 }
 
 /// Cuts a part between batches, so that each part but the last one has this many bytes or more.
-fn cut<'a>(whole: FilePart<'a>, size: usize, parts: &mut Vec<FilePart<'a>>) {
+fn cut_parts<'a>(whole: FilePart<'a>, size: usize, parts: &mut Vec<FilePart<'a>>) {
     let (mut from, mut at) = (0, 0);
     while let Some(len) = batch_len(&whole.bytes[at..]) {
         at = at.saturating_add(len).min(whole.bytes.len());
@@ -70,7 +78,7 @@ fn cut<'a>(whole: FilePart<'a>, size: usize, parts: &mut Vec<FilePart<'a>>) {
     }
 }
 
-/// Returns the bytes of a part from one place to another.
+/// Returns the bytes of a part from `from` up to `to`, both counted from its first byte.
 fn part_of(whole: FilePart<'_>, from: usize, to: usize) -> FilePart<'_> {
     FilePart {
         offset: whole.offset + from as u64,

@@ -1,6 +1,6 @@
 //! What a crash leaves.
 
-use super::{Ask, Unsynced, cut};
+use super::{Ask, Unsynced, cut_bytes};
 
 /// What a crash leaves of a queue.
 pub(super) struct Left<'a> {
@@ -15,7 +15,7 @@ pub(super) struct Left<'a> {
 }
 
 impl<'a> Left<'a> {
-    /// Makes what is left of found files.
+    /// Begins with the files of a queue as they were found, all of which last.
     pub(super) fn of(found: &[(u64, Vec<u8>)]) -> Left<'a> {
         Left {
             certain: found.to_vec(),
@@ -52,7 +52,7 @@ impl<'a> Left<'a> {
                     steps -= front;
                 }
                 (Ask::Cut(_, len), Some(last)) if steps > 0 => {
-                    cut(last, *len);
+                    cut_bytes(last, *len);
                     steps -= 1;
                 }
                 (Ask::Begin(file), _) if steps > 0 => {
@@ -68,7 +68,7 @@ impl<'a> Left<'a> {
     }
 
     /// Returns the files once so much more of it is done.
-    pub(super) fn after_stop(mut self, stays: Unsynced) -> Vec<(u64, Vec<u8>)> {
+    pub(super) fn files_after_crash(mut self, stays: Unsynced) -> Vec<(u64, Vec<u8>)> {
         self.settle(stays.steps);
         let gone = self.gone + self.going.min(stays.deletions);
         self.certain.split_off(gone.min(self.certain.len()))

@@ -13,6 +13,8 @@ use std::mem::swap;
 /// Up to so many blocks are walked: their first indexes aren't kept.
 pub(super) const FEW: usize = 3;
 
+/// Returns the spot of the entry at position `at`. `first` is the first index, and `len` the number
+/// of all entries: where first indexes of blocks are kept, the block is guessed by them.
 pub(super) fn spot_of(blocks: &Blocks, starts: &Starts, first: u64, len: usize, at: usize) -> Spot
     requires starts { AreStarts first (shown blocks.now) starts.now.items }
     requires within { (at < count (shown blocks.now))
@@ -25,6 +27,8 @@ pub(super) fn spot_of(blocks: &Blocks, starts: &Starts, first: u64, len: usize, 
     find(starts, first, len, first + at as u64)
 }
 
+/// Returns the spot of the entry that has `behind` entries in front of it, by a walk over the
+/// blocks.
 fn spot_among(blocks: &Blocks, behind: usize) -> Spot
     requires { behind < count (shown blocks.now) }
     ensures { IsAt behind (shown blocks.now) result.0 result.1 }
@@ -55,6 +59,7 @@ pub(super) fn find(starts: &Starts, first: u64, len: usize, index: u64) -> Spot
     search(starts, index)
 }
 
+/// Returns the spot of an index that is among the entries, by a binary search.
 pub(super) fn search(starts: &Starts, index: u64) -> Spot
     requires { IsIndexOf starts.now.items index }
     ensures { (i : ℕ) (bs : List BlockSpans) → starts.now.items ≡ starts_of i bs → i ≤ index →
@@ -70,6 +75,8 @@ pub(super) fn search(starts: &Starts, index: u64) -> Spot
     (nth, (index - start) as usize)
 }
 
+/// Returns the spot behind the first `kept` entries: how many blocks hold them, and how many of
+/// them are in the last of these; zeros where `kept` is 0.
 pub(super) fn spot_behind(starts: &Starts, first: u64, kept: usize) -> Spot
     requires bounded { first + kept < 2 ^ 64 }
     requires within { 0 < kept → IsIndexOf starts.now.items (first + (kept - 1)) }
@@ -85,6 +92,11 @@ pub(super) fn spot_behind(starts: &Starts, first: u64, kept: usize) -> Spot
     (nth + 1, last + 1)
 }
 
+/// Copies the spans behind the first `dropped` ones.
+///
+/// # Errors
+///
+/// Where there is no memory for them.
 pub(super) fn spans_behind(alloc: Global, spans: &Spans, dropped: usize) -> AllocResult<Spans>
     requires { dropped ≤ length spans.now.items }
     ensures ok { IfOk result (λ behind. behind.items ≡ drop dropped spans.now.items) }
@@ -96,6 +108,7 @@ pub(super) fn spans_behind(alloc: Global, spans: &Spans, dropped: usize) -> Allo
     Ok(behind)
 }
 
+/// Tests whether two places are equal.
 #[inline(always)]
 pub(super) fn is_same(a: &FileBlockHandle, b: &FileBlockHandle) -> bool
     ensures { MatchBool result (a.now ≡ b.now) (a.now ≢ b.now) }
@@ -104,6 +117,11 @@ pub(super) fn is_same(a: &FileBlockHandle, b: &FileBlockHandle) -> bool
 }
 
 /// Puts blocks in place of those from a spot up to `rest`; at the seam equal places make one block.
+/// `more` is left empty.
+///
+/// # Errors
+///
+/// Where there is no memory for them. All deques are then as they were.
 pub(super) fn put_blocks(
     blocks: &mut Blocks,
     starts: &mut Starts,
@@ -138,6 +156,12 @@ pub(super) fn put_blocks(
     Ok(())
 }
 
+/// Puts the blocks of `more` in place of all behind a spot, and leaves `more` empty; at the seam
+/// equal places make one block. First indexes of blocks are left to the caller.
+///
+/// # Errors
+///
+/// Where there is no memory for them. Both deques are then as they were.
 pub(super) fn put_few_blocks(blocks: &mut Blocks, spot: Spot, more: &mut Blocks) -> AllocResult<()>
     requires within { (0 < spot.0) × (spot.0 ≤ length blocks.old.items) }
     requires kept { (d : Block) → 0 < spot.0
@@ -158,6 +182,10 @@ pub(super) fn put_few_blocks(blocks: &mut Blocks, spot: Spot, more: &mut Blocks)
 }
 
 /// Makes room for both in the longer deque, if there is none.
+///
+/// # Errors
+///
+/// Where there is no memory for it. Both are then as they were.
 fn make_room<T>(deque: &mut VecDeque<T>, more: &mut VecDeque<T>) -> AllocResult<()>
     ensures items { (deque.new.items ≡ deque.old.items) × (more.new.items ≡ more.old.items) }
     ensures len { (deque_len deque.new ≡ deque_len deque.old) ×
@@ -172,6 +200,13 @@ fn make_room<T>(deque: &mut VecDeque<T>, more: &mut VecDeque<T>) -> AllocResult<
     deque.reserve(more.len())
 }
 
+/// Cuts the block in front of a spot to its kept spans. Where the first block of `more` has the
+/// same place, its spans are put behind those, and it leaves `more`, as its first index does
+/// `more_starts`.
+///
+/// # Errors
+///
+/// Where there is no memory for the spans. All deques are then as they were.
 fn meet(
     blocks: &mut Blocks,
     spot: Spot,
@@ -212,6 +247,7 @@ fn meet(
     Ok(())
 }
 
+/// Takes the first item away, if there is one.
 fn drop_front<T: Drop>(deque: &mut VecDeque<T>)
     ensures items { deque.new.items ≡ drop 1 deque.old.items }
     ensures fewer { deque_len deque.new ≤ deque_len deque.old }
@@ -220,6 +256,12 @@ fn drop_front<T: Drop>(deque: &mut VecDeque<T>)
     drop(deque.pop_front());
 }
 
+/// Fills `starts` with the first index of each block, where it is empty. `first` is the first of
+/// all.
+///
+/// # Errors
+///
+/// Where there is no memory for them. None is then kept.
 #[inline(always)]
 pub(super) fn keep_starts(blocks: &Blocks, starts: &mut Starts, first: u64) -> AllocResult<()>
     requires starts { AreStarts first (shown blocks.now) starts.old.items }
@@ -235,6 +277,7 @@ pub(super) fn keep_starts(blocks: &Blocks, starts: &mut Starts, first: u64) -> A
     Ok(())
 }
 
+/// Pushes the first index of each block, for which `starts` has room. `first` is the first of all.
 #[inline(never)]
 fn push_starts(blocks: &Blocks, starts: &mut Starts, first: u64)
     requires none { starts.old.items ≡ [] }
@@ -249,6 +292,12 @@ fn push_starts(blocks: &Blocks, starts: &mut Starts, first: u64)
     }
 }
 
+/// Pushes a block and its first index. Where the last block has the same place, that one is
+/// lengthened instead.
+///
+/// # Errors
+///
+/// Where there is no memory for it. Both deques are then as they were, and the block is lost.
 #[inline(always)]
 pub(super) fn push_with_start(
     blocks: &mut Blocks,
@@ -273,6 +322,11 @@ pub(super) fn push_with_start(
     Ok(())
 }
 
+/// Pushes a block. Where the last one has the same place, that one is lengthened instead.
+///
+/// # Errors
+///
+/// Where there is no memory for it. The blocks are then as they were, and the new one is lost.
 #[inline(always)]
 pub(super) fn push_block(blocks: &mut Blocks, mut block: Block) -> AllocResult<()>
     ensures ok { OnOk result (shown blocks.new
@@ -294,6 +348,11 @@ pub(super) fn push_block(blocks: &mut Blocks, mut block: Block) -> AllocResult<(
     Ok(())
 }
 
+/// Moves the spans of `more` into a block, in place of those behind its first `kept` ones.
+///
+/// # Errors
+///
+/// Where there is no memory for them. The block and `more` are then as they were.
 #[inline(never)]
 fn lengthen(block: &mut Block, kept: usize, more: &mut Spans) -> AllocResult<()>
     requires { kept ≤ length block.old.spans.items }
@@ -312,6 +371,8 @@ fn lengthen(block: &mut Block, kept: usize, more: &mut Spans) -> AllocResult<()>
     Ok(())
 }
 
+/// Puts the items of `more` in place of those from `kept` up to `rest`, and leaves `more` empty.
+/// One of the deques has room for all; they end up in its memory.
 fn splice<T: Drop>(deque: &mut VecDeque<T>, kept: usize, rest: usize, more: &mut VecDeque<T>)
     requires order { kept ≤ rest }
     requires within { rest ≤ deque_len deque.old }
@@ -335,6 +396,7 @@ fn splice<T: Drop>(deque: &mut VecDeque<T>, kept: usize, rest: usize, more: &mut
     swap(deque, more);
 }
 
+/// Moves the items of `more` behind those of `deque`, which has room for them.
 fn append<T>(deque: &mut VecDeque<T>, more: &mut VecDeque<T>)
     requires room { deque_len deque.old + deque_len more.old ≤ deque_capacity deque.old }
     ensures items { deque.new.items ≡ deque.old.items ++ more.old.items }

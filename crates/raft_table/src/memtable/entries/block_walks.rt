@@ -8,7 +8,8 @@ use crate::memtable::block::Block;
 use crate::memtable::entries::{Blocks, Spot};
 use raft_base::{EntryIndex, FileBlockHandle, FileSeq, LogQueue};
 
-/// The entries come first, and a second walk sets their spans: the spans of each block lie apart,
+/// Pushes the entries at the positions from `start` on and below `end`, for which there is room.
+/// They are pushed first, and a second walk sets their spans: the spans of each block lie apart,
 /// and a walk that does little else can have those of several brought from memory at once.
 pub(super) fn push_entries(
     vec: &mut Vec<EntryIndex>,
@@ -29,6 +30,8 @@ pub(super) fn push_entries(
     set_spans(vec, len, blocks, spot, start, end);
 }
 
+/// Pushes the entries at the positions from `start` on and below `end`, whose offsets and lengths
+/// are left 0. `first` is the index at position 0, `spot` the spot of `start`.
 fn push_without_spans(
     vec: &mut Vec<EntryIndex>,
     first: u64,
@@ -55,6 +58,8 @@ fn push_without_spans(
     }
 }
 
+/// Pushes `count` entries of a block, from the one at `at` on, whose offsets and lengths are left
+/// 0. Their indexes begin at `first`.
 fn push_without_spans_of(
     vec: &mut Vec<EntryIndex>,
     first: u64,
@@ -82,6 +87,7 @@ fn push_without_spans_of(
     }
 }
 
+/// Sets offsets and lengths of the entries that `push_without_spans` pushed behind the first `len`.
 fn set_spans(
     vec: &mut Vec<EntryIndex>,
     len: usize,
@@ -110,6 +116,8 @@ fn set_spans(
     }
 }
 
+/// Sets offsets and lengths of `count` entries behind the first `len` to the spans of a block, from
+/// the one at `at` on.
 fn set_spans_of(vec: &mut Vec<EntryIndex>, len: usize, block: &Block, at: usize, count: usize)
     requires within { at + count ≤ length block.now.spans.items }
     requires there { len + count ≤ length vec.old.items }
@@ -126,6 +134,8 @@ fn set_spans_of(vec: &mut Vec<EntryIndex>, len: usize, block: &Block, at: usize,
     }
 }
 
+/// Returns how many entries, of those at the positions from `start` on and below `end`, come before
+/// the first one that a rewriting may not move. `spot` is the spot of `start`.
 pub(super) fn movable_from(
     blocks: &Blocks,
     spot: Spot,
@@ -151,6 +161,8 @@ pub(super) fn movable_from(
     end - start
 }
 
+/// Tests whether a rewriting may move an entry from this place: with a gate, where its file's
+/// number is at or below it; without one, where the place is in the rewrite queue.
 #[tactic(auto, unfolding(crate::specs::TableEntries::is_placed_in, crate::specs::Rewriting::is_placed_before))]
 fn is_movable(handle: &FileBlockHandle, gate: Option<FileSeq>) -> bool
     ensures { (e : EntryIndex) → e.entries ≡ Some handle.now → result ≡ may_move gate e }
@@ -161,6 +173,9 @@ fn is_movable(handle: &FileBlockHandle, gate: Option<FileSeq>) -> bool
     }
 }
 
+/// Returns how many entries, of those at the positions from `start` on and below `end`, come before
+/// the first one with which the total of lengths, in bytes, passes `limit` and exceeds its own
+/// length.
 pub(super) fn count_from(
     blocks: &Blocks,
     mut spot: Spot,
@@ -185,6 +200,7 @@ pub(super) fn count_from(
     end - start
 }
 
+/// Returns the spot behind `spot`: in its block, which is given, or at the start of the next one.
 fn next(block: &Block, spot: Spot) -> Spot
     requires within { spot.0 + 1 < 2 ^ 64 }
     requires inside { spot.1 < length block.now.spans.items }

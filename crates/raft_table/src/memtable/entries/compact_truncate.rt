@@ -11,6 +11,7 @@ use raft_base::LogQueue;
 use std::collections::VecDeque;
 
 impl Entries {
+    /// Drops the entries below `index`, takes them off the counts, and returns how many they are.
     pub fn compact_to(&mut self, index: u64, stats: &mut GlobalStats) -> u64
         requires { AreCounted self.old stats.old }
         ensures entries { self.new ≡ from index self.old }
@@ -29,6 +30,7 @@ impl Entries {
         count as u64
     }
 
+    /// Drops the entries from `index` on, takes them off the counts, and returns how many they are.
     pub fn truncate_from(&mut self, index: u64, stats: &mut GlobalStats) -> u64
         requires { AreCounted self.old stats.old }
         ensures entries { self.new ≡ below index self.old }
@@ -48,6 +50,8 @@ impl Entries {
         dropped as u64
     }
 
+    /// Drops the entries below `index` and, with a cut, those from it on, and takes them off the
+    /// counts.
     pub fn keep_within(&mut self, index: u64, cut: Option<u64>, stats: &mut GlobalStats)
         requires { AreCounted self.old stats.old }
         ensures entries { self.new ≡ entries_within index cut self.old }
@@ -60,6 +64,7 @@ impl Entries {
         self.truncate_from(cut, stats);
     }
 
+    /// Returns the greatest index plus one, 0 without entries.
     pub fn end(&self) -> u64
         ensures { result ≡ end_of self.now }
     {
@@ -70,6 +75,8 @@ impl Entries {
         }
     }
 
+    /// Returns the greatest index plus one of the entries from `index` on and, with a cut, below
+    /// it; 0 where there are none.
     pub fn end_within(&self, index: u64, cut: Option<u64>) -> u64
         ensures { result ≡ end_of (entries_within index cut self.now) }
     {
@@ -80,6 +87,7 @@ impl Entries {
         0
     }
 
+    /// Drops the first `count` entries. The counts are left to the caller.
     fn drop_front(&mut self, count: usize)
         requires { count ≤ length self.old }
         ensures { self.new ≡ drop count self.old }
@@ -97,6 +105,7 @@ impl Entries {
         self.rewritten -= self.rewritten.min(count);
     }
 
+    /// Drops all but the first `count` entries. The counts are left to the caller.
     fn keep_front(&mut self, count: usize)
         requires { count ≤ length self.old }
         ensures { self.new ≡ take count self.old }
@@ -112,6 +121,7 @@ impl Entries {
         self.rewritten = self.rewritten.min(count);
     }
 
+    /// Drops all entries. The counts are left to the caller.
     pub(super) fn clear(&mut self)
         ensures { self.new ≡ [] }
     {
@@ -122,6 +132,7 @@ impl Entries {
     }
 }
 
+/// Drops the blocks behind the one at `nth`, and of that all but its first `kept` spans.
 fn keep_front_blocks(blocks: &mut Blocks, nth: usize, kept: usize)
     requires nth { nth < length blocks.old.items }
     ensures { shown blocks.new ≡ first_of_last kept (take (nth + 1) (shown blocks.old)) }
@@ -130,6 +141,7 @@ fn keep_front_blocks(blocks: &mut Blocks, nth: usize, kept: usize)
     blocks[nth].spans.truncate(kept);
 }
 
+/// Drops the blocks in front of the one at `nth`, and the first `dropped` spans of that one.
 fn drop_front_blocks(blocks: &mut Blocks, nth: usize, dropped: usize)
     requires nth { nth < length blocks.old.items }
     requires dropped { (d : Block) → dropped
@@ -140,6 +152,8 @@ fn drop_front_blocks(blocks: &mut Blocks, nth: usize, dropped: usize)
     drop_first(&mut blocks[0].spans, dropped);
 }
 
+/// Drops the first indexes of the blocks in front of the one at `nth`, which begins at `index` now.
+/// Where none are kept nothing happens.
 fn drop_front_starts(starts: &mut Starts, nth: usize, index: u64)
     requires { starts.old.items ≢ [] → nth < length starts.old.items }
     ensures none { starts.old.items ≡ [] → starts.new.items ≡ [] }
@@ -153,6 +167,7 @@ fn drop_front_starts(starts: &mut Starts, nth: usize, index: u64)
     starts[0] = index;
 }
 
+/// Drops the first `count` items.
 fn drop_first<T: Drop>(deque: &mut VecDeque<T>, count: usize)
     requires { count ≤ length deque.old.items }
     ensures { deque.new.items ≡ drop count deque.old.items }

@@ -9,6 +9,16 @@ use crate::memtable::entries::{Entries, Overlap};
 use raft_base::{AllocResult, EntryIndex, Error, FileSeq, LogQueue, Result};
 
 impl Entries {
+    /// Gives the entries that have the indexes of a run its places, up to the first one that may
+    /// not move: with a gate appended entries of files at or below it move, without one rewritten
+    /// entries. The whole run is counted as written to the rewrite queue; what of it moved nothing,
+    /// and the records in the places that were left, go off the live counts.
+    ///
+    /// # Errors
+    ///
+    /// `Corruption` where the common indexes begin behind the rewritten entries, or with a gate
+    /// before their end; `Full` where the run would pass 2^64 - 1 together with the live records of
+    /// the rewrite queue; `Memory`. Entries and counts are then as they were.
     pub fn rewrite(
         &mut self,
         run: &[EntryIndex],
@@ -42,6 +52,8 @@ impl Entries {
         self.move_places(overlap.at, places, gate, run.len(), stats)
     }
 
+    /// Returns where a run of `len` entries from the index `start` on meets these; `None` where no
+    /// index is common.
     fn overlap(&self, start: u64, len: usize) -> Option<Overlap>
         requires { start + len < 2 ^ 64 }
         ensures meets { MatchOption result
@@ -66,12 +78,22 @@ impl Entries {
         })
     }
 
+    /// Tests whether a rewriting may not begin at position `at`: that is behind the rewritten
+    /// entries or, with a gate, before their end.
     fn is_misplaced(&self, at: usize, gate: Option<FileSeq>) -> bool
         ensures { result ≡ is_misplaced gate at (entry_count Rewrite self.now) }
     {
         self.rewritten < at || gate.is_some() && at < self.rewritten
     }
 
+    /// Gives the entries from position `at` on these places, up to the first one that may not move.
+    /// Counts `written` records of the rewrite queue; those of them that moved nothing, and the
+    /// records in the places that were left, go off the live counts.
+    ///
+    /// # Errors
+    ///
+    /// `Full` where the written records would pass 2^64 - 1 together with the live ones of the
+    /// rewrite queue; `Memory`. Entries and counts are then as they were.
     fn move_places(
         &mut self,
         at: usize,
@@ -106,6 +128,11 @@ impl Entries {
         Ok(())
     }
 
+    /// Puts these entries in place of as many from position `at` on.
+    ///
+    /// # Errors
+    ///
+    /// Where there is no memory for them. The entries are then as they were.
     fn set_places(&mut self, at: usize, places: &[EntryIndex]) -> AllocResult<()>
         requires within { at + length places.now ≤ length self.old }
         requires table_entries { AreTableEntries
@@ -125,6 +152,9 @@ impl Entries {
     }
 }
 
+/// Counts `written` records of the rewrite queue, to which `moved` entries moved: with a gate from
+/// the append queue, without one from older places of the rewrite queue. As many as aren't live
+/// anymore are counted as deleted.
 fn count_moved(gate: Option<FileSeq>, written: usize, moved: usize, stats: &mut GlobalStats)
     requires room { live Rewrite stats.old + written < 2 ^ 64 }
     requires moved { moved ≤ written }

@@ -16,6 +16,11 @@ use std::collections::VecDeque;
 use std::mem::swap;
 
 impl Entries {
+    /// Makes entries of a run: neighbors with one place become a block.
+    ///
+    /// # Errors
+    ///
+    /// Where there is no memory for them.
     pub(super) fn from_run(alloc: Global, run: &[EntryIndex]) -> AllocResult<Entries>
         requires { AreTableEntries run.now }
         ensures ok { IfOk result (λ entries. entries ≡ run.now) }
@@ -34,6 +39,11 @@ impl Entries {
         Ok(entries)
     }
 
+    /// Puts the entries of a block, from `index` on, behind these.
+    ///
+    /// # Errors
+    ///
+    /// Where there is no memory for them. The entries are then as they were.
     #[inline(always)]
     fn push(&mut self, index: u64, handle: FileBlockHandle, spans: Spans) -> AllocResult<()>
         requires filled { 0 < length spans.items }
@@ -60,6 +70,12 @@ impl Entries {
         Ok(())
     }
 
+    /// Puts a run in place of the entries behind the first `keep`. The counts are left to the
+    /// caller.
+    ///
+    /// # Errors
+    ///
+    /// Where there is no memory for it. The entries are then as they were.
     #[inline(always)]
     pub(super) fn lay(&mut self, keep: usize, run: &Run<'_>) -> AllocResult<()>
         requires keep { keep ≤ length self.old }
@@ -81,6 +97,11 @@ impl Entries {
         }
     }
 
+    /// Puts the entries of a list in place of those behind the first `keep`.
+    ///
+    /// # Errors
+    ///
+    /// Where there is no memory for them. The entries are then as they were.
     #[inline(never)]
     fn lay_entries(&mut self, keep: usize, run: &[EntryIndex]) -> AllocResult<()>
         requires keep { keep ≤ length self.old }
@@ -101,6 +122,11 @@ impl Entries {
         self.put_run(keep, &mut entries)
     }
 
+    /// Puts the entries of a block, from `index` on, in place of those behind the first `keep`.
+    ///
+    /// # Errors
+    ///
+    /// Where there is no memory for them. The entries are then as they were.
     #[inline(always)]
     fn lay_block(
         &mut self,
@@ -125,6 +151,12 @@ impl Entries {
         self.put_run(keep, &mut run)
     }
 
+    /// Moves the entries of `run` in place of those behind the first `keep`, and leaves `run`
+    /// empty.
+    ///
+    /// # Errors
+    ///
+    /// Where there is no memory for them. Both are then as they were.
     pub(super) fn put_run(&mut self, keep: usize, run: &mut Entries) -> AllocResult<()>
         requires keep { keep ≤ length self.old }
         requires run { 0 < length run.old }
@@ -143,10 +175,16 @@ impl Entries {
         self.join(keep, run)
     }
 
+    /// Tests whether both have so few blocks together that their first indexes needn't be kept.
     fn are_few_with(&self, run: &Entries) -> bool {
         self.blocks.len() <= FEW && run.blocks.len() <= FEW - self.blocks.len()
     }
 
+    /// Does what `put_run` does, where blocks are few and a part of the own ones stays.
+    ///
+    /// # Errors
+    ///
+    /// Where there is no memory for them. Both are then as they were.
     fn join_few(&mut self, keep: usize, run: &mut Entries) -> AllocResult<()>
         requires keep { (0 < keep) × (keep ≤ length self.old) }
         requires run { 0 < length run.old }
@@ -165,6 +203,12 @@ impl Entries {
         Ok(())
     }
 
+    /// Does what `put_run` does, where a part of the own entries stays, and keeps the blocks' first
+    /// indexes.
+    ///
+    /// # Errors
+    ///
+    /// Where there is no memory for them. Both are then as they were.
     fn join(&mut self, keep: usize, run: &mut Entries) -> AllocResult<()>
         requires keep { (0 < keep) × (keep ≤ length self.old) }
         requires run { 0 < length run.old }
@@ -191,6 +235,12 @@ impl Entries {
         Ok(())
     }
 
+    /// Puts the entries of `run` in place of as many from position `at` on, behind which others
+    /// stay.
+    ///
+    /// # Errors
+    ///
+    /// Where there is no memory for them. The entries are then as they were.
     pub(super) fn put_between(&mut self, at: usize, run: Entries) -> AllocResult<()>
         requires run { 0 < length run }
         requires behind { at + length run < length self.old }
@@ -229,12 +279,15 @@ impl Entries {
     }
 }
 
+/// Returns the first index of `len` entries from `first` on, once others from `index` on stand
+/// behind.
 fn first_of(len: usize, first: u64, index: u64) -> u64
     ensures { (len ≡ 0 → result ≡ index) × (0 < len → result ≡ first) }
 {
     if len == 0 { index } else { first }
 }
 
+/// Returns how many of `count` records in `queue` are in the rewrite queue: all or none.
 fn rewritten_in(queue: LogQueue, count: usize) -> usize
     ensures { result ≡ count_in Rewrite queue count }
 {
@@ -244,6 +297,8 @@ fn rewritten_in(queue: LogQueue, count: usize) -> usize
     }
 }
 
+/// Returns how many entries of a run, from position `at` on, have this place, up to the first one
+/// that doesn't.
 fn count_of(handle: &FileBlockHandle, run: &[EntryIndex], at: usize) -> usize
     requires { at ≤ length run.now }
     ensures within { at + result ≤ length run.now }
@@ -260,6 +315,7 @@ fn count_of(handle: &FileBlockHandle, run: &[EntryIndex], at: usize) -> usize
     run.len() - at
 }
 
+/// Tests whether an entry has this place.
 fn has_place(entry: &EntryIndex, handle: &FileBlockHandle) -> bool
     ensures { MatchBool result (entry.now.entries ≡ Some handle.now)
         (entry.now.entries ≢ Some handle.now) }
@@ -267,6 +323,11 @@ fn has_place(entry: &EntryIndex, handle: &FileBlockHandle) -> bool
     entry.entries.is_some_and(|own| is_same(&own, handle))
 }
 
+/// Copies the offset and the length of each entry.
+///
+/// # Errors
+///
+/// Where there is no memory for them.
 fn spans_of(alloc: Global, run: &[EntryIndex]) -> AllocResult<Spans>
     ensures ok { IfOk result (λ spans. spans.items ≡ spans_of run.now) }
 {

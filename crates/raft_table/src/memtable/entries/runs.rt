@@ -11,6 +11,14 @@ use crate::memtable::run::Run;
 use raft_base::{EntryIndex, Error, LogQueue, Result};
 
 impl Entries {
+    /// Puts a run of the append queue in place of the entries from its first index on, and counts
+    /// it. A run without entries changes nothing.
+    ///
+    /// # Errors
+    ///
+    /// `Corruption` where it starts below the first entry or leaves a hole behind the last; `Full`
+    /// where more than 2^64 - 1 records would be live in the append queue; `Memory`. Entries and
+    /// counts are then as they were.
     pub fn append(
         &mut self,
         region_id: u64,
@@ -41,6 +49,14 @@ impl Entries {
         }
     }
 
+    /// Moves the entries of `rhs`, which are all in `queue` and aren't counted, in place of those
+    /// from their first index on, by the start rule of the queue `rule`. Counts them, and leaves
+    /// `rhs` empty.
+    ///
+    /// # Errors
+    ///
+    /// `Corruption` where the rule is that of the append queue and they leave a hole; `Full` where
+    /// more than 2^64 - 1 records would be live in `queue`; `Memory`. All is then as it was.
     pub fn absorb(
         &mut self,
         region_id: u64,
@@ -79,6 +95,14 @@ impl Entries {
         Ok(())
     }
 
+    /// Puts a run of `queue` in place of the entries from its first index on, and counts it. Where
+    /// it starts below the first entry or, in the rewrite queue, leaves a hole, it then stands
+    /// alone.
+    ///
+    /// # Errors
+    ///
+    /// `Corruption` where it leaves a hole in the append queue; `Full` where more than 2^64 - 1
+    /// records would be live in `queue`; `Memory`. Entries and counts are then as they were.
     pub fn replay_run(
         &mut self,
         region_id: u64,
@@ -106,12 +130,17 @@ impl Entries {
         self.put_run_behind(keep, &Run::Entries(run), queue, stats)
     }
 
+    /// Makes the `Corruption` for a run from `start` on, which leaves a hole behind these entries;
+    /// `Memory` where its text finds none.
     fn hole_error(&self, region_id: u64, start: u64) -> Error
         ensures { IsCorruption (hole_text region_id start (end_of self.now)) result }
     {
         hole_error(self.allocator(), region_id, start, self.end())
     }
 
+    /// Returns how many entries stay where a run starts at `index`, by the start rule of the queue
+    /// `rule`: those below it, or none where it starts below the first one or leaves a hole. `None`
+    /// where it leaves one in the append queue, which is refused.
     pub fn kept_under(&self, rule: LogQueue, index: u64) -> Option<usize>
         ensures kept { MatchOption result (IsStart self.now index Start.BehindHole ×
             (rule ≡ Append)) (IsKeptUnder rule self.now index) }
@@ -127,6 +156,13 @@ impl Entries {
         }
     }
 
+    /// Puts a run of `queue` in place of the entries behind the first `keep`, and counts the
+    /// change.
+    ///
+    /// # Errors
+    ///
+    /// `Full` where more than 2^64 - 1 records would be live in `queue`; `Memory`. Entries and
+    /// counts are then as they were.
     #[inline(always)]
     pub fn put_run_behind(
         &mut self,
@@ -158,6 +194,7 @@ impl Entries {
         Ok(())
     }
 
+    /// Returns how many entries behind the first `keep` are rewritten, and how many are appended.
     pub(super) fn count_behind(&self, keep: usize) -> (usize, usize)
         requires { keep ≤ length self.now }
         ensures rewritten { result.0 ≡ entry_count Rewrite (drop keep self.now) }
@@ -168,6 +205,8 @@ impl Entries {
         (rewritten, self.len - keep - rewritten)
     }
 
+    /// Tells where a run from `index` on starts: among the entries or right behind them, in front
+    /// of them, or behind a hole.
     fn start(&self, index: u64) -> Start
         ensures meets { IsStart self.now index result }
         ensures table_entries { AreTableEntries self.now }
@@ -200,6 +239,8 @@ fn has_room(stats: &GlobalStats, gone: (usize, usize), queue: LogQueue, added: u
     added <= usize::MAX - (stats.live_entries(queue) - gone)
 }
 
+/// Takes `gone` records, rewritten and appended ones, off the counts, and adds `added` of `queue`,
+/// for which there is room then.
 fn exchange(stats: &mut GlobalStats, gone: (usize, usize), queue: LogQueue, added: usize)
     requires rewritten { gone.0 ≤ live Rewrite stats.old }
     requires appended { gone.1 ≤ live Append stats.old }

@@ -8,6 +8,8 @@ use std::alloc::{AllocError, Global};
 use std::collections::BTreeMap;
 use std::collections::btree_map::Range;
 
+/// Divides a bound in two, of which one is `None`: a copy, by which the pairs are looked up, or,
+/// where there is no memory for one, the bound itself, by which each pair is tested.
 pub(super) fn divided(alloc: Global, bound: Option<&[u8]>) -> (Option<Vec<u8>>, Option<&[u8]>)
     ensures { IsDivided (option_copied bound.entry) (option_map (λ k. k.items) result.0)
         (option_copied result.1) }
@@ -21,6 +23,7 @@ pub(super) fn divided(alloc: Global, bound: Option<&[u8]>) -> (Option<Vec<u8>>, 
     }
 }
 
+/// Returns the pairs from `start` on and below `end`, in order. `None` leaves a side open.
 pub(super) fn sought<'a>(
     pairs: &'a BTreeMap<Vec<u8>, StoredValue>,
     start: &Option<Vec<u8>>,
@@ -41,6 +44,7 @@ pub(super) fn sought<'a>(
     }
 }
 
+/// Tests whether `start` isn't above `end`. It is true where one of them is `None`.
 pub(super) fn is_forward(start: Option<&[u8]>, end: Option<&[u8]>) -> bool
     ensures { result ≡ is_forward (option_copied start.entry) (option_copied end.entry) }
 {
@@ -50,6 +54,7 @@ pub(super) fn is_forward(start: Option<&[u8]>, end: Option<&[u8]>) -> bool
     }
 }
 
+/// Calls `f` at those of the pairs that are between `start` and `end`, until it returns false.
 pub(super) fn visit<F: FnMut(&[u8], &[u8]) -> bool>(
     mut pairs: Range<'_, Vec<u8>, StoredValue>,
     start: Option<&[u8]>,
@@ -69,6 +74,8 @@ pub(super) fn visit<F: FnMut(&[u8], &[u8]) -> bool>(
     }
 }
 
+/// Calls `f` at those of the pairs that are between `start` and `end`, from the last one back,
+/// until it returns false.
 pub(super) fn visit_back<F: FnMut(&[u8], &[u8]) -> bool>(
     mut pairs: Range<'_, Vec<u8>, StoredValue>,
     start: Option<&[u8]>,
@@ -88,6 +95,7 @@ pub(super) fn visit_back<F: FnMut(&[u8], &[u8]) -> bool>(
     }
 }
 
+/// Tests whether a key is at or above `start` and below `end`. `None` leaves a side open.
 fn is_between(key: &[u8], start: Option<&[u8]>, end: Option<&[u8]>) -> bool
     ensures { result ≡ is_between (option_copied start.entry) (option_copied end.entry) key.now }
 {

@@ -1,7 +1,7 @@
-//! Stops of the machine that are tried: what is left is recovered, and opened.
+//! Crashes that are tried: what is left is recovered, and opened.
 
-use crate::disk::{Disk, Stop};
-use crate::found::{Way, open, records_of, recovered};
+use crate::disk::{Crash, Disk};
+use crate::found::{Way, open, records_of, recover_records};
 use crate::noted_files::NotedFiles;
 use raft_base::{Error, LogQueue, Result};
 use raft_engine::Engine;
@@ -14,12 +14,12 @@ pub(crate) trait Host: AllocGlobal + Threads + Sync + Print + Eprint {}
 
 impl<R: AllocGlobal + Threads + Sync + Print + Eprint> Host for R {}
 
-/// How many restarts in a row are stopped at most. Half of the first ones are, and half of each further one.
+/// How many restarts in a row crash at most. Half of the first ones are, and half of each further one.
 const RESTARTS: usize = 4;
 
 /// What was tried so far, and how often something else was read than there had to be.
 #[derive(Drop)]
-pub(crate) struct Stops<'a, R: Host> {
+pub(crate) struct Crashes<'a, R: Host> {
     pub(crate) rt: &'a R,
     pub(crate) tried: u64,
     /// How often both queues were recovered, alone or by an opening.
@@ -27,13 +27,14 @@ pub(crate) struct Stops<'a, R: Host> {
     pub(crate) different: u64,
 }
 
-impl<'a, R: Host> Stops<'a, R> {
+impl<'a, R: Host> Crashes<'a, R> {
+    /// Returns the allocator of the machine.
     fn alloc(&self) -> Global {
         self.rt.alloc()
     }
 
-    /// Tries the stops in what a queue was asked last, if each byte is to be tried; and one that is drawn.
-    pub(crate) fn try_some(
+    /// Tries the crashes in what a queue was asked last, if each byte is to be tried; and one that is drawn.
+    pub(crate) fn try_crashes(
         &mut self,
         way: Way,
         disk: &Disk,
@@ -41,18 +42,18 @@ impl<'a, R: Host> Stops<'a, R> {
         dice: &mut Dice,
     ) -> Result<()> {
         if let Some(queue) = by_bytes {
-            for stop in disk.stops_in(queue)? {
-                self.try_stop(way, disk, stop, dice)?;
+            for crash in disk.crashes_in(queue)? {
+                self.try_crash(way, disk, crash, dice)?;
             }
         }
-        let stop = disk.draw(dice);
-        self.try_stop(way, disk, stop, dice)
+        let crash = disk.draw(dice);
+        self.try_crash(way, disk, crash, dice)
     }
 
-    /// Tries a stop: recovers what is left without its torn batches, then opens what is left, and what stops of these openings leave.
-    fn try_stop(&mut self, way: Way, disk: &Disk, stop: Stop, dice: &mut Dice) -> Result<()> {
+    /// Tries a crash: recovers what is left without its torn batches, then opens what is left, and what crashes of these openings leave.
+    fn try_crash(&mut self, way: Way, disk: &Disk, crash: Crash, dice: &mut Dice) -> Result<()> {
         self.tried = self.tried.saturating_add(1);
-        let mut left = disk.left_by(stop)?;
+        let mut left = disk.disk_after(crash)?;
         self.recover(way, &left)?;
         for _ in 0..RESTARTS {
             match self.open(way, &mut left, dice)? {
@@ -67,27 +68,27 @@ impl<'a, R: Host> Stops<'a, R> {
     fn recover(&mut self, way: Way, disk: &Disk) -> Result<()> {
         self.recoveries = self.recoveries.saturating_add(1);
         let (append, rewrite) = disk.untorn_files()?;
-        match recovered(self.rt, self.alloc(), way, append, rewrite) {
+        match recover_records(self.rt, self.alloc(), way, append, rewrite) {
             Ok(contents) => self.compare_contents(&contents, disk.records(), "recovered"),
-            Err(e) => self.refused("not recovered", &e),
+            Err(e) => self.count_refusal("not recovered", &e),
         }
     }
 
-    /// Opens what a disk has, and returns what a stop of that leaves, if it asked anything, in half of the cases.
+    /// Opens what a disk has, and returns what a crash of that leaves, if it asked anything, in half of the cases.
     fn open(&mut self, way: Way, disk: &mut Disk, dice: &mut Dice) -> Result<Option<Disk>> {
         self.recoveries = self.recoveries.saturating_add(1);
         let (append, rewrite) = disk.files()?;
         match open(self.rt, self.alloc(), way, append, rewrite) {
-            Ok(mut engine) => self.stop_again(&mut engine, disk, dice),
+            Ok(mut engine) => self.crash_again(&mut engine, disk, dice),
             Err(e) => {
-                self.refused("not opened", &e)?;
+                self.count_refusal("not opened", &e)?;
                 Ok(None)
             }
         }
     }
 
-    /// Reads what an engine has that was opened over a disk, and returns what a stop of the opening leaves.
-    fn stop_again(
+    /// Reads what an engine has that was opened over a disk, and returns what a crash of the opening leaves.
+    fn crash_again(
         &mut self,
         engine: &mut Engine<NotedFiles>,
         disk: &mut Disk,
@@ -95,7 +96,7 @@ impl<'a, R: Host> Stops<'a, R> {
     ) -> Result<Option<Disk>> {
         match records_of(self.alloc(), engine) {
             Ok(contents) => self.compare_contents(&contents, disk.records(), "opened")?,
-            Err(e) => self.refused("not read", &e)?,
+            Err(e) => self.count_refusal("not read", &e)?,
         }
         let asks = &engine.files().asks;
         if asks.is_empty() || dice.hits(2) {
@@ -103,10 +104,10 @@ impl<'a, R: Host> Stops<'a, R> {
         }
         let count = dice.below(asks.len() as u64) as usize;
         for ask in asks.iter().take(count.saturating_add(1)) {
-            disk.take(ask, "")?;
+            disk.take_ask(ask, "")?;
         }
-        let stop = disk.draw(dice);
-        Ok(Some(disk.left_by(stop)?))
+        let crash = disk.draw(dice);
+        Ok(Some(disk.disk_after(crash)?))
     }
 
     /// Counts and prints contents that aren't those that there have to be.
@@ -116,9 +117,9 @@ impl<'a, R: Host> Stops<'a, R> {
     }
 
     /// Counts and prints a refusal.
-    fn refused(&mut self, how: &str, error: &Error) -> Result<()> {
+    fn count_refusal(&mut self, how: &str, error: &Error) -> Result<()> {
         let text = format!(in self.alloc(); "{how}: {error}")?;
-        self.differs(text.as_str())
+        self.count_difference(text.as_str())
     }
 
     /// Counts and prints records that aren't those that there have to be.
@@ -127,24 +128,24 @@ impl<'a, R: Host> Stops<'a, R> {
             return Ok(());
         }
         let text = format!(in self.alloc(); "{how}\n{found}in place of\n{wanted}")?;
-        self.differs(text.as_str())
+        self.count_difference(text.as_str())
     }
 
     /// Counts and prints a refusal of a step that has to succeed.
-    pub(crate) fn succeeds(&mut self, taken: Result<()>) -> Result<()> {
+    pub(crate) fn check_success(&mut self, taken: Result<()>) -> Result<()> {
         match taken {
             Ok(()) => Ok(()),
-            Err(e) => self.refused("refused", &e),
+            Err(e) => self.count_refusal("refused", &e),
         }
     }
 
     /// Prints in which history something was different.
-    pub(crate) fn differs_in(&self, kind: &str, number: u64, step: u64) -> Result<()> {
+    pub(crate) fn print_where(&self, kind: &str, number: u64, step: u64) -> Result<()> {
         Ok(println!(self.rt; "so in the history of {kind} {number}, step {step}")?)
     }
 
     /// Counts and prints what is different.
-    pub(crate) fn differs(&mut self, text: &str) -> Result<()> {
+    pub(crate) fn count_difference(&mut self, text: &str) -> Result<()> {
         self.different = self.different.saturating_add(1);
         Ok(println!(self.rt; "{text}")?)
     }

@@ -43,9 +43,7 @@ def main():
             room = pathlib.Path(made)
             unproved.make_module(kit, room, folder, folder / "src/main.rt")
             unproved.compiled(kit, room, "module.bc", "module.o", "ir", "-O1", "-c")
-            words = [kit / "bin/rattle-link", "--target", "x86_64-unknown-linux-gnu", "--toolchain", kit / "toolchain"]
-            words += ["-o", out, room / "module.o", kit / "c/libos_c.a", kit / "c/liblibc_c.a"]
-            subprocess.run(words, check=True)
+            unproved.linked(kit, room, out)
         stamp.write_text(wanted)
     print(f"{os.path.relpath(out, archive.TOP)}: a program without a proof")
 

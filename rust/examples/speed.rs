@@ -2,7 +2,8 @@
 //!
 //! A round writes batches of eight entries of 128 bytes and a key, each by one call, for half a second: without and with a sync, from
 //! one thread and from four. Then it recovers a log of so many megabytes from memory, and opens its folder, on 1, 2 and 4 threads.
-//! At last it reads entries of the log by one call each: of ten blocks in turn, and of a hundred regions in order.
+//! At last it reads entries of the log by one call each, of ten blocks in turn and of a hundred regions in order, and writes while
+//! another thread purges the log, which moves half of it.
 
 use raft_recover::{Engine, FilePart, LogBatch, LogFile, Options, Queue, Result, recover};
 use std::time::{Duration, Instant};
@@ -103,6 +104,25 @@ fn get_all(log: &Path, rounds: u64) -> Result<[f64; 2]> {
     Ok(best)
 }
 
+/// Writes to a log of so many bytes while another thread purges it, and returns how many milliseconds the longest write took, and how
+/// many there were.
+fn write_beside_a_purge(log: &Path, bytes: u64) -> Result<(f64, u64)> {
+    let engine = Engine::open(log, Options::new().purge_above(bytes / 2))?;
+    engine.rotate()?;
+    let (mut longest, mut count) = (0.0, 0);
+    thread::scope(|scope| {
+        let purge = scope.spawn(|| engine.purge());
+        while !purge.is_finished() {
+            let mut batch = batch(1000, 8 * count + 1)?;
+            let took = time(|| engine.write(&mut batch, false))?;
+            longest = took.max(longest);
+            count += 1;
+        }
+        purge.join().expect("no panic")?;
+        Ok((longest, count))
+    })
+}
+
 /// Returns how many milliseconds a call takes.
 fn time<T>(call: impl FnOnce() -> Result<T>) -> Result<f64> {
     let begun = Instant::now();
@@ -119,7 +139,8 @@ fn main() -> std::result::Result<(), Box<dyn std::error::Error>> {
     let rounds = number(2, 5)?;
     fs::create_dir(folder)?;
     let log = folder.join("log");
-    fill(&log, number(3, 200)? << 20)?;
+    let bytes = number(3, 200)? << 20;
+    fill(&log, bytes)?;
     let files = read(&log)?;
     let parts: Vec<_> = cut(&files);
     let mut written = [(0.0, 0.0); 4];
@@ -151,6 +172,8 @@ fn main() -> std::result::Result<(), Box<dyn std::error::Error>> {
     }
     let [kept, in_order] = get_all(&log, rounds)?;
     println!("an entry of blocks in turn: {kept:.0} ns, of regions in order: {in_order:.0} ns");
+    let (longest, count) = write_beside_a_purge(&log, bytes)?;
+    println!("the longest of {count} writes beside a purge: {longest:.1} ms");
     Ok(())
 }
 

@@ -1,8 +1,8 @@
 -- Entries that are read by their blocks, one after another.
 use Rattle.std.proofs.Common.{◌≡◌, ◌≢◌, ◌⊎◌, ℕ, suc, ◌+◌, ◌<◌, ◌≤◌, List, [], ◌∷◌, ◌++◌, get_or, length, map, take, drop, Option, Some, None, Vec, Contains, string_bytes, inl, inr, refl, sym, ap, subst, ◌∙◌, append_assoc, arith}
 use Rattle.std.specs.Global.{Global}
-use Rattle.std.specs.List.{AllZip}
-use Rattle.std.proofs.lemmas.List.{length-append, length-take-le, take-append-drop, take-append-le, take_at, take_more}
+use Rattle.std.specs.List.{AllZip, concat}
+use Rattle.std.proofs.lemmas.List.{append-nil, drop_at, length-append, length-drop, length-take-le, take-append-drop, take-append-le, take_all, take_at, take_more}
 use Rattle.std.proofs.lemmas.List.Elements.{Contains-append_right}
 use Rattle.raft_base.specs.declared.entry_index.EntryIndex.{EntryIndex}
 use Rattle.raft_base.specs.declared.errors.Error.{Error}
@@ -12,7 +12,8 @@ use Rattle.raft_base.specs.Corruption.{IsCorruption}
 use Rattle.raft_base.specs.Errors.{IsCorruptionError}
 use Rattle.raft_records.specs.Faults.{IsAnyCorruption}
 use Rattle.raft_records.specs.Header.{IsEntryBlockOf, IsLentBlockFault}
-use Rattle.raft_records.specs.ItemBatch.{HasSeal, checksum_bytes}
+use Rattle.raft_records.specs.Entries.{strings_in}
+use Rattle.raft_records.specs.ItemBatch.{HasSeal, checksum_bytes, entry_lengths}
 use Rattle.raft_records.proofs.BufferLemmas.{checksum_len}
 use Rattle.raft_records.proofs.SealLemmas.{content_is}
 use Rattle.raft_table.specs.Fetches.{block_count}
@@ -150,6 +151,13 @@ next_block es strings e kept block old now new r b = at b.got
           kept = last.1;
         }
     at (inr h) = block_read es strings e block old now new r.read (count_other r.read.reads es e kept r.last h.0) b.placed h.1
+
+-- an entry that was read has as many bytes as its length says
+read_length : (reads : List Ask) (e : EntryIndex) (bytes : List ℕ) → IsReadAmong reads e bytes → length bytes ≡ e.entry_len
+read_length reads e bytes r =
+    let behind = length-drop e.entry_offset r.entries in
+    let fits = r.inside in
+    ap length r.are ∙ length-take-le e.entry_len (drop e.entry_offset r.entries) (omega (arith, behind, fits))
 
 -- the entry's bytes are found in it
 pub next_bytes : (es : List EntryIndex) (strings : List (List ℕ)) (e : EntryIndex) (bytes : List ℕ) (block : EntryBlock) (old new : List Ask)
@@ -358,3 +366,64 @@ bytes_at i es d seen new_seen bytes block old new entries l n is b more =
     mapped : (xs : List (Vec ℕ Global)) → bytes_in_all (xs ++ bytes ∷ []) ≡ bytes_in_all xs ++ bytes.items ∷ []
     mapped [] = refl
     mapped (x ∷ xs) = ap (λ l. x.items ∷ l) (mapped xs)
+
+-- ---- one behind another
+
+-- these entries were read, and their bytes stand one behind another
+pub record AreJoinedSoFar (es : List EntryIndex) (joined : List ℕ) (kept : Option EntryBlock) (old new : List Ask) : Type 0 where
+  pub strings : List (List ℕ)
+  pub read : AreReadSoFar es strings kept old new
+  pub are : joined ≡ concat strings
+
+pub none_joined : (joined : List ℕ) (old : List Ask) → joined ≡ [] → AreJoinedSoFar [] joined None old old
+none_joined joined old e = record { strings = []; read = none_yet [] old refl; are = e }
+
+concat_more : (strings : List (List ℕ)) (bytes : List ℕ) → concat (strings ++ bytes ∷ []) ≡ concat strings ++ bytes
+concat_more [] bytes = append-nil bytes
+concat_more (s ∷ strings) bytes = ap (λ (t : List ℕ). s ++ t) (concat_more strings bytes) ∙ sym (append_assoc s (concat strings) bytes)
+
+pub joined_at : (i : ℕ) (es : List EntryIndex) (d : EntryIndex) (joined new_joined bytes : List ℕ) (kept : Option EntryBlock) (block : EntryBlock) (old now new : List Ask) → i < length es
+    → AreJoinedSoFar (take i es) joined kept old now → IsBlockOf (get_or es i d) kept block now new → AreBytesIn block.entries.items (get_or es i d) bytes → new_joined ≡ joined ++ bytes
+    → AreJoinedSoFar (take (i + 1) es) new_joined (Some block) old new
+joined_at i es d joined new_joined bytes kept block old now new l h b in_block more =
+    subst (λ (front : List EntryIndex). AreJoinedSoFar front new_joined (Some block) old new) (sym (take_more es i d l)) (record {
+      strings = h.strings ++ bytes ∷ [];
+      read = next_bytes (take i es) h.strings (get_or es i d) bytes block old new (next_block (take i es) h.strings (get_or es i d) kept block old now new h.read b) in_block;
+      are = more ∙ ap (λ (t : List ℕ). t ++ bytes) h.are ∙ sym (concat_more h.strings bytes);
+    })
+
+-- entries have as many bytes as their lengths say
+lengths_read : (reads : List Ask) (es : List EntryIndex) (strings : List (List ℕ)) → AllZip (IsReadAmong reads) es strings
+    → (entry_lengths es ≡ length (concat strings)) × (strings_in es (concat strings) ≡ strings)
+lengths_read reads [] [] h = (refl, refl)
+lengths_read reads [] (s ∷ strings) h = absurd h
+lengths_read reads (e ∷ es) [] h = absurd h
+lengths_read reads (e ∷ es) (s ∷ strings) h =
+    let rest = lengths_read reads es strings h.1 in
+    let own : length s ≡ e.entry_len = read_length reads e s h.0 in
+    let all = length-append s (concat strings) in (
+      omega (arith, rest.0, own, all),
+      ap (λ (t : List ℕ). t ∷ strings_in es (drop e.entry_len (s ++ concat strings))) (take_at s (concat strings) e.entry_len own)
+          ∙ ap (λ (t : List (List ℕ)). s ∷ t) (ap (strings_in es) (drop_at s (concat strings) e.entry_len own) ∙ rest.1),
+    )
+
+pub all_joined : (i : ℕ) (es : List EntryIndex) (joined : List ℕ) (kept : Option EntryBlock) (old new : List Ask) → length es ≤ i → AreJoinedSoFar (take i es) joined kept old new
+    → (entry_lengths es ≡ length joined) × AreReadByBlocks es (strings_in es joined) old new
+all_joined i es joined kept old new past some =
+    let h : AreJoinedSoFar es joined kept old new = subst (λ (front : List EntryIndex). AreJoinedSoFar front joined kept old new) (take_all i es past) some in
+    let lengths = lengths_read h.read.read.reads es h.strings h.read.read.have in (
+      lengths.0 ∙ ap length (sym h.are),
+      subst (λ (strings : List (List ℕ)). AreReadByBlocks es strings old new) (sym (ap (strings_in es) h.are ∙ lengths.1)) h.read.read,
+    )
+
+pub unjoined_block_at : (region i : ℕ) (es : List EntryIndex) (d : EntryIndex) (joined : List ℕ) (kept : Option EntryBlock) (old now new : List Ask) (error : Error) → i < length es
+    → AreJoinedSoFar (take i es) joined kept old now → IsNoBlockOf region (get_or es i d) kept now new error → AreUnread region es old new error
+unjoined_block_at region i es d joined kept old now new error l h b =
+    subst (λ (es : List EntryIndex). AreUnread region es old new error) (split_at i es d l)
+    (no_next_block region (take i es) (drop (i + 1) es) h.strings (get_or es i d) kept old now new error h.read b)
+
+pub unjoined_bytes_at : (region i : ℕ) (es : List EntryIndex) (d : EntryIndex) (joined : List ℕ) (kept : Option EntryBlock) (block : EntryBlock) (old now new : List Ask) (error : Error) → i < length es
+    → AreJoinedSoFar (take i es) joined kept old now → IsBlockOf (get_or es i d) kept block now new → AreNoBytesIn region block.place block.entries.items (get_or es i d) error → AreUnread region es old new error
+unjoined_bytes_at region i es d joined kept block old now new error l h b none =
+    subst (λ (es : List EntryIndex). AreUnread region es old new error) (split_at i es d l)
+    (no_next_bytes region (take i es) (drop (i + 1) es) h.strings (get_or es i d) block old new error (next_block (take i es) h.strings (get_or es i d) kept block old now new h.read b) none)

@@ -1,9 +1,7 @@
 -- What an engine has after its entries were read.
 use Rattle.std.proofs.Common.{◌≡◌, ℕ, suc, Bool, true, false, List, [], ◌∷◌, ◌++◌, filter, length, map, reverse, Option, Some, None, Vec, option_map, refl, sym, ap, subst, ◌∙◌, append-nil, if◌then◌else◌}
-use Rattle.std.proofs.lemmas.List.{length-map}
 use Rattle.std.specs.FinMap as finite
 use Rattle.std.specs.Global.{Global}
-use Rattle.std.specs.List.{AllZip}
 use Rattle.raft_base.specs.declared.entry_index.EntryIndex.{EntryIndex}
 use Rattle.raft_base.specs.declared.errors.Error.{Error}
 use Rattle.raft_table.specs.Fetches.{Fetches, range_answer}
@@ -27,16 +25,6 @@ read_only es strings old new r = record { reads = r.reads; only = r.only; asked 
 
 pub unread_only : (region : ℕ) (es : List EntryIndex) (old new : List Ask) (error : Error) → AreUnread region es old new error → AreOnlyRead old new
 unread_only region es old new error r = record { reads = r.reads; only = r.only; asked = r.asked }
-
--- each entry has its bytes
-as_many : (es : List EntryIndex) (strings : List (List ℕ)) (reads : List Ask) → AllZip (IsReadAmong reads) es strings → length es ≡ length strings
-as_many [] [] reads h = refl
-as_many (e ∷ es) (bytes ∷ strings) reads h = ap suc (as_many es strings reads h.1)
-as_many [] (bytes ∷ strings) reads h = absurd h
-as_many (e ∷ es) [] reads h = absurd h
-
-pub counted : (es seen : List EntryIndex) (strings : List (Vec ℕ Global)) (old new : List Ask) → seen ≡ es → AreReadByBlocks seen (map (λ s. s.items) strings) old new → length es ≡ length strings
-counted es seen strings old new e r = ap length (sym e) ∙ as_many seen (map (λ s. s.items) strings) r.reads r.have ∙ length-map strings (λ s. s.items)
 
 -- ---- one entry
 

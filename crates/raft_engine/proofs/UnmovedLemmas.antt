@@ -1,21 +1,25 @@
 -- Why there is no batch of a region's records.
-use Rattle.std.proofs.Common.{◌≡◌, ℕ, ◌+◌, ◌^◌, ◌≤◌, List, length, Option, inl, inr, ap, subst, arith}
+use Rattle.std.proofs.Common.{◌≡◌, ℕ, ◌+◌, ◌^◌, ◌≤◌, List, length, Option, inl, inr, ap, subst, sym, ◌∙◌, arith}
 use Rattle.raft_base.specs.declared.entry_index.EntryIndex.{EntryIndex}
 use Rattle.raft_base.specs.declared.errors.Error.{Error}
 use Rattle.raft_base.specs.declared.errors.Error.TheVariants as errors
-use Rattle.raft_records.specs.LogBatch.{Batch, empty_batch}
+use Rattle.std.specs.List.{concat}
+use Rattle.raft_records.specs.Entries.{strings_in}
+use Rattle.raft_records.specs.ItemBatch.{entry_lengths}
+use Rattle.raft_records.proofs.StringLemmas.{cut_joined}
 use Rattle.raft_table.specs.Table.{Table}
 use Rattle.raft_files.specs.Asks.{Ask}
 use Rattle.raft_engine.specs.Reads.{AreReadByBlocks, AreUnread}
 use Rattle.raft_engine.specs.Rewriting.{IsNextPart, moving_entries, moving_pairs, pairs_with}
 use Rattle.raft_engine.specs.Unmoved.{AreRecordsRefused, IsBatchRefused}
 
--- the first entries of a batch have too many bytes
-pub bytes_refused : (batch : Batch) (bytes : List ℕ) (e : Error) → batch ≡ empty_batch → (e ≡ errors.Full) × (2 ^ 31 ≤ length batch.entry_bytes + length bytes) → (e ≡ errors.Full) × (2 ^ 31 ≤ length bytes)
-bytes_refused batch bytes e empty h =
-    let none = ap (λ (b : Batch). length b.entry_bytes) empty in
+-- the first entries of a batch, whose bytes stand one behind another, have too many
+pub joined_refused : (before : List ℕ) (es : List EntryIndex) (bytes lent : List ℕ) (e : Error) → length before ≡ 0 → entry_lengths es ≡ length bytes → lent ≡ bytes
+    → (e ≡ errors.Full) × (2 ^ 31 ≤ length before + length lent) → (e ≡ errors.Full) × (2 ^ 31 ≤ length (concat (strings_in es bytes)))
+joined_refused before es bytes lent e none lengths same h =
     let many = h.1 in
-    (h.0, omega (arith, none, many))
+    let all : length lent ≡ length (concat (strings_in es bytes)) = ap length (same ∙ sym (cut_joined es bytes lengths)) in
+    (h.0, omega (arith, none, many, all))
 
 -- the entries aren't all read
 pub entries_refused : (gate : Option ℕ) (left : List EntryIndex) (t : Table) (region : ℕ) → region ≡ t.region_id → (part : List EntryIndex) (old new : List Ask) (e : Error) → IsNextPart gate (moving_entries gate t.entries) part left

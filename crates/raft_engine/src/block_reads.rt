@@ -1,7 +1,10 @@
 //! Entries that are read by their blocks.
 
-ghost use Rattle.std.specs.Prelude.{◌≡◌, ◌↔◌, ◌∷◌, ℕ, [], List, map, take, IfErr, IfOk, IfSome, IsSome, IsTrue, OnErr, OnOk, Some};
+ghost use Rattle.std.specs.Prelude.{◌≡◌, ◌↔◌, ◌+◌, ◌≤◌, ◌∷◌, ◌++◌, ℕ, [], List, length, map, take, IfErr, IfOk, IfSome, IsSome, IsTrue, OnErr, OnOk, Some};
+ghost use Rattle.raft_records.specs.Entries.{strings_in};
+ghost use Rattle.raft_records.specs.ItemBatch.{entry_lengths};
 ghost use Rattle.raft_records.specs.Header.{IsEntryBlockOf, IsLentBlockFault};
+ghost use Rattle.raft_engine_laws.specs.Contents.{bytes_of};
 ghost use Rattle.raft_engine.specs.BlockReads.{AreBytesIn, AreNoBytesIn, IsBlockOf, IsKeptOf, IsNoBlockOf, IsOfEntry, IsSoundRead, IsUnreadOf};
 ghost use Rattle.raft_engine.specs.Reads.{AreReadByBlocks, AreUnread};
 
@@ -61,6 +64,32 @@ pub fn read_by_blocks<F: EngineFiles>(
         strings.push(bytes_in(alloc, region, block, entry)?)?;
     }
     Ok(strings)
+}
+
+/// Reads the bytes of entries of a region, one behind another, in order. A block that holds several neighbors is read once.
+///
+/// # Errors
+///
+/// Those of [`read_by_blocks`].
+pub fn read_joined<F: EngineFiles>(
+    alloc: Global,
+    files: &mut F,
+    region: u64,
+    entries: &[EntryIndex],
+) -> Result<Vec<u8>>
+    ensures lengths { IfOk result (λ bytes. entry_lengths entries.now ≡ length bytes.items) }
+    ensures ok { IfOk result (λ bytes. AreReadByBlocks entries.now
+        (strings_in entries.now bytes.items) (F.asked files.old) (F.asked files.new)) }
+    ensures err { IfErr result (AreUnread region entries.now (F.asked files.old) (F.asked files.new)) }
+{
+    let mut joined = Vec::new(alloc);
+    let mut last = None;
+    for entry in entries {
+        keep_block(alloc, files, region, entry, &mut last)?;
+        let Some(block) = &last else { unreachable!() };
+        push_bytes(&mut joined, region, block, entry)?;
+    }
+    Ok(joined)
 }
 
 /// Keeps the block at the place of an entry of a region: the one that is kept, if it is that, and else it is read.
@@ -161,6 +190,31 @@ fn bytes_in(alloc: Global, region: u64, block: &EntryBlock, entry: &EntryIndex) 
 {
     match entry_bytes(alloc, block.entries.as_slice(), entry) {
         Ok(bytes) => Ok(Vec::from_slice(alloc, bytes)?),
+        Err(error) => Err(of_entry(alloc, region, entry.index, block.place, error)),
+    }
+}
+
+/// Pushes the bytes of an entry of a region in its block behind others.
+///
+/// # Errors
+///
+/// `Corruption` where they would end past those of the block; `Memory`.
+fn push_bytes(
+    joined: &mut Vec<u8>,
+    region: u64,
+    block: &EntryBlock,
+    entry: &EntryIndex,
+) -> Result<()>
+    ensures ok { OnOk result (joined.new.items
+        ≡ joined.old.items ++ bytes_of block.now.entries.items entry.now) }
+    ensures inside { OnOk result (entry.now.entry_offset + entry.now.entry_len
+        ≤ length block.now.entries.items) }
+    ensures err { IfErr result
+        (AreNoBytesIn region block.now.place block.now.entries.items entry.now) }
+{
+    let alloc = *joined.allocator();
+    match entry_bytes(alloc, block.entries.as_slice(), entry) {
+        Ok(bytes) => Ok(joined.extend_from_slice(bytes)?),
         Err(error) => Err(of_entry(alloc, region, entry.index, block.place, error)),
     }
 }

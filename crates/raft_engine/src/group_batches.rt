@@ -12,7 +12,7 @@ ghost use Rattle.raft_engine.specs.Reads.{AreOnlyRead};
 ghost use Rattle.raft_engine.specs.Rewriting.{with_puts};
 ghost use Rattle.raft_engine.specs.Unmoved.{AreKeysRefused};
 
-use crate::block_reads::read_by_blocks;
+use crate::block_reads::read_joined;
 use crate::parts::part_len;
 use crate::rewriting::{entries_to_move, pairs_to_move, put_pairs};
 use raft_base::{EntryIndex, Error, Result};
@@ -26,7 +26,7 @@ use std::alloc::Global;
 ///
 /// # Errors
 ///
-/// Those of [`read_by_blocks`]; `Full` where the entries of a part have 2^31 bytes or more; `InvalidArgument` for the key of
+/// Those of [`read_joined`]; `Full` where the entries of a part have 2^31 bytes or more; `InvalidArgument` for the key of
 /// the group markers. Nothing but reads is asked then.
 pub fn moving_group<F: EngineFiles>(
     alloc: Global,
@@ -77,7 +77,7 @@ fn begin_batch(alloc: Global, builder: &mut AtomicGroupBuilder) -> Result<LogBat
 ///
 /// # Errors
 ///
-/// Those of [`read_by_blocks`]; `Full` where the entries of a part have 2^31 bytes or more. Nothing but reads is asked then, and
+/// Those of [`read_joined`]; `Full` where the entries of a part have 2^31 bytes or more. Nothing but reads is asked then, and
 /// some batches may be added.
 fn push_parts<F: EngineFiles>(
     files: &mut F,
@@ -109,7 +109,7 @@ fn push_parts<F: EngineFiles>(
 ///
 /// # Errors
 ///
-/// Those of [`read_by_blocks`]; `Full` where these bytes are 2^31 or more. Nothing but reads is asked then.
+/// Those of [`read_joined`]; `Full` where these bytes are 2^31 or more. Nothing but reads is asked then.
 fn part_batch<F: EngineFiles>(
     alloc: Global,
     files: &mut F,
@@ -127,10 +127,10 @@ fn part_batch<F: EngineFiles>(
     ensures refused { IfErr result (λ e. e ≢ Error.Memory → IsPartRefused region entries.now
         (F.asked files.old) (F.asked files.new) e) }
 {
-    let strings = read_by_blocks(alloc, files, region, entries)?;
+    let bytes = read_joined(alloc, files, region, entries)?;
     let mut batch = LogBatch::default(alloc);
     builder.add(&mut batch)?;
-    batch.add_raw_entries(region, Vec::from_slice(alloc, entries)?, strings)?;
+    batch.add_joined_entries(region, Vec::from_slice(alloc, entries)?, bytes.as_slice())?;
     Ok(batch)
 }
 

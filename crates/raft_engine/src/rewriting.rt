@@ -11,7 +11,7 @@ ghost use Rattle.raft_engine.specs.Parts.{IsFirstPart};
 ghost use Rattle.raft_engine.specs.Rewriting.{IsBatchMoving, IsNextPart, moving_entries, moving_pairs, pairs_with, with_puts};
 ghost use Rattle.raft_engine.specs.Unmoved.{AreKeysRefused, IsBatchRefused};
 
-use crate::block_reads::read_by_blocks;
+use crate::block_reads::read_joined;
 use crate::parts::part_len;
 use raft_accessor::MemTableAccessor;
 use raft_base::{EntryIndex, Error, FileSeq, Result};
@@ -111,7 +111,7 @@ pub fn batch_len(entries: &[EntryIndex], gate: Option<FileSeq>) -> usize
 ///
 /// # Errors
 ///
-/// Those of [`read_by_blocks`]; `Full` where these bytes are 2^31 or more; `InvalidArgument` for the key of the group markers.
+/// Those of [`read_joined`]; `Full` where these bytes are 2^31 or more; `InvalidArgument` for the key of the group markers.
 pub fn moving_batch<F: EngineFiles>(
     alloc: Global,
     files: &mut F,
@@ -130,9 +130,9 @@ pub fn moving_batch<F: EngineFiles>(
 {
     let pairs = batch_pairs(alloc, table, gate, left)?;
     let region = table.region_id();
-    let strings = read_by_blocks(alloc, files, region, part)?;
+    let bytes = read_joined(alloc, files, region, part)?;
     let mut batch = LogBatch::default(alloc);
-    batch.add_raw_entries(region, Vec::from_slice(alloc, part)?, strings)?;
+    batch.add_joined_entries(region, Vec::from_slice(alloc, part)?, bytes.as_slice())?;
     put_pairs(&mut batch, region, pairs)?;
     Ok(batch)
 }

@@ -1,0 +1,153 @@
+//! Goes through the phases of an engine over files in memory, whose instructions `make bench-engine` counts: `phases [batches]`. It prints
+//! a line for each phase: its name, how many units it had, what a unit is, and how many nanoseconds each took.
+
+use raft_recover::{Engine, LogBatch, MemoryFiles, Options, Result};
+use std::time::Instant;
+use std::{env, hint};
+
+/// How many regions there are.
+const REGIONS: u64 = 100;
+
+/// How many entries a batch has.
+const ENTRIES: u64 = 8;
+
+/// The step from one entry of a region that is read to the next one: it shares no factor with how many there are.
+const STEP: u64 = 7_919;
+
+type MemoryEngine = Engine<MemoryFiles>;
+
+/// Prints what a phase took, which returns how many units it had.
+fn tell(name: &str, unit: &str, phase: impl FnOnce() -> Result<u64>) -> Result<()> {
+    let begun = Instant::now();
+    let count = phase()?;
+    let each = begun.elapsed().as_nanos() / u128::from(count.max(1));
+    println!("{name}\t{count}\t{unit}\t{each}");
+    Ok(())
+}
+
+/// Adds the entries of a region's batch of this number.
+fn fill(batch: &mut LogBatch, region: u64, number: u64) -> Result<()> {
+    batch.add_entries(region, number * ENTRIES + 1, &[[7; 128]; ENTRIES as usize])
+}
+
+/// Makes batches.
+#[inline(never)]
+fn phase_make(batches: u64) -> Result<u64> {
+    for number in 0..batches {
+        for region in 0..REGIONS {
+            let mut batch = LogBatch::new()?;
+            fill(&mut batch, region, number)?;
+            hint::black_box(&batch);
+        }
+    }
+    Ok(batches * REGIONS)
+}
+
+/// Makes batches, and writes each.
+#[inline(never)]
+fn phase_write(engine: &MemoryEngine, batches: u64) -> Result<u64> {
+    for number in 0..batches {
+        for region in 0..REGIONS {
+            let mut batch = LogBatch::new()?;
+            fill(&mut batch, region, number)?;
+            engine.write(&mut batch, false)?;
+        }
+    }
+    Ok(batches * REGIONS)
+}
+
+/// Fills one batch again and again, and writes it each time.
+#[inline(never)]
+fn phase_write_again(engine: &MemoryEngine, batches: u64) -> Result<u64> {
+    let mut batch = LogBatch::new()?;
+    for number in batches..2 * batches {
+        for region in 0..REGIONS {
+            fill(&mut batch, region, number)?;
+            engine.write(&mut batch, false)?;
+        }
+    }
+    Ok(batches * REGIONS)
+}
+
+/// Reads all entries of each region in order, each by one call.
+#[inline(never)]
+fn phase_entry_in_order(engine: &MemoryEngine, entries: u64) -> Result<u64> {
+    for region in 0..REGIONS {
+        for index in 1..=entries {
+            hint::black_box(engine.entry(region, index)?);
+        }
+    }
+    Ok(entries * REGIONS)
+}
+
+/// Reads all entries, each by one call, and none behind its neighbor.
+#[inline(never)]
+fn phase_entry(engine: &MemoryEngine, entries: u64) -> Result<u64> {
+    for turn in 0..entries {
+        for region in 0..REGIONS {
+            hint::black_box(engine.entry(region, turn * STEP % entries + 1)?);
+        }
+    }
+    Ok(entries * REGIONS)
+}
+
+/// Reads as many entries of ten blocks in turn, which are kept.
+#[inline(never)]
+fn phase_entry_kept(engine: &MemoryEngine, entries: u64) -> Result<u64> {
+    for turn in 0..entries * REGIONS {
+        hint::black_box(engine.entry(turn % 10, turn % ENTRIES + 1)?);
+    }
+    Ok(entries * REGIONS)
+}
+
+/// Lends all entries of each region in order, by one call for a region.
+#[inline(never)]
+fn phase_for_each_entry(engine: &MemoryEngine, entries: u64) -> Result<u64> {
+    for region in 0..REGIONS {
+        engine.for_each_entry(region, 1..=entries, |_, bytes| {
+            hint::black_box(bytes);
+        })?;
+    }
+    Ok(entries * REGIONS)
+}
+
+/// Moves all records of the first file.
+#[inline(never)]
+fn phase_rewrite(engine: &MemoryEngine, entries: u64) -> Result<u64> {
+    engine.rewrite(1)?;
+    Ok(entries * REGIONS)
+}
+
+/// Goes through the phases of reading.
+fn read(engine: &MemoryEngine, entries: u64, which: &str) -> Result<()> {
+    tell(&format!("entry{which}"), "entry", || {
+        phase_entry(engine, entries)
+    })?;
+    tell(&format!("entry{which}, of neighbors"), "entry", || {
+        phase_entry_in_order(engine, entries)
+    })?;
+    tell(&format!("for_each_entry{which}"), "entry", || {
+        phase_for_each_entry(engine, entries)
+    })?;
+    tell(
+        &format!("entry{which}, of ten blocks in turn"),
+        "entry",
+        || phase_entry_kept(engine, entries),
+    )
+}
+
+fn main() -> std::result::Result<(), Box<dyn std::error::Error>> {
+    let batches = env::args().nth(1).map_or(Ok(10), |word| word.parse())?;
+    let entries = 2 * batches * ENTRIES;
+    let engine = Engine::with_files(MemoryFiles::new(), Options::new())?;
+    tell("make", "batch", || phase_make(batches))?;
+    tell("make and write", "batch", || phase_write(&engine, batches))?;
+    tell("fill again and write", "batch", || {
+        phase_write_again(&engine, batches)
+    })?;
+    read(&engine, entries, "")?;
+    engine.rotate()?;
+    tell("rewrite", "entry", || phase_rewrite(&engine, entries))?;
+    read(&engine, entries, " of rewritten ones")?;
+    Ok(())
+}

@@ -9,8 +9,9 @@ use std::process::Command;
 use std::{env, fs};
 
 /// The programs that this file runs, and those of `killed.rs`.
-const PROGRAMS: [&str; 6] = [
+const PROGRAMS: [&str; 7] = [
     "look",
+    "phases",
     "raft_storage",
     "recover",
     "speed",
@@ -118,7 +119,24 @@ fn the_times_of_an_engine_are_told() {
         .iter()
         .filter(|line| line.starts_with("an entry of ") && line.ends_with(" ns"));
     assert_eq!((written.count(), read.count(), got.count()), (4, 3, 1));
-    assert_eq!(said.len(), 8);
+    let purged = said.last().unwrap();
+    assert!(purged.ends_with(" ms") && purged.contains(" writes beside a purge: "));
+    assert_eq!(said.len(), 9);
+}
+
+#[test]
+fn each_phase_of_an_engine_is_told() {
+    let said = said("phases", &[Path::new("1")]);
+    let phases: Vec<Vec<_>> = said.iter().map(|line| line.split('\t').collect()).collect();
+    let numbers = phases.iter().map(|phase| [phase[1], phase[3]]);
+    assert!(
+        numbers
+            .flatten()
+            .all(|number| number.parse::<u64>().is_ok())
+    );
+    let of_entries = |phase: &&Vec<&str>| phase[1..3] == ["1600", "entry"];
+    assert_eq!(phases.iter().filter(of_entries).count(), 9);
+    assert_eq!(phases.len(), 12, "{said:?}");
 }
 
 #[test]

@@ -1,8 +1,6 @@
 //! The files of an engine in memory, and what a stop of the machine leaves of them.
 
-mod common;
-
-use common::model::{Region, region_of};
+use crate::common::model::{Region, region_of};
 use raft_recover::{Ask, Engine, FileId, Files, LogBatch, MemoryFiles, Options, Queue, Unsynced};
 use std::io;
 use std::sync::Arc;

@@ -1,10 +1,8 @@
 //! The items of a batch that is written: how many there are, and which one is refused.
 
-mod common;
-
-use common::engines::{engine, write};
-use common::model::{Change, Draw, Region};
-use common::run;
+use crate::common::engines::{engine, write};
+use crate::common::model::{Change, Draw, Region};
+use crate::common::run;
 use raft_recover::{
     Error, ErrorKind, LogBatch, LogFile, Queue, Result, Stage, Tables, Version, slot_of,
 };

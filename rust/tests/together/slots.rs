@@ -1,9 +1,7 @@
 //! Slots: the tables of a part of all regions.
 
-mod common;
-
-use common::slots::{APPEND_9, many_tables, other, slot};
-use common::{entry, file, files, lines, parts, run};
+use crate::common::slots::{APPEND_9, many_tables, other, slot};
+use crate::common::{entry, file, files, lines, parts, run};
 use raft_recover::{
     Batches, Content, ErrorKind, FileId, Item, LogBatch, Queue, SLOTS, Slot, Tables, slot_of,
 };

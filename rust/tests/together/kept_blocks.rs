@@ -1,9 +1,7 @@
 //! The block that was read last is kept, so that its other entries cost no read.
 
-mod common;
-
-use common::engines::write;
-use common::hooked::{Call, Hooked};
+use crate::common::engines::{engine, write};
+use crate::common::hooked::{Call, Hooked};
 use raft_recover::{Engine, ErrorKind, Files, MemoryFiles, Options, Queue};
 use std::sync::Arc;
 use std::sync::atomic::{AtomicUsize, Ordering::SeqCst};
@@ -139,7 +137,7 @@ fn an_entry_that_moved_is_read_at_its_place() {
 
 #[test]
 fn a_damaged_block_isnt_kept() {
-    let engine = common::engines::engine();
+    let engine = engine();
     write(&engine, |batch| {
         batch.add_entries(7, 1, &["damaged", "too"])
     });

@@ -1,8 +1,6 @@
 //! Messages of a program's own are written and read again.
 
-mod common;
-
-use common::engines::engine;
+use crate::common::engines::engine;
 use raft_recover::{ErrorKind, LogBatch, Message};
 use std::error::Error as _;
 use std::num::ParseIntError;

@@ -1,9 +1,7 @@
 //! Changes that find no room and leave the files as they were: what was left undone is done before the next change, and meanwhile all
 //! is read.
 
-mod common;
-
-use common::model::{Change, Draw, Region, region_of};
+use crate::common::model::{Change, Draw, Region, region_of};
 use raft_recover::{
     Engine, Error, ErrorKind, FileId, Files, LogBatch, MemoryFiles, Options, Queue, Result,
     Unsynced,

@@ -1,9 +1,7 @@
 //! What is told of a torn tail that is cut when an engine is opened, and where it is kept.
 
-mod common;
-
-use common::TempFolder;
-use common::engines::{engine, write};
+use crate::common::TempFolder;
+use crate::common::engines::{engine, write};
 use raft_recover::{
     CutTail, Engine, ErrorKind, FileId, Files, FolderFiles, MemoryFiles, Options, Queue,
 };

@@ -1,8 +1,6 @@
 //! Each public call is made by a test that runs in either heap.
 
-mod common;
-
-use common::top;
+use crate::common::top;
 use std::collections::BTreeSet;
 use std::fs;
 use std::path::Path;

@@ -1,8 +1,6 @@
 //! Each call of the library names the clauses of its contract that it has to keep.
 
-mod common;
-
-use common::top;
+use crate::common::top;
 use std::collections::BTreeMap;
 use std::fs;
 use std::path::Path;

@@ -1,8 +1,6 @@
 //! Entries and pairs that are lent, not copied.
 
-mod common;
-
-use common::engines::{engine, write};
+use crate::common::engines::{engine, write};
 use raft_recover::{Engine, ErrorKind, MemoryFiles};
 
 /// Entries 2 to 7 of region 7: two blocks in the rewrite queue, and two behind them, of which the last one has no bytes.

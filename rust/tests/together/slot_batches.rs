@@ -1,9 +1,7 @@
 //! Batches that are written to slots, and that slots hand out.
 
-mod common;
-
-use common::slots::{APPEND_9, many_tables, other, slot};
-use common::{file, run};
+use crate::common::slots::{APPEND_9, many_tables, other, slot};
+use crate::common::{file, run};
 use raft_recover::{
     Batch, Content, ErrorKind, Item, LogBatch, LogFile, Queue, SLOTS, Tables, slot_of,
 };

@@ -1,10 +1,8 @@
 //! An engine over files in memory and in a folder: what is written, read and refused.
 
-mod common;
-
-use common::TempFolder;
-use common::engines::{asked_since, engine, write};
-use common::model::region_of;
+use crate::common::TempFolder;
+use crate::common::engines::{asked_since, engine, write};
+use crate::common::model::region_of;
 use raft_recover::{
     Engine, Entries, Error, ErrorKind, FileId, LogBatch, MemoryFiles, Options, Queue, Result,
     Version, batch_len,

@@ -1,10 +1,8 @@
 //! Files of which something synced was changed or taken away: an opening refuses them and names the place, or tells what it cuts. Two
 //! losses can't be seen, and are: a queue's last file that is gone, and damage in its last batch, which looks like a torn one.
 
-mod common;
-
-use common::engines::write;
-use common::model::{Region, region_of};
+use crate::common::engines::write;
+use crate::common::model::{Region, region_of};
 use raft_recover::{
     Engine, Error, ErrorKind, FileId, LogBatch, MemoryFiles, Options, Queue, Result,
 };

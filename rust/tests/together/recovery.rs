@@ -1,8 +1,6 @@
 //! Recovery on several threads, of the files of demo/.
 
-mod common;
-
-use common::{batch_bytes, file, files, lines, parts, with_group_marker};
+use crate::common::{batch_bytes, file, files, lines, parts, with_group_marker};
 use raft_recover::{
     Context, ErrorKind, FilePart, Kept, LogBatch, LogFile, Queue, Result, Tables, Version,
     batch_len, recover, recover_both,

@@ -1,8 +1,6 @@
 //! Parts of files: their batches one by one, and where one can't be read.
 
-mod common;
-
-use common::{batch_bytes, file, files, parts};
+use crate::common::{batch_bytes, file, files, parts};
 use raft_recover::{
     Batches, Content, Context, ErrorKind, FileId, FilePart, LogFile, Queue, Version,
     readable_front, recover,

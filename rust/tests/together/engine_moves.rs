@@ -1,10 +1,8 @@
 //! Records of an engine that move, and files that go.
 
-mod common;
-
-use common::engines::{asked_since, engine, write};
-use common::model::region_of;
-use common::{batch_bytes, file};
+use crate::common::engines::{asked_since, engine, write};
+use crate::common::model::region_of;
+use crate::common::{batch_bytes, file};
 use raft_recover::{Ask, Engine, MemoryFiles, Options, Queue};
 
 #[test]

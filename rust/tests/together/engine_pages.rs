@@ -1,9 +1,7 @@
 //! A disk that writes unsynced pages in any order: a page of zeros may stand in front of others behind what was synced. An entry
 //! that was synced is read then, or the files are refused, with the place, whichever way it was moving when the machine stopped.
 
-mod common;
-
-use common::engines::{engine, write};
+use crate::common::engines::{engine, write};
 use raft_recover::{Ask, Engine, MemoryFiles, Options, Queue, Unsynced};
 
 /// The entry of a region: so many bytes, none of which is 0.

@@ -1,8 +1,6 @@
 //! The tables that an engine keeps.
 
-mod common;
-
-use common::{entry, file, files, lines, parts, run};
+use crate::common::{entry, file, files, lines, parts, run};
 use raft_recover::{
     Batches, Block, Content, Entry, ErrorKind, FileId, LogBatch, LogFile, Pair, Queue, Result,
     Summary, Tables, crc32, recover,

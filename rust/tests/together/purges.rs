@@ -1,9 +1,7 @@
 //! What a purge says: which files went, who needs the oldest one, and whether there is something to do.
 
-mod common;
-
-use common::engines::{engine, write};
-use common::model::{Change, Draw, Region, region_of};
+use crate::common::engines::{engine, write};
+use crate::common::model::{Change, Draw, Region, region_of};
 use raft_recover::{
     Engine, ErrorKind, FileId, Files, Holder, LogBatch, MemoryFiles, Options, Queue, QueueUsage,
 };

@@ -1,9 +1,7 @@
 //! What an opening takes for a torn tail, and what for damage, which it refuses: where the reading of a queue's last file stops,
 //! what is left is cut if it may be part of one batch, or nothing that can be read stands in it.
 
-mod common;
-
-use common::{batch_bytes, file};
+use crate::common::{batch_bytes, file};
 use raft_recover::{
     Engine, Error, ErrorKind, FileId, LogFile, MemoryFiles, Options, Queue, RecoveryMode, Version,
     crc32,

@@ -1,8 +1,6 @@
 //! Batches that are written, read again, and applied.
 
-mod common;
-
-use common::{file, run};
+use crate::common::{file, run};
 use raft_recover::{
     Batches, Block, Content, Entry, ErrorKind, FileId, FilePart, Item, LogBatch, LogFile, Pair,
     Queue, Stage, Tables, batch_len, crc32,

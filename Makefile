@@ -2,7 +2,7 @@
 SHELL := /bin/bash
 RT ?= rt
 export RT
-.PHONY: believe believe-check bench calls compare crashes cuttings demo demo-recover edits example hostile raftlog refused-memory rust rust-crashes rust-tests rust-unproved stack test tools wrong-bodies
+.PHONY: believe believe-check bench bench-calls bench-engine calls compare crashes cuttings demo demo-recover edits example hostile hostile-folders raftlog refused-memory rust rust-crashes rust-tests rust-unproved stack test tools wrong-bodies
 
 # Builds `raftlog` with checks at run time and keeps it, and says where it lies. Nothing is proved.
 tools:
@@ -41,10 +41,12 @@ rust:
 	@$(MAKE) --silent rust-tests
 
 # Looks at which functions the archive of `raft_ffi` calls, and runs the tests of rust/ over it, with the heap of the toolchain and with
-# the program's own. Where cargo has them, `fmt` and `clippy` look at the sources first.
+# the program's own. Where cargo has them, `fmt` and `clippy` look at the sources first. The programs of tests have no names for
+# debuggers, which take half of the time to compile and link them.
 rust-tests: export RAFT_FFI_ARCHIVE = $(CURDIR)/crates/raft_ffi/out/libraft_ffi.a
 rust-tests: export RATTLE_HEAP_ARCHIVE = $(dir $(shell $(RT) doc))c/liblibc_c.a
 rust-tests: export CARGO_TARGET_DIR ?= $(CURDIR)/crates/raft_ffi/out/target
+rust-tests: export CARGO_PROFILE_DEV_DEBUG ?= 0
 rust-tests: CLIPPY = cargo clippy --quiet --offline --all-targets --manifest-path rust/Cargo.toml
 rust-tests:
 	@tools/ffi.py $(RAFT_FFI_ARCHIVE)
@@ -111,6 +113,15 @@ bench:
 	@crates/raft_bench/out/raft_bench crc32 varint batches memtable blocks shared
 	@test -z "$(LOG)" || { crates/raft_bench/out/raft_bench recover $(LOG) && crates/raft_bench/out/raft_bench merge recover $(LOG); }
 
+# Counts the instructions of the phases of an engine over files in memory, for numbers of regions and of batches of each, as
+# `make bench-engine SHAPES='1 2500 100 10'`, and those of the engine of rust/, where there is cargo; and those of a table's calls, for
+# numbers of blocks. Nothing is proved. `valgrind` counts; with `SHAPES=--times` the programs run by themselves, and say nanoseconds.
+SHAPES ?=
+bench-engine:
+	@tools/count_phases.py engine $(SHAPES)
+bench-calls:
+	@tools/count_phases.py calls $(SHAPES)
+
 # Runs `raftlog recover` over a folder of cases, as `make compare CASES=folder WORKERS=1,2,4,8`, and counts those of which it
 # prints something else than they say. `make raftlog` builds it first. With `PLAIN=--plain` the plain program runs them. With
 # `PROGRAM=crates/raft_cuttings/out/raft_cuttings` each case, of up to 16 batches, is read at every cutting; `make cuttings` builds that.
@@ -150,3 +161,8 @@ N ?= 10000
 SEED ?= 1
 hostile:
 	@tools/hostile.py --inputs $(N) --seed $(SEED)
+
+# Runs the commands of `raftlog` that look into folders over N inputs, as `make hostile-folders N=10000 SEED=7`, and counts what they must
+# never do. `make raftlog` builds it first; with `PROGRAM=crates/raftlog/out/raftlog_unproved` the one of `make tools` runs.
+hostile-folders:
+	@tools/hostile_folders.py $(PROGRAM) --inputs $(N) --seed $(SEED)

@@ -1,13 +1,13 @@
 #!/usr/bin/env bash
-# The full check: `rt ci`, then what it can't look at: words that aren't UTF-8, `recover --plain`, a scan of a sound file, the frames of
-# `raftlog` on the stack, runs with little stack, crashes of more histories, writes of `raft_example` that fail half way, where there is a C
-# compiler the rows of `raft_refusals` with memory and starts of threads refused, and where there is cargo the tests of rust/; first of all
-# whether docs/BELIEVE.md and docs/CALLS.md are what the definitions and the sources say, the declarations of the Rust crate what the
+# The full check: `rt ci`, then what it can't look at: words that aren't UTF-8, `recover --plain`, the frames of `raftlog` on the
+# stack, runs with little stack, crashes of more histories, writes of `raft_example` that fail half way, what `raftlog` says of damaged
+# folders and what an engine does with them, where there is a C compiler the rows of `raft_refusals` with memory and starts of threads
+# refused, and where there is cargo the tests of rust/, and whether programs in Rust and in Rattle open the folders of each other; first of
+# all whether docs/BELIEVE.md and docs/CALLS.md are what the definitions and the sources say, the declarations of the Rust crate what the
 # exports are, and whether each wrong body can be applied. The last line is that of `rt ci`, 'N passed, M failed'.
 set -euo pipefail
 cd "$(dirname "$0")/.."
 program=crates/raftlog/out/raftlog
-scan=crates/raft_scan/out/raft_scan
 crashes=$PWD/crates/raft_crashes/out/raft_crashes
 group_crashes=$PWD/crates/raft_group_crashes/out/raft_group_crashes
 frame_limit=16384
@@ -34,7 +34,7 @@ step "proofs, must-fail edits, tests and programs"
 rm -rf crates/*/out/rlib
 "${RT:-rt}" ci | tee "$room/proved"
 
-step "words that aren't UTF-8, the plain program, and a scan"
+step "words that aren't UTF-8, and the plain program"
 status=0
 "$program" recover append 1 1 $'1=\xff' > "$room/out" 2> "$room/err" || status=$?
 if [ "$status" != 2 ] || [ -s "$room/out" ] || ! grep -q '^usage: raftlog ' "$room/err"; then
@@ -48,15 +48,9 @@ if ! [ -s "$room/out" ] || ! cmp -s "$room/out" "$room/wanted"; then
   echo "recover --plain: other lines than those of recover"
   exit 1
 fi
-status=0
-"$scan" append 2 4=crates/raft_scan/data/sound > "$room/out" 2> "$room/err" || status=$?
-grep '^append file 4 ' crates/raft_scan/stdout > "$room/wanted"
-if [ "$status" != 0 ] || [ -s "$room/err" ] || ! cmp -s "$room/out" "$room/wanted"; then
-  echo "a scan of a sound file: status $status, and not its lines alone"
-  exit 1
-fi
 step "frames and little stack"
-tools/frames.py "$program" --show 3 --limit "$frame_limit"
+# (reading a folder takes a buffer for its names, and the parser of the words of these commands is a large value)
+tools/frames.py "$program" --show 3 --limit "$frame_limit" --without raftlog::tools --without raftlog::command_line --without raftlog::cut --without raft_inspect::cut --without raft_folder:: --without clap::
 tools/stack.py "$program"
 step "crashes"
 "$crashes" 1 500 2>&1 | tee "$room/crashes"
@@ -65,8 +59,10 @@ if [ "$(grep -c '^[1-9].* recoveries$' "$room/crashes")" != 2 ]; then
   echo "crashes: none was tried"
   exit 1
 fi
-step "failed writes"
+step "failed writes, and a damaged folder"
 tools/short_writes.py
+tools/folder_damage.py --opener crates/raft_example/out/raft_example
+tools/hostile_folders.py --inputs 200
 step "refused memory"
 if command -v cc > "$room/compiler"; then
   tools/refused_memory.py --rows-alone --every 5
@@ -75,6 +71,7 @@ step "the archive of raft_ffi, and the tests of rust/"
 if cargo --version > "$room/cargo" 2>&1; then
   tools/archive.py > "$room/archive" 2>&1 || { cat "$room/archive"; exit 1; }
   CARGO_TARGET_DIR="$room/target" make --silent rust-tests
+  tools/both_folders.py "$program" crates/raft_example/out/raft_example "$room/target/debug/examples"
 fi
 step ""
 tail -n 1 "$room/proved"

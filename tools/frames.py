@@ -1,9 +1,9 @@
 #!/usr/bin/env python3
 """Lists the largest stack frames of a program, as bytes and function.
 
-    tools/frames.py [PROGRAM] [--show N] [--limit BYTES]
+    tools/frames.py [PROGRAM] [--show N] [--limit BYTES] [--without PREFIX]..
 
-With --limit it ends with 1 where a frame is larger. PROGRAM is crates/raftlog/out/raftlog where it isn't given. A frame is
+With --limit it ends with 1 where a frame is larger. Functions whose names begin with a PREFIX are left out. PROGRAM is crates/raftlog/out/raftlog where it isn't given. A frame is
 what a function takes off the stack pointer. One above 4 KB is entered through a loop that touches each page: the bytes of
 the loop are taken off another register first. The registers that a function saves are left out: they are 56 bytes at most.
 """
@@ -40,12 +40,14 @@ def main():
     words.add_argument("program", type=Path, nargs="?", default=RAFTLOG)
     words.add_argument("--show", type=int, default=12)
     words.add_argument("--limit", type=int)
+    words.add_argument("--without", action="append", default=[], metavar="PREFIX")
     asked = words.parse_args()
     if not asked.program.exists():
         sys.exit(f"{asked.program} isn't there: make raftlog")
     if not shutil.which("objdump"):
         sys.exit("objdump (of binutils) isn't there, which lists the functions")
     found = sorted(frames(asked.program).items(), key=lambda frame: -frame[1])
+    found = [(function, size) for function, size in found if not function.startswith(tuple(asked.without))]
     if not found:
         sys.exit(f"{asked.program}: no function has a frame, so they can't be read")
     for function, size in found[:asked.show]:

@@ -17,6 +17,8 @@ mod engine;
 #[cfg(test)]
 mod files;
 #[cfg(test)]
+mod folders;
+#[cfg(test)]
 mod items;
 #[cfg(test)]
 mod log_batches;

@@ -1,11 +1,28 @@
-//! Prints an item batch, or the tables that log files give.
+//! Looks into the log files of an engine: prints an item batch, the tables that files give, or what stands in a folder.
 #![tactic(auto)]
 
+mod check;
+mod command_line;
+mod cut;
+mod dump;
+mod errors;
+mod files;
+mod host;
+mod lost;
+mod options;
+mod output;
 mod plain;
+mod progress;
+mod regions;
+mod source;
+mod streams;
+mod tools;
 
 use raft_recover::{command_words, run_in_pieces, run_without_words};
+use std::io::ErrorKind;
 use std::process::ExitCode;
 
+/// Does what the words of the command line ask for, and ends with the status of that.
 fn main(rt: HostRuntime) -> ExitCode {
     let mut err = rt.stderr();
     let status = match command_words(&rt) {
@@ -13,13 +30,17 @@ fn main(rt: HostRuntime) -> ExitCode {
             let _ = words.remove(1);
             plain::run(&rt, words.as_slice(), &mut rt.stdout(), &mut err)
         }
-        Ok(words) => run_in_pieces(
-            &rt,
-            words.as_slice(),
-            &mut rt.stdin(),
-            &mut rt.stdout(),
-            &mut err,
-        ),
+        Ok(words) if tools::are_asked(words.as_slice()) => {
+            tools::run(&rt, words.as_slice(), &mut rt.stdout(), &mut err)
+        }
+        Ok(words) if tools::name_no_command(words.as_slice()) => {
+            tools::refuse_words(words.as_slice(), &mut err)
+        }
+        Ok(words) => {
+            let (mut input, mut out) = (rt.stdin(), rt.stdout());
+            run_in_pieces(&rt, words.as_slice(), &mut input, &mut out, &mut err)
+        }
+        Err(error) if error.kind() == ErrorKind::InvalidData => tools::refuse_encoding(&mut err),
         Err(error) => run_without_words(&error, &mut err),
     };
     ExitCode::from(status)

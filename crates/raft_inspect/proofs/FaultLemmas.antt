@@ -1,0 +1,34 @@
+-- Why something isn't printed to its end.
+use Rattle.std.proofs.Common.{inl, inr, ℕ, List, Contains}
+use Rattle.raft_base.specs.declared.errors.Error.{Error}
+use Rattle.raft_base.specs.declared.pipe_log.FileId.{FileId}
+use Rattle.raft_base.specs.declared.pipe_log.LogQueue.{LogQueue}
+use Rattle.raft_base.specs.declared.pipe_log.LogQueue.TheVariants.{Append, Rewrite}
+use Rattle.raft_reading.specs.IoErrors.{IoError}
+use Rattle.raft_reading.specs.declared.queue_files.FileSize.{FileSize}
+use Rattle.raft_survey.specs.FileWalks.{IsFileUnread, IsOneOfBothUnread, IsOneUnread}
+use Rattle.raft_report.specs.declared.print_error.PrintError.{PrintError}
+use Rattle.raft_report.specs.declared.print_error.PrintError.TheVariants.{Files, Output}
+use Rattle.raft_inspect.specs.Faults.{IsUnprinted, IsUnprintedFor}
+
+-- for another reason
+for_another : (P Q : Error → Type 0) → ((e : Error) → P e → Q e) → (f : PrintError) → IsUnprintedFor P f → IsUnprintedFor Q f
+for_another P Q other (Files e) is = λ no_memory. other e (is no_memory)
+for_another P Q other (Output e) is = tt
+
+-- for none
+pub for_none : (P : Error → Type 0) (f : PrintError) → IsUnprinted f → IsUnprintedFor P f
+for_none P (Files e) is = λ no_memory. absurd (no_memory is)
+for_none P (Output e) is = tt
+
+module _ (Gives : FileId → ℕ → List ℕ → Type 0) (Fails : FileId → ℕ → IoError → Type 0) where
+  -- a file is one of its queue's
+  pub of_queue : (queue : LogQueue) (sizes : List FileSize) (size : FileSize) (f : PrintError) → Contains sizes size → IsUnprintedFor (IsFileUnread Gives Fails queue size) f → IsUnprintedFor (IsOneUnread Gives Fails queue sizes) f
+  of_queue queue sizes size f among is = for_another (IsFileUnread Gives Fails queue size) (IsOneUnread Gives Fails queue sizes) (λ e unread. record { size = size; among = among; unread = unread }) f is
+
+  -- and of both
+  pub of_append : (append rewrite : List FileSize) (f : PrintError) → IsUnprintedFor (IsOneUnread Gives Fails Append append) f → IsUnprintedFor (IsOneOfBothUnread Gives Fails append rewrite) f
+  of_append append rewrite f is = for_another (IsOneUnread Gives Fails Append append) (IsOneOfBothUnread Gives Fails append rewrite) (λ e one. inl one) f is
+
+  pub of_rewrite : (append rewrite : List FileSize) (f : PrintError) → IsUnprintedFor (IsOneUnread Gives Fails Rewrite rewrite) f → IsUnprintedFor (IsOneOfBothUnread Gives Fails append rewrite) f
+  of_rewrite append rewrite f is = for_another (IsOneUnread Gives Fails Rewrite rewrite) (IsOneOfBothUnread Gives Fails append rewrite) (λ e one. inr one) f is

@@ -1,0 +1,9 @@
+pub mod UncutLemmas
+pub mod TableLemmas
+pub mod RefusalLemmas
+pub mod TextLemmas
+pub mod PrintedLemmas
+pub mod FoundLemmas
+pub mod CutLemmas
+pub mod FaultLemmas
+pub mod JsonLemmas

@@ -1,0 +1,22 @@
+use Rattle.std.proofs.Common.{inl, inr, map, refl}
+use Rattle.raft_replay.proofs.Passed.{on_passed}
+use Rattle.raft_files.specs.HeldFiles.{file_shown}
+use Rattle.raft_inspect.proofs.CutLemmas.{none_cut}
+use Rattle.raft_inspect.proofs.cut.cut_as_opened.Goals as goal
+
+pub returns-clause-ok : goal.returns-clause-ok
+returns-clause-ok g c = record { opens = c.in_ok-opening.ensures.ok; asked = c.in_ok-cut_tails.ensures.ok }
+
+pub returns-in_err-opening-clause-fault : goal.returns-in_err-opening-clause-fault
+returns-in_err-opening-clause-fault g c =
+    on_passed _ _ c.from_residual.ensures.1 (inl (c.in_err-opening.ensures.memory, refl))
+
+pub returns-in_err-print_opening-clause-fault : goal.returns-in_err-print_opening-clause-fault
+returns-in_err-print_opening-clause-fault g c =
+    let asked = g.F.EngineFiles.asked c.args.files.now in
+    on_passed _ _ c.from_residual-in_err-print_opening.ensures.1
+    (none_cut (g.F.EngineFiles.may_fail) c.args.version c.args.workers (map file_shown c.args.append.items) (map file_shown c.args.rewrite.items) asked asked c.in_err-print_opening.field-0.0 c.in_err-print_opening.ensures.fault refl)
+
+pub returns-in_err-cut_tails-clause-fault : goal.returns-in_err-cut_tails-clause-fault
+returns-in_err-cut_tails-clause-fault g c =
+    on_passed _ _ c.from_residual-in_err-cut_tails.ensures.1 (inr (record { opening = c.in_ok-opening.opening; opens = c.in_ok-opening.ensures.ok; failed = c.in_err-cut_tails.ensures.err }))

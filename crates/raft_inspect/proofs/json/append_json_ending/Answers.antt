@@ -1,0 +1,17 @@
+use Rattle.std.proofs.Common.{string_bytes}
+use Rattle.std.proofs.lemmas.Result.{on_ok_weaker}
+use Rattle.raft_base.specs.declared.pipe_log.LogQueue.TheVariants.{Append, Rewrite}
+use Rattle.raft_report.specs.JsonData.{json_line}
+use Rattle.raft_inspect.specs.Printed.{verdict_word}
+use Rattle.raft_inspect.specs.PrintedJson.{empty_json, opening_json, verdict_data}
+use Rattle.raft_inspect.proofs.TextLemmas.{four_added}
+use Rattle.raft_inspect.proofs.json.append_json_ending.Goals as goal
+
+pub returns : goal.returns
+returns c =
+    let found = c.args.found.now in
+    on_ok_weaker c.append_json_verdict.result
+    (λ ended. four_added (string_bytes c.args.text.now) (empty_json Append found.append.items) (empty_json Rewrite found.rewrite.items) (opening_json found.opening) (json_line (verdict_data (verdict_word c.args.found.now)))
+    (string_bytes c.append_json_if_empty.new.text) (string_bytes c.append_json_if_empty-2.new.text) (string_bytes c.append_json_opening.new.text) (string_bytes c.append_json_verdict.new.text) c.in_ok-append_json_if_empty.ensures c.in_ok-append_json_if_empty-2.ensures
+    c.in_ok-append_json_opening.ensures ended)
+    c.append_json_verdict.ensures

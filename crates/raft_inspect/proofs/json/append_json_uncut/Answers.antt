@@ -1,0 +1,6 @@
+use Rattle.std.proofs.Common.{rules}
+use Rattle.raft_inspect.proofs.JsonLemmas.{uncut_is}
+use Rattle.raft_inspect.proofs.json.append_json_uncut.Goals as goal
+
+pub returns : goal.returns
+returns c = rw (uncut_is c.args.queue) (search rules)

@@ -1,0 +1,16 @@
+use Rattle.std.proofs.Common.{◌≡◌, ◌++◌, ◌∙◌, ◌&&◌, ℕ, List, ap, codes, rules, string_bytes, sym}
+use Rattle.std.proofs.lemmas.Result.{on_ok_weaker}
+use Rattle.raft_inspect.specs.Printed.{has_none}
+use Rattle.raft_inspect.proofs.JsonLemmas.{verdict_is}
+use Rattle.raft_inspect.proofs.json.append_json_verdict.Goals as goal
+
+pub returns : goal.returns
+returns c =
+    let old = string_bytes c.args.text.now in
+    let found = c.args.found.now in
+    on_ok_weaker c.writeln.result
+    (λ (ended : string_bytes c.writeln.new.self ≡ old ++ (codes "{\"verdict\":\"" ++ (c.verdict-word.result.now ++ codes "\"}\n"))).
+    ended
+    ∙ ap (λ (word : List ℕ). old ++ (codes "{\"verdict\":\"" ++ (word ++ codes "\"}\n"))) c.verdict-word.ensures
+    ∙ ap (λ (t : List ℕ). old ++ t) (sym (verdict_is (has_none found.append.items && has_none found.rewrite.items) found.is_sound)))
+    (search rules)

@@ -1,0 +1,82 @@
+//! The cut of torn tails, as an opening would do it.
+
+ghost use Rattle.std.specs.Prelude.{◌≡◌, ◌++◌, map, IfErr, IfOk, OnOk};
+ghost use Rattle.std.specs.Io.KnownBytes.{Appends};
+ghost use Rattle.raft_files.specs.HeldFiles.{file_shown};
+ghost use Rattle.raft_engine.specs.OpeningAsks.{FailsAmong};
+ghost use Rattle.raft_inspect.specs.Cuts.{IsCutAsOpened, IsCutFault, cut_asked, opening_cuts};
+ghost use Rattle.raft_inspect.specs.PrintedForms.{opening_lines};
+
+use crate::opening::{Opening, opening_of};
+use crate::report::print_opening;
+use raft_base::{FileSeq, LogQueue, Result, Version};
+use raft_engine::CutTail;
+use raft_files::EngineFiles;
+use raft_report::{Form, PrintResult};
+use std::alloc::Global;
+use std::io::Write;
+use std::thread::Threads;
+
+/// Finds out what an opening of found files would do, prints that, and then cuts off what it would. Of files that are refused nothing
+/// is asked.
+///
+/// # Errors
+///
+/// `Output` where the output takes no more, and `Files` with `Memory`: nothing is asked of the files then. `Files` with the error of
+/// [`EngineFiles::truncate`], and some of it may be cut.
+pub fn cut_as_opened<R: Threads + Sync, F: EngineFiles, W: Write>(
+    rt: &R,
+    alloc: Global,
+    form: Form,
+    version: Version,
+    append: Vec<(FileSeq, Vec<u8>)>,
+    rewrite: Vec<(FileSeq, Vec<u8>)>,
+    workers: usize,
+    files: &mut F,
+    out: &mut W,
+) -> PrintResult<Opening>
+    ensures ok { IfOk result (IsCutAsOpened version workers (map file_shown append.items) (map file_shown rewrite.items)
+        (F.asked files.old) (F.asked files.new)) }
+    ensures printed { IfOk result (λ opening. Appends (W.contents out.old) (W.contents out.new)
+        (opening_lines form opening)) }
+    ensures fault { IfErr result (IsCutFault F.may_fail version workers (map file_shown append.items)
+        (map file_shown rewrite.items) (F.asked files.old) (F.asked files.new)) }
+{
+    let opening = opening_of(rt, alloc, version, append, rewrite, workers)?;
+    print_opening(form, alloc, &opening, out)?;
+    cut_tails(&opening, files)?;
+    Ok(opening)
+}
+
+/// Cuts off the tails that an opening would cut off, that of the append queue first.
+///
+/// # Errors
+///
+/// Those of [`EngineFiles::truncate`]. Some of it may be cut.
+fn cut_tails<F: EngineFiles>(opening: &Opening, files: &mut F) -> Result<()>
+    ensures ok { OnOk result (F.asked files.new ≡ opening_cuts opening.now ++ F.asked files.old) }
+    ensures err { IfErr result (FailsAmong F.may_fail (opening_cuts opening.now) (F.asked files.old) (F.asked files.new)) }
+{
+    match opening {
+        Opening::Refuses(_) => Ok(()),
+        Opening::Opens(recovered) => {
+            cut_tail(LogQueue::Append, &recovered.append, files)?;
+            cut_tail(LogQueue::Rewrite, &recovered.rewrite, files)
+        }
+    }
+}
+
+/// Cuts off the tail of a queue's last file, if there is one.
+///
+/// # Errors
+///
+/// Those of [`EngineFiles::truncate`].
+fn cut_tail<F: EngineFiles>(queue: LogQueue, tail: &Option<CutTail>, files: &mut F) -> Result<()>
+    ensures ok { OnOk result (F.asked files.new ≡ cut_asked queue tail.now ++ F.asked files.old) }
+    ensures err { IfErr result (FailsAmong F.may_fail (cut_asked queue tail.now) (F.asked files.old) (F.asked files.new)) }
+{
+    match tail {
+        None => Ok(()),
+        Some(tail) => files.truncate(queue, tail.offset),
+    }
+}

@@ -1,0 +1,149 @@
+//! The lines of what an opening would do, and of a queue without files.
+
+ghost use Rattle.std.specs.Prelude.{◌≡◌, ◌++◌, codes, string_bytes, None, Some, IfErr, OnOk};
+ghost use Rattle.std.specs.Io.KnownBytes.{Appends};
+ghost use Rattle.raft_listing.specs.Reasons.{reason_text};
+ghost use Rattle.raft_inspect.specs.Faults.{IsUnprinted};
+ghost use Rattle.raft_inspect.specs.Printed.{cut_line, empty_line, opening_text, refused_line, tail_words};
+ghost use Rattle.raft_inspect.specs.PrintedForms.{opening_lines};
+
+use crate::json::append_json_opening;
+use crate::opening::Opening;
+use raft_base::{AllocResult, Error, LogQueue};
+use raft_engine::CutTail;
+use raft_listing::{FileScan, append_reason};
+use raft_replay::segment::queue_name;
+use raft_report::{Form, PrintResult, write_text};
+use raft_survey::append_no_files;
+use std::alloc::Global;
+use std::io::Write;
+
+/// Prints what an opening would do.
+///
+/// # Errors
+///
+/// `Output` where the output takes no more, `Files` with `Memory`. Some of it may then be printed.
+pub fn print_opening<W: Write>(
+    form: Form,
+    alloc: Global,
+    opening: &Opening,
+    out: &mut W,
+) -> PrintResult<()>
+    ensures ok { OnOk result (Appends (W.contents out.old) (W.contents out.new) (opening_lines form opening.now)) }
+    ensures fault { IfErr result IsUnprinted }
+{
+    let mut text = String::new(alloc);
+    append_opening_as(form, alloc, opening, &mut text)?;
+    write_text(out, text.as_str())
+}
+
+/// Appends what an opening would do, in a form.
+///
+/// # Errors
+///
+/// Want of memory. Some of it may then be appended.
+fn append_opening_as(
+    form: Form,
+    alloc: Global,
+    opening: &Opening,
+    text: &mut String,
+) -> AllocResult<()>
+    ensures { OnOk result (string_bytes text.new ≡ string_bytes text.old ++ opening_lines form opening.now) }
+{
+    match form {
+        Form::Text => append_opening(opening, text),
+        Form::Json => append_json_opening(alloc, opening, text),
+    }
+}
+
+/// Appends what an opening would do: a line where it refuses the files, or one for each queue.
+///
+/// # Errors
+///
+/// Want of memory. A line may then be appended.
+pub(crate) fn append_opening(opening: &Opening, text: &mut String) -> AllocResult<()>
+    ensures { OnOk result (string_bytes text.new ≡ string_bytes text.old ++ opening_text opening.now) }
+{
+    match opening {
+        Opening::Refuses(error) => append_refused(error, text),
+        Opening::Opens(recovered) => {
+            append_cut(LogQueue::Append, &recovered.append, text)?;
+            append_cut(LogQueue::Rewrite, &recovered.rewrite, text)
+        }
+    }
+}
+
+/// Appends that an opening refuses the files, and why.
+fn append_refused(error: &Error, text: &mut String) -> AllocResult<()>
+    ensures { OnOk result (string_bytes text.new ≡ string_bytes text.old ++ refused_line (reason_text error.now)) }
+{
+    text.push_str("opening: refused: ")?;
+    append_reason_line(error, text)
+}
+
+/// Appends what an opening would cut off from a queue's last file.
+fn append_cut(queue: LogQueue, cut: &Option<CutTail>, text: &mut String) -> AllocResult<()>
+    ensures { OnOk result (string_bytes text.new ≡ string_bytes text.old ++ cut_line queue cut.now) }
+{
+    match cut {
+        None => append_uncut(queue, text),
+        Some(tail) => append_tail(queue, tail, text),
+    }
+}
+
+/// Appends that nothing is cut off from a queue.
+fn append_uncut(queue: LogQueue, text: &mut String) -> AllocResult<()>
+    ensures { OnOk result (string_bytes text.new ≡ string_bytes text.old ++ cut_line queue None) }
+{
+    let name = queue_name(queue);
+    writeln!(
+        text,
+        "opening: would open, and cut nothing of the {name} queue"
+    )
+}
+
+/// Appends that this tail is cut off from a queue, and why.
+fn append_tail(queue: LogQueue, tail: &CutTail, text: &mut String) -> AllocResult<()>
+    ensures { OnOk result (string_bytes text.new ≡ string_bytes text.old ++ cut_line queue (Some tail.now)) }
+{
+    append_tail_words(queue, tail, text)?;
+    append_reason_line(&tail.error, text)
+}
+
+/// Appends that this tail is cut off from a queue.
+fn append_tail_words(queue: LogQueue, tail: &CutTail, text: &mut String) -> AllocResult<()>
+    ensures { OnOk result (string_bytes text.new ≡ string_bytes text.old ++ tail_words queue tail.now) }
+{
+    let name = queue_name(queue);
+    write!(
+        text,
+        "opening: would open, and cut {} bytes of {name} file {} from offset {} on: ",
+        tail.len, tail.file, tail.offset
+    )
+}
+
+/// Appends a reason, and the end of its line.
+fn append_reason_line(reason: &Error, text: &mut String) -> AllocResult<()>
+    ensures { OnOk result (string_bytes text.new ≡ string_bytes text.old ++ (reason_text reason.now ++ codes "\n")) }
+{
+    append_reason(reason, text)?;
+    text.push_str("\n")
+}
+
+/// Appends the line of a queue without files, if it has none.
+///
+/// # Errors
+///
+/// Want of memory. Some of it may then be appended.
+pub(crate) fn append_if_empty(
+    queue: LogQueue,
+    scans: &Vec<FileScan>,
+    text: &mut String,
+) -> AllocResult<()>
+    ensures { OnOk result (string_bytes text.new ≡ string_bytes text.old ++ empty_line queue scans.now.items) }
+{
+    if scans.is_empty() {
+        return append_no_files(queue, text);
+    }
+    Ok(())
+}

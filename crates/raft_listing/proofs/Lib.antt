@@ -1,0 +1,4 @@
+pub mod WalkLemmas
+pub mod TextLemmas
+pub mod LossLemmas
+pub mod ShownLemmas

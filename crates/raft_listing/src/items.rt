@@ -1,0 +1,347 @@
+//! The lines of items.
+
+ghost use Rattle.std.specs.Prelude.{◌≡◌, ◌++◌, codes, map, option_map, string_bytes, IfErr, IfOk, IfSome, OnOk};
+ghost use Rattle.raft_records.specs.Item.{item_of, pair, pair_of};
+ghost use Rattle.raft_records.specs.Lines.{command_text};
+ghost use Rattle.raft_listing.specs.ReadBlocks.{AreBytesShown, IsReadBlock};
+ghost use Rattle.raft_listing.specs.Dumped.{Adds, AreContents, AreEntryLines, AreItemTexts, IsContentText, IsEntriesText, IsEntryLine, IsEntryShown, IsItemText, IsPairText, IsSelectedLine, IsSelectedText, IsValueText, MarksGroup, entries_line, lost_text, op_words, place_words, status_words};
+
+use crate::blocks::{BytesOfEntry, ReadBlock, bytes_of_entry, needed_block};
+use crate::damage::Loss;
+use crate::selection::Selection;
+use crate::shown::append_shown;
+use raft_base::{AllocResult, EntryIndex, Error, FileBlockHandle, Result};
+use raft_records::{
+    AtomicGroupStatus, Command, FilePart, KeyValue, LogItem, LogItemContent, OpType,
+};
+use std::alloc::Global;
+
+/// Appends the lines of those items of a batch that are selected.
+///
+/// # Errors
+///
+/// `Memory`. Some lines may then be appended.
+pub(crate) fn append_items(
+    part: &FilePart,
+    items: &[LogItem],
+    selection: &Selection,
+    text: &mut String,
+) -> Result<()>
+    ensures ok { OnOk result (Adds (AreItemTexts selection.now part.now (map item_of items.now))
+        (string_bytes text.old) (string_bytes text.new)) }
+    ensures memory { IfErr result (λ e. e ≡ Error.Memory) }
+{
+    let block = needed_block(part, items, selection)?;
+    for item in items {
+        append_if_selected(part, item, selection, block, text)?;
+    }
+    Ok(())
+}
+
+/// Appends the lines of an item, if it is selected.
+fn append_if_selected(
+    part: &FilePart,
+    item: &LogItem,
+    selection: &Selection,
+    known: Option<ReadBlock<'_>>,
+    text: &mut String,
+) -> Result<()>
+    requires { IfSome known (IsReadBlock part.now) }
+    ensures ok { OnOk result (Adds (IsSelectedText selection.now part.now (item_of item.now))
+        (string_bytes text.old) (string_bytes text.new)) }
+    ensures memory { IfErr result (λ e. e ≡ Error.Memory) }
+{
+    if selection.has_item(item) {
+        return append_item(part, item, selection, known, text);
+    }
+    Ok(())
+}
+
+/// Appends the lines of an item.
+fn append_item(
+    part: &FilePart,
+    item: &LogItem,
+    selection: &Selection,
+    known: Option<ReadBlock<'_>>,
+    text: &mut String,
+) -> Result<()>
+    requires { IfSome known (IsReadBlock part.now) }
+    ensures ok { OnOk result (Adds (IsItemText selection.now part.now (item_of item.now))
+        (string_bytes text.old) (string_bytes text.new)) }
+    ensures memory { IfErr result (λ e. e ≡ Error.Memory) }
+{
+    write!(text, "  region {} ", item.raft_group_id)?;
+    append_content(part, item, selection, known, text)
+}
+
+/// Appends what an item says.
+fn append_content(
+    part: &FilePart,
+    item: &LogItem,
+    selection: &Selection,
+    known: Option<ReadBlock<'_>>,
+    text: &mut String,
+) -> Result<()>
+    requires { IfSome known (IsReadBlock part.now) }
+    ensures ok { OnOk result (Adds (IsContentText selection.now part.now (item_of item.now) (item_of item.now).content)
+        (string_bytes text.old) (string_bytes text.new)) }
+    ensures memory { IfErr result (λ e. e ≡ Error.Memory) }
+{
+    match &item.content {
+        LogItemContent::EntryIndexes(entries) => {
+            append_entries(part, entries.0.as_slice(), selection, known, text)
+        }
+        LogItemContent::Command(command) => Ok(append_command(command, text)?),
+        LogItemContent::Kv(change) => append_change(part, item, change, selection, text),
+    }
+}
+
+/// Appends what a command does.
+fn append_command(command: &Command, text: &mut String) -> AllocResult<()>
+    ensures { OnOk result (string_bytes text.new ≡ string_bytes text.old ++ (command_text command.now ++ codes "\n")) }
+{
+    match command {
+        Command::Clean => text.push_str("clean\n"),
+        Command::Compact { index } => writeln!(text, "compact {index}"),
+        Command::Truncate { index } => writeln!(text, "truncate {index}"),
+    }
+}
+
+/// Appends what is done to a key, and whether that begins, continues or ends an atomic group.
+fn append_change(
+    part: &FilePart,
+    item: &LogItem,
+    change: &KeyValue,
+    selection: &Selection,
+    text: &mut String,
+) -> Result<()>
+    requires { (item_of item.now).content ≡ pair (pair_of change.now) }
+    ensures ok { OnOk result (Adds (IsPairText selection.now (item_of item.now) (pair_of change.now))
+        (string_bytes text.old) (string_bytes text.new)) }
+    ensures memory { IfErr result (λ e. e ≡ Error.Memory) }
+{
+    let alloc = part.allocator();
+    text.push_str(op_words(change.op_type))?;
+    append_shown(alloc, change.key.as_slice(), text)?;
+    append_value(part, &change.value, selection, text)?;
+    let status = status_of(part, item)?;
+    text.push_str(status_words(status))?;
+    text.push_str("\n")?;
+    Ok(())
+}
+
+/// Returns the words for what is done to a key.
+fn op_words(op_type: OpType) -> &'static str
+    ensures { result.now ≡ op_words op_type }
+{
+    match op_type {
+        OpType::Put => "put ",
+        OpType::Del => "delete ",
+    }
+}
+
+/// Appends a value, or how many bytes it has.
+fn append_value(
+    part: &FilePart,
+    value: &Option<Vec<u8>>,
+    selection: &Selection,
+    text: &mut String,
+) -> AllocResult<()>
+    ensures { OnOk result (Adds (IsValueText selection.now (option_map (λ v. v.items) value.now))
+        (string_bytes text.old) (string_bytes text.new)) }
+{
+    let Some(value) = value else {
+        return Ok(());
+    };
+    if !selection.values {
+        return write!(text, " {} bytes", value.len());
+    }
+    text.push_str(" = ")?;
+    append_shown(part.allocator(), value.as_slice(), text)
+}
+
+/// Returns how an item marks the place of its batch in an atomic group, if it does.
+///
+/// # Errors
+///
+/// `Memory`.
+pub fn status_of(part: &FilePart, item: &LogItem) -> Result<Option<AtomicGroupStatus>>
+    ensures ok { IfOk result (MarksGroup (item_of item.now)) }
+    ensures memory { IfErr result (λ e. e ≡ Error.Memory) }
+{
+    match AtomicGroupStatus::parse(part.allocator(), item) {
+        Ok(Some((_, status))) => Ok(Some(status)),
+        Ok(None) => Ok(None),
+        Err(Error::Memory) => Err(Error::Memory),
+        Err(_) => Ok(None),
+    }
+}
+
+/// Returns the words for the place of a batch in an atomic group.
+fn status_words(status: Option<AtomicGroupStatus>) -> &'static str
+    ensures { result.now ≡ status_words status }
+{
+    match status {
+        None => "",
+        Some(AtomicGroupStatus::Begin) => ", an atomic group begins",
+        Some(AtomicGroupStatus::Middle) => ", an atomic group goes on",
+        Some(AtomicGroupStatus::End) => ", an atomic group ends",
+    }
+}
+
+/// Appends the entries of an item, and where values are asked for a line for each of them.
+fn append_entries(
+    part: &FilePart,
+    entries: &[EntryIndex],
+    selection: &Selection,
+    known: Option<ReadBlock<'_>>,
+    text: &mut String,
+) -> Result<()>
+    requires { IfSome known (IsReadBlock part.now) }
+    ensures ok { OnOk result (Adds (IsEntriesText selection.now part.now entries.now)
+        (string_bytes text.old) (string_bytes text.new)) }
+    ensures memory { IfErr result (λ e. e ≡ Error.Memory) }
+{
+    let Some(first) = entries.first() else {
+        text.push_str("entries -\n")?;
+        return Ok(());
+    };
+    append_entries_line(first, entries.len(), text)?;
+    append_contents(part, entries, selection, known, text)
+}
+
+/// Appends the rest of the line of so many entries, of which this one is the first.
+fn append_entries_line(first: &EntryIndex, count: usize, text: &mut String) -> AllocResult<()>
+    ensures { OnOk result (string_bytes text.new ≡ string_bytes text.old ++ entries_line first.now count) }
+{
+    let end = first.index.saturating_add(count as u64);
+    write!(text, "entries {}..{end}", first.index)?;
+    append_place(&first.entries, text)?;
+    text.push('\n')
+}
+
+/// Appends the lines of entries, where values are asked for.
+fn append_contents(
+    part: &FilePart,
+    entries: &[EntryIndex],
+    selection: &Selection,
+    known: Option<ReadBlock<'_>>,
+    text: &mut String,
+) -> Result<()>
+    requires { IfSome known (IsReadBlock part.now) }
+    ensures ok { OnOk result (Adds (AreContents selection.now part.now entries.now)
+        (string_bytes text.old) (string_bytes text.new)) }
+    ensures memory { IfErr result (λ e. e ≡ Error.Memory) }
+{
+    if selection.values {
+        return append_lines(part, entries, selection, known, text);
+    }
+    Ok(())
+}
+
+/// Appends where an entry block stands.
+fn append_place(place: &Option<FileBlockHandle>, text: &mut String) -> AllocResult<()>
+    ensures { OnOk result (string_bytes text.new ≡ string_bytes text.old ++ place_words place.now) }
+{
+    match place {
+        Some(place) => write!(text, " block at {} length {}", place.offset, place.len),
+        None => Ok(()),
+    }
+}
+
+/// Appends a line for each entry that is selected.
+fn append_lines(
+    part: &FilePart,
+    entries: &[EntryIndex],
+    selection: &Selection,
+    known: Option<ReadBlock<'_>>,
+    text: &mut String,
+) -> Result<()>
+    requires { IfSome known (IsReadBlock part.now) }
+    ensures ok { OnOk result (Adds (AreEntryLines selection.now part.now entries.now)
+        (string_bytes text.old) (string_bytes text.new)) }
+    ensures memory { IfErr result (λ e. e ≡ Error.Memory) }
+{
+    for index in entries {
+        append_selected_line(part, index, selection, known, text)?;
+    }
+    Ok(())
+}
+
+/// Appends the line of an entry, if it is selected.
+fn append_selected_line(
+    part: &FilePart,
+    entry: &EntryIndex,
+    selection: &Selection,
+    known: Option<ReadBlock<'_>>,
+    text: &mut String,
+) -> Result<()>
+    requires { IfSome known (IsReadBlock part.now) }
+    ensures ok { OnOk result (Adds (IsSelectedLine selection.now part.now entry.now)
+        (string_bytes text.old) (string_bytes text.new)) }
+    ensures memory { IfErr result (λ e. e ≡ Error.Memory) }
+{
+    if selection.has_entry(entry) {
+        return append_entry(part, entry, known, text);
+    }
+    Ok(())
+}
+
+/// Appends the line of an entry, with its bytes, or why they can't be read.
+fn append_entry(
+    part: &FilePart,
+    entry: &EntryIndex,
+    known: Option<ReadBlock<'_>>,
+    text: &mut String,
+) -> Result<()>
+    requires { IfSome known (IsReadBlock part.now) }
+    ensures ok { OnOk result (Adds (IsEntryLine part.now entry.now)
+        (string_bytes text.old) (string_bytes text.new)) }
+    ensures memory { IfErr result (λ e. e ≡ Error.Memory) }
+{
+    write!(text, "    {} ", entry.index)?;
+    append_entry_shown(part, entry, known, text)?;
+    text.push('\n')?;
+    Ok(())
+}
+
+/// Appends the bytes of an entry, or why they can't be read.
+fn append_entry_shown(
+    part: &FilePart,
+    entry: &EntryIndex,
+    known: Option<ReadBlock<'_>>,
+    text: &mut String,
+) -> Result<()>
+    requires { IfSome known (IsReadBlock part.now) }
+    ensures ok { OnOk result (Adds (IsEntryShown part.now entry.now)
+        (string_bytes text.old) (string_bytes text.new)) }
+    ensures memory { IfErr result (λ e. e ≡ Error.Memory) }
+{
+    let read = bytes_of_entry(part, entry, known)?;
+    append_read(part.allocator(), read, text)?;
+    Ok(())
+}
+
+/// Appends the bytes of an entry, or that they can't be read.
+fn append_read(alloc: Global, read: BytesOfEntry<'_>, text: &mut String) -> AllocResult<()>
+    ensures { OnOk result (Adds (AreBytesShown read.entry) (string_bytes text.old) (string_bytes text.new)) }
+{
+    match read {
+        BytesOfEntry::Read(bytes) => append_shown(alloc, bytes, text),
+        BytesOfEntry::Lost(loss) => append_loss(loss, text),
+    }
+}
+
+/// Appends that an entry can't be read, and why.
+fn append_loss(loss: Loss, text: &mut String) -> AllocResult<()>
+    ensures { OnOk result (Adds (λ t. t ≡ lost_text loss) (string_bytes text.old) (string_bytes text.new)) }
+{
+    append_unreadable(loss.words(), text)
+}
+
+/// Appends that an entry can't be read, for this reason.
+fn append_unreadable(why: &str, text: &mut String) -> AllocResult<()>
+    ensures { OnOk result (string_bytes text.new ≡ string_bytes text.old ++ (codes "unreadable: " ++ why.now)) }
+{
+    write!(text, "unreadable: {why}")
+}

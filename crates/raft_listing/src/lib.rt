@@ -1,0 +1,22 @@
+//! What stands in parts of log files, batch by batch: walks, scans for damage, and dumps. Nothing here changes a file.
+#![tactic(auto)]
+
+pub mod blocks;
+pub mod damage;
+pub mod dump;
+mod items;
+pub mod missing;
+pub mod scan;
+pub mod selection;
+pub mod shown;
+pub mod walk;
+
+pub use blocks::{BytesOfEntry, ReadBlock, bytes_of_entry, needed_block};
+pub use damage::{Damage, DamageKind, Loss, append_reason};
+pub use dump::Dump;
+pub use items::status_of;
+pub use missing::missing_between;
+pub use scan::FileScan;
+pub use selection::Selection;
+pub use shown::append_shown;
+pub use walk::{PartVisitor, walk_part};

@@ -1,0 +1,27 @@
+//! Numbers of files that are missing.
+
+ghost use Rattle.std.specs.Prelude.{◌≡◌};
+ghost use Rattle.raft_listing.specs.Missing.{missing_behind, missing_between};
+
+use raft_base::FileSeq;
+
+/// Returns the first and the last number that are missing between two files, if some are: none are where there is no file before.
+pub fn missing_between(last: Option<FileSeq>, next: FileSeq) -> Option<(FileSeq, FileSeq)>
+    ensures { result ≡ missing_between last next }
+{
+    match last {
+        Some(last) => missing_behind(last, next),
+        None => None,
+    }
+}
+
+/// Returns the first and the last number between two, if there are some.
+fn missing_behind(last: FileSeq, next: FileSeq) -> Option<(FileSeq, FileSeq)>
+    ensures { result ≡ missing_behind last next }
+{
+    if next.saturating_sub(last) > 1 {
+        Some((last + 1, next - 1))
+    } else {
+        None
+    }
+}

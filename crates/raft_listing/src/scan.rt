@@ -1,0 +1,239 @@
+//! Scans of log files for damage.
+
+ghost use Rattle.std.specs.Prelude.{◌≡◌, ◌++◌, [], List, map, IfErr, IfOk, IfSome, OnOk};
+ghost use Rattle.raft_records.specs.Item.{item_of};
+ghost use Rattle.raft_listing.specs.ReadBlocks.{IsReadBlock};
+ghost use Rattle.raft_listing.specs.Scanned.{AreSaidOf, AreSaidOfEntries};
+ghost use Rattle.raft_listing.specs.Stretches.{IsItemSaid, IsLonger, IsTakenIn, said_of_stretch, stretch_of};
+
+use crate::blocks::{ReadBlock, first_block, loss_of};
+use crate::damage::{Damage, DamageKind, Loss};
+use crate::walk::PartVisitor;
+use raft_base::{EntryIndex, Error, FileSeq, Result};
+use raft_records::{FilePart, LogItem, LogItemContent};
+use std::alloc::Global;
+
+/// What a scan of a log file finds.
+#[derive(Debug, Drop)]
+pub struct FileScan {
+    /// The number of the file.
+    pub seq: FileSeq,
+    /// How many bytes it has.
+    pub len: u64,
+    /// How many batches of it can be read, those behind damage included.
+    pub batches: u64,
+    /// Up to which byte, from the first one on, its batches can be read: the first byte at which none can be, or its length.
+    pub read: u64,
+    /// How many bytes at the end weren't searched for batches: those from the byte on at which none can be read and past which no header leads,
+    /// if a walk met such a byte.
+    pub unseen: u64,
+    /// What can't be read, in the order of the file.
+    pub damages: Vec<Damage>,
+}
+
+impl FileScan {
+    /// Makes a scan of a file with this number and so many bytes, which has met nothing yet.
+    pub fn new(alloc: Global, seq: FileSeq, len: u64) -> FileScan
+        ensures seq { result.seq ≡ seq }
+        ensures len { result.len ≡ len }
+        ensures batches { result.batches ≡ 0 }
+        ensures read { result.read ≡ len }
+        ensures seen { result.unseen ≡ 0 }
+        ensures none { result.damages.items ≡ [] }
+    {
+        FileScan {
+            seq,
+            len,
+            batches: 0,
+            read: len,
+            unseen: 0,
+            damages: Vec::new(alloc),
+        }
+    }
+}
+
+impl PartVisitor for FileScan {
+    ghost use Rattle.std.specs.Prelude.{◌≡◌};
+    ghost use Rattle.raft_base.specs.declared.errors.Error.TheVariants.{Memory};
+    ghost use Rattle.raft_listing.specs.Scanned.{IsScanned};
+
+    ghost visits = { IsScanned };
+
+    ghost may_fail = { λ e. e ≡ Memory };
+
+    fn visit_batch(
+        &mut self,
+        part: &FilePart,
+        at: usize,
+        _next: usize,
+        items: &[LogItem],
+    ) -> Result<()> {
+        let offset = part.offset() + at as u64;
+        add_lost(part, offset, items, &mut self.damages)?;
+        self.batches = self.batches.saturating_add(1);
+        Ok(())
+    }
+
+    fn visit_damage(
+        &mut self,
+        part: &FilePart,
+        at: usize,
+        next: Option<usize>,
+        reason: Error,
+    ) -> Result<()> {
+        let offset = part.offset() + at as u64;
+        let kind = DamageKind::Batch(reason);
+        self.damages.push(Damage { offset, kind })?;
+        self.read = self.read.min(offset);
+        if next.is_none() {
+            self.unseen = self.len.saturating_sub(offset);
+        }
+        Ok(())
+    }
+}
+
+/// Entries of an item that stand side by side, none of which can be read, all for one reason.
+#[derive(Clone, Copy)]
+pub(crate) struct Stretch {
+    /// The index of the first.
+    pub first: u64,
+    /// The index of the last.
+    pub last: u64,
+    /// Why they can't be read.
+    pub loss: Loss,
+}
+
+/// Adds what can't be read of the entries of a batch at an offset, item by item.
+///
+/// # Errors
+///
+/// `Memory`. Some of it may then be added.
+fn add_lost(
+    part: &FilePart,
+    offset: u64,
+    items: &[LogItem],
+    damages: &mut Vec<Damage>,
+) -> Result<()>
+    ensures ok { OnOk result ((said : List Damage) × (damages.new.items ≡ damages.old.items ++ said)
+        × AreSaidOf part.now offset (map item_of items.now) said) }
+    ensures memory { IfErr result (λ e. e ≡ Error.Memory) }
+{
+    let known = first_block(part, items)?;
+    for item in items {
+        add_loss(part, offset, item, known, damages)?;
+    }
+    Ok(())
+}
+
+/// Adds what can't be read of the entries of an item, if it has entries.
+fn add_loss(
+    part: &FilePart,
+    offset: u64,
+    item: &LogItem,
+    known: Option<ReadBlock<'_>>,
+    damages: &mut Vec<Damage>,
+) -> Result<()>
+    requires { IfSome known (IsReadBlock part.now) }
+    ensures ok { OnOk result (IsItemSaid part.now offset (item_of item.now) damages.old.items damages.new.items) }
+    ensures memory { IfErr result (λ e. e ≡ Error.Memory) }
+{
+    let region = item.raft_group_id;
+    match &item.content {
+        LogItemContent::EntryIndexes(entries) => {
+            let entries = entries.0.as_slice();
+            add_lost_entries(part, offset, region, entries, known, damages)
+        }
+        LogItemContent::Command(_) | LogItemContent::Kv(_) => Ok(()),
+    }
+}
+
+/// Adds what can't be read of entries of a region: an element for each stretch of neighbors that can't be, all for one reason.
+fn add_lost_entries(
+    part: &FilePart,
+    offset: u64,
+    region: u64,
+    entries: &[EntryIndex],
+    known: Option<ReadBlock<'_>>,
+    damages: &mut Vec<Damage>,
+) -> Result<()>
+    requires { IfSome known (IsReadBlock part.now) }
+    ensures ok { OnOk result ((said : List Damage) × (damages.new.items ≡ damages.old.items ++ said)
+        × AreSaidOfEntries part.now offset region entries.now said) }
+    ensures memory { IfErr result (λ e. e ≡ Error.Memory) }
+{
+    let mut stretch = None;
+    for entry in entries {
+        let loss = loss_of(part, entry, known)?;
+        stretch = take_in(offset, region, stretch, entry.index, loss, damages)?;
+    }
+    add_stretch(offset, region, stretch, damages)
+}
+
+/// Takes an entry behind a stretch: it becomes longer, or it is added to what can't be read, and another one may begin. Returns the
+/// stretch that ends with the entry, if there is one.
+fn take_in(
+    offset: u64,
+    region: u64,
+    stretch: Option<Stretch>,
+    index: u64,
+    loss: Option<Loss>,
+    damages: &mut Vec<Damage>,
+) -> Result<Option<Stretch>>
+    ensures ok { IfOk result (λ next. IsTakenIn offset region stretch index loss next damages.old.items damages.new.items) }
+    ensures memory { IfErr result (λ e. e ≡ Error.Memory) }
+{
+    if let Some(longer) = longer_stretch(stretch, index, loss) {
+        return Ok(Some(longer));
+    }
+    add_stretch(offset, region, stretch, damages)?;
+    Ok(stretch_of(index, loss))
+}
+
+/// Returns the stretch with one entry more, if that can't be read for the same reason.
+fn longer_stretch(stretch: Option<Stretch>, index: u64, loss: Option<Loss>) -> Option<Stretch>
+    ensures { IfSome result (IsLonger stretch index loss) }
+{
+    let (before, loss) = (stretch?, loss?);
+    if before.loss != loss {
+        return None;
+    }
+    Some(Stretch {
+        first: before.first,
+        last: index,
+        loss,
+    })
+}
+
+/// Returns the stretch that begins with an entry, if that can't be read.
+fn stretch_of(index: u64, loss: Option<Loss>) -> Option<Stretch>
+    ensures { result ≡ stretch_of index loss }
+{
+    let (first, last) = (index, index);
+    match loss {
+        Some(loss) => Some(Stretch { first, last, loss }),
+        None => None,
+    }
+}
+
+/// Adds a stretch to what can't be read, if there is one.
+fn add_stretch(
+    offset: u64,
+    region: u64,
+    stretch: Option<Stretch>,
+    damages: &mut Vec<Damage>,
+) -> Result<()>
+    ensures ok { OnOk result (damages.new.items ≡ damages.old.items ++ said_of_stretch offset region stretch) }
+    ensures memory { IfErr result (λ e. e ≡ Error.Memory) }
+{
+    let Some(Stretch { first, last, loss }) = stretch else {
+        return Ok(());
+    };
+    let kind = DamageKind::Entries {
+        region,
+        first,
+        last,
+        loss,
+    };
+    damages.push(Damage { offset, kind })?;
+    Ok(())
+}

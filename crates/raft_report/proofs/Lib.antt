@@ -1,0 +1,6 @@
+mod JsonLemmas
+mod AddedLemmas
+mod TableLemmas
+mod ItemLemmas
+mod PlainLemmas
+mod LineLemmas

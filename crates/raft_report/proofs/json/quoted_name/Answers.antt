@@ -1,0 +1,11 @@
+use Rattle.std.proofs.Common.{rules}
+use Rattle.serde_json.proofs.OnLiterals.{serde_json_on_literals}
+use Rattle.raft_report.proofs.json.quoted_name.Goals as goal
+
+pub returns-in-Append : goal.returns-in-Append
+unfolding serde_json_on_literals
+returns-in-Append c = search rules
+
+pub returns-in-Rewrite : goal.returns-in-Rewrite
+unfolding serde_json_on_literals
+returns-in-Rewrite c = search rules

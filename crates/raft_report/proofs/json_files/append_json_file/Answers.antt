@@ -1,0 +1,15 @@
+use Rattle.std.proofs.Common.{◌++◌, ◌∙◌, List, ap, map, rules, string_bytes}
+use Rattle.std.proofs.lemmas.Result.{on_ok_weaker}
+use Rattle.raft_listing.specs.declared.damage.Damage.{Damage}
+use Rattle.raft_report.specs.JsonData.{list_of}
+use Rattle.raft_report.specs.JsonLines.{damage_data}
+use Rattle.serde_json.specs.Written.{compact_text}
+use Rattle.raft_report.proofs.LineLemmas.{scan_added}
+use Rattle.raft_report.proofs.json_files.append_json_file.Goals as goal
+
+pub returns : goal.returns
+returns c =
+    on_ok_weaker c.writeln.result
+    (λ ended. scan_added c.args.queue c.args.scan.now (string_bytes c.args.text.now) (string_bytes c.write.new.self) (string_bytes c.append_damages.new.text) (string_bytes c.writeln.new.self) c.in_ok-write.ensures.bytes
+    (c.in_ok-append_damages.ensures ∙ ap (λ (ds : List Damage). string_bytes c.write.new.self ++ compact_text (list_of (map damage_data ds))) c.as_slice.ensures.value) ended)
+    (search rules)

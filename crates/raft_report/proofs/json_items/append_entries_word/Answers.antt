@@ -1,0 +1,7 @@
+use Rattle.std.proofs.Common.{rules}
+use Rattle.serde_json.proofs.OnLiterals.{serde_json_on_literals}
+use Rattle.raft_report.proofs.json_items.append_entries_word.Goals as goal
+
+pub returns : goal.returns
+unfolding serde_json_on_literals
+returns c = search rules

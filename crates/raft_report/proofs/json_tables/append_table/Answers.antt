@@ -1,0 +1,12 @@
+use Rattle.std.proofs.Common.{string_bytes}
+use Rattle.std.proofs.lemmas.Result.{on_ok_weaker}
+use Rattle.raft_report.specs.JsonLines.{table_back, table_front}
+use Rattle.raft_report.proofs.LineLemmas.{three_pieces}
+use Rattle.raft_report.proofs.json_tables.append_table.Goals as goal
+
+pub returns : goal.returns
+returns c =
+    on_ok_weaker c.append_table_back.result
+    (λ ended. three_pieces (string_bytes c.args.text.now) (table_front c.args.table.now) c.args.pairs.now (table_back c.args.table.now) (string_bytes c.append_table_front.new.text) (string_bytes c.push_str.new.self) (string_bytes c.append_table_back.new.text)
+    c.in_ok-append_table_front.ensures c.in_ok-push_str.ensures.bytes ended)
+    c.append_table_back.ensures

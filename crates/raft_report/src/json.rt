@@ -1,0 +1,118 @@
+//! The words of lines of JSON.
+
+ghost use Rattle.std.specs.Prelude.{◌≡◌, ◌++◌, map, string_bytes, IfOk, OnOk};
+ghost use Rattle.hex.specs.Hex.{encode_lower};
+ghost use Rattle.raft_listing.specs.Reasons.{reason_text};
+ghost use Rattle.raft_report.specs.JsonData.{count, list_of};
+ghost use Rattle.raft_report.specs.JsonLines.{queue_data};
+ghost use Rattle.serde_json.specs.Data.{string};
+ghost use Rattle.serde_json.specs.Written.{comma_if, compact_text};
+
+use raft_base::{AllocResult, Error, LogQueue};
+use raft_listing::append_reason;
+use serde_json::Value;
+use std::alloc::Global;
+use std::fmt;
+
+/// Returns a text as a string of JSON, with its quotes.
+///
+/// # Errors
+///
+/// Want of memory.
+pub fn quoted(alloc: Global, shown: &str) -> AllocResult<String>
+    ensures { IfOk result (λ text. string_bytes text ≡ compact_text (string shown.now)) }
+{
+    let value = Value::try_from_str(alloc, shown)?;
+    value.to_string(alloc)
+}
+
+/// Returns in words why something can't be read, or is refused, as a string of JSON, with its quotes.
+///
+/// # Errors
+///
+/// Want of memory.
+pub fn quoted_reason(alloc: Global, reason: &Error) -> AllocResult<String>
+    ensures { IfOk result (λ text. string_bytes text ≡ compact_text (string (reason_text reason.now))) }
+{
+    let mut words = String::new(alloc);
+    append_reason(reason, &mut words)?;
+    quoted(alloc, words.as_str())
+}
+
+/// Returns bytes as a string of JSON of their digits in base 16, with its quotes.
+pub(crate) fn quoted_hex(alloc: Global, bytes: &[u8]) -> AllocResult<String>
+    ensures { IfOk result (λ text. string_bytes text ≡ compact_text (string (encode_lower bytes.now))) }
+{
+    let digits = hex::encode(alloc, bytes)?;
+    quoted(alloc, digits.as_str())
+}
+
+/// Returns the name of a queue, with quotes.
+fn quoted_name(queue: LogQueue) -> &'static str
+    ensures { result.now ≡ compact_text (queue_data queue) }
+{
+    match queue {
+        LogQueue::Append => "\"append\"",
+        LogQueue::Rewrite => "\"rewrite\"",
+    }
+}
+
+/// A queue, which is printed as its name, with quotes.
+#[derive(Clone, Copy)]
+pub struct QueueName(pub LogQueue);
+
+impl fmt::Display for QueueName {
+    ghost use Rattle.std.specs.Prelude.{Some};
+    ghost use Rattle.raft_report.specs.JsonLines.{queue_data};
+    ghost use Rattle.serde_json.specs.Written.{compact_text};
+
+    ghost output = { λ name. Some (compact_text (queue_data name.0)) };
+
+    fn fmt<W: fmt::Write>(&self, f: &mut fmt::Formatter<W>) -> fmt::Result {
+        f.write_str(quoted_name(self.0))
+    }
+}
+
+/// A number, if there is one: what is printed is it, or `null`.
+#[derive(Clone, Copy)]
+pub(crate) struct Nullable(pub(crate) Option<u64>);
+
+impl fmt::Display for Nullable {
+    ghost use Rattle.std.specs.Prelude.{Some};
+    ghost use Rattle.raft_report.specs.JsonData.{count_if};
+    ghost use Rattle.serde_json.specs.Written.{compact_text};
+
+    ghost output = { λ number. Some (compact_text (count_if number.0)) };
+
+    fn fmt<W: fmt::Write>(&self, f: &mut fmt::Formatter<W>) -> fmt::Result {
+        match self.0 {
+            Some(number) => write!(f, "{number}"),
+            None => f.write_str("null"),
+        }
+    }
+}
+
+/// Appends numbers as a list.
+pub(crate) fn append_numbers(numbers: &[u64], text: &mut String) -> AllocResult<()>
+    ensures { OnOk result (string_bytes text.new
+        ≡ string_bytes text.old ++ compact_text (list_of (map count numbers.now))) }
+{
+    text.push('[')?;
+    let mut later = false;
+    for number in numbers {
+        append_comma(later, text)?;
+        write!(text, "{number}")?;
+        later = true;
+    }
+    text.push(']')
+}
+
+/// Appends what stands between two elements of a list, if one is in front.
+pub(crate) fn append_comma(later: bool, text: &mut String) -> AllocResult<()>
+    ensures { OnOk result (string_bytes text.new ≡ string_bytes text.old ++ comma_if later) }
+{
+    if later {
+        return text.push(',');
+    }
+    Ok(())
+}

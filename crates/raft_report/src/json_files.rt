@@ -1,0 +1,193 @@
+//! What is found of log files, as lines of JSON.
+
+ghost use Rattle.std.specs.Prelude.{◌≡◌, ◌++◌, map, string_bytes, None, OnOk};
+ghost use Rattle.raft_report.specs.JsonData.{json_line, list_of};
+ghost use Rattle.raft_report.specs.JsonLines.{damage_data, kept_data, lost_data, missing_data, missing_files_json, missing_json, no_files_data, scan_data, scan_json, unreadable_data};
+ghost use Rattle.serde_json.specs.Written.{compact_text};
+
+use crate::json::{QueueName, append_comma, quoted, quoted_reason};
+use raft_base::{AllocResult, Error, FileSeq, LogQueue};
+use raft_listing::{Damage, DamageKind, FileScan, Loss, missing_between};
+use raft_reading::FileSize;
+use std::alloc::Global;
+
+/// Appends a line for the files that are missing before a file, if some are, and one for what a scan of it finds.
+///
+/// # Errors
+///
+/// Want of memory. Some lines may then be appended.
+pub fn append_json_scan(
+    alloc: Global,
+    queue: LogQueue,
+    last: Option<FileSeq>,
+    scan: &FileScan,
+    text: &mut String,
+) -> AllocResult<()>
+    ensures { OnOk result (string_bytes text.new ≡ string_bytes text.old ++ scan_json queue last scan.now) }
+{
+    append_json_missing(queue, missing_between(last, scan.seq), text)?;
+    append_json_file(alloc, queue, scan, text)
+}
+
+/// Appends the line for what a scan of a file finds.
+fn append_json_file(
+    alloc: Global,
+    queue: LogQueue,
+    scan: &FileScan,
+    text: &mut String,
+) -> AllocResult<()>
+    ensures { OnOk result (string_bytes text.new ≡ string_bytes text.old ++ json_line (scan_data queue scan.now)) }
+{
+    let (batches, bytes) = (scan.batches, scan.len);
+    write!(
+        text,
+        "{{\"batches\":{batches},\"bytes\":{bytes},\"damage\":"
+    )?;
+    append_damages(alloc, scan.damages.as_slice(), text)?;
+    let (name, file, read, unseen) = (QueueName(queue), scan.seq, scan.read, scan.unseen);
+    writeln!(
+        text,
+        ",\"file\":{file},\"queue\":{name},\"read\":{read},\"unseen\":{unseen}}}"
+    )
+}
+
+/// Appends the places in a file where something can't be read, as a list.
+fn append_damages(alloc: Global, damages: &[Damage], text: &mut String) -> AllocResult<()>
+    ensures { OnOk result (string_bytes text.new
+        ≡ string_bytes text.old ++ compact_text (list_of (map damage_data damages.now))) }
+{
+    text.push('[')?;
+    let mut later = false;
+    for damage in damages {
+        append_comma(later, text)?;
+        append_damage(alloc, damage, text)?;
+        later = true;
+    }
+    text.push(']')
+}
+
+/// Appends a place where something can't be read.
+fn append_damage(alloc: Global, damage: &Damage, text: &mut String) -> AllocResult<()>
+    ensures { OnOk result (string_bytes text.new ≡ string_bytes text.old ++ compact_text (damage_data damage.now)) }
+{
+    match &damage.kind {
+        DamageKind::Batch(reason) => append_unreadable(alloc, damage.offset, reason, text),
+        DamageKind::Entries {
+            region,
+            first,
+            last,
+            loss,
+        } => append_lost(alloc, damage.offset, *region, (*first, *last), *loss, text),
+    }
+}
+
+/// Appends that no batch can be read at an offset, and why.
+fn append_unreadable(
+    alloc: Global,
+    offset: u64,
+    reason: &Error,
+    text: &mut String,
+) -> AllocResult<()>
+    ensures { OnOk result (string_bytes text.new
+        ≡ string_bytes text.old ++ compact_text (unreadable_data offset reason.now)) }
+{
+    let why = quoted_reason(alloc, reason)?;
+    write!(
+        text,
+        "{{\"kind\":\"batch\",\"offset\":{offset},\"why\":{why}}}"
+    )
+}
+
+/// Appends that entries of a region, by the first and the last index, can't be read, and why.
+fn append_lost(
+    alloc: Global,
+    offset: u64,
+    region: u64,
+    entries: (u64, u64),
+    loss: Loss,
+    text: &mut String,
+) -> AllocResult<()>
+    ensures { OnOk result (string_bytes text.new
+        ≡ string_bytes text.old ++ compact_text (lost_data offset region entries loss)) }
+{
+    let why = quoted(alloc, loss.words())?;
+    let (first, last) = entries;
+    write!(
+        text,
+        "{{\"first\":{first},\"kind\":\"entries\",\"last\":{last},\"offset\":{offset},\"region\":{region},\"why\":{why}}}"
+    )
+}
+
+/// Appends a line for the files of a queue that are missing between each two, if some are.
+///
+/// # Errors
+///
+/// Want of memory. Some lines may then be appended.
+pub fn append_json_missing_files(
+    queue: LogQueue,
+    sizes: &[FileSize],
+    text: &mut String,
+) -> AllocResult<()>
+    ensures { OnOk result (string_bytes text.new
+        ≡ string_bytes text.old ++ missing_files_json queue None (map (λ size. size.seq) sizes.now)) }
+{
+    let mut last = None;
+    for size in sizes {
+        append_json_missing(queue, missing_between(last, size.seq), text)?;
+        last = Some(size.seq);
+    }
+    Ok(())
+}
+
+/// Appends a line for files that are missing, if some are: from the first number to the last.
+fn append_json_missing(
+    queue: LogQueue,
+    numbers: Option<(FileSeq, FileSeq)>,
+    text: &mut String,
+) -> AllocResult<()>
+    ensures { OnOk result (string_bytes text.new ≡ string_bytes text.old ++ missing_json queue numbers) }
+{
+    match numbers {
+        Some(numbers) => append_json_numbers(queue, numbers, text),
+        None => Ok(()),
+    }
+}
+
+/// Appends the line for the files that are missing from the first number to the last.
+fn append_json_numbers(
+    queue: LogQueue,
+    numbers: (FileSeq, FileSeq),
+    text: &mut String,
+) -> AllocResult<()>
+    ensures { OnOk result (string_bytes text.new ≡ string_bytes text.old ++ json_line (missing_data queue numbers)) }
+{
+    let ((first, last), name) = (numbers, QueueName(queue));
+    writeln!(
+        text,
+        "{{\"missing_from\":{first},\"missing_to\":{last},\"queue\":{name}}}"
+    )
+}
+
+/// Appends the line of a queue that has no files.
+///
+/// # Errors
+///
+/// Want of memory. Some of it may then be appended.
+pub fn append_json_no_files(queue: LogQueue, text: &mut String) -> AllocResult<()>
+    ensures { OnOk result (string_bytes text.new ≡ string_bytes text.old ++ json_line (no_files_data queue)) }
+{
+    let (files, name) = (0_u64, QueueName(queue));
+    writeln!(text, "{{\"files\":{files},\"queue\":{name}}}")
+}
+
+/// Appends the line of so many bytes that were cut off, which the file at a path keeps.
+///
+/// # Errors
+///
+/// Want of memory. Some of it may then be appended.
+pub fn append_json_kept(alloc: Global, len: usize, path: &str, text: &mut String) -> AllocResult<()>
+    ensures { OnOk result (string_bytes text.new ≡ string_bytes text.old ++ json_line (kept_data len path.now)) }
+{
+    let path = quoted(alloc, path)?;
+    writeln!(text, "{{\"bytes\":{len},\"kept\":{path}}}")
+}

@@ -1,0 +1,394 @@
+//! The items of batches, as lines of JSON.
+
+ghost use Rattle.std.specs.Prelude.{◌≡◌, ◌≤◌, ◌++◌, true, codes, length, map, option_map, string_bytes, IfErr, IfOk, IfSome, OnOk};
+ghost use Rattle.std.specs.Bool.{MatchBool};
+ghost use Rattle.raft_listing.specs.Dumped.{Adds, has_index};
+ghost use Rattle.raft_listing.specs.ReadBlocks.{IsReadBlock};
+ghost use Rattle.raft_records.specs.Item.{item_of, pair, pair_of};
+ghost use Rattle.raft_report.specs.JsonItems.{AreEntryData, AreItemLines, IsChangeData, IsContentData, IsContentsMember, IsEntriesData, IsEntryData, IsItemLine, IsSelectedItemLine, block_member, bytes_member, command_data, entries_member, entry_data, group_member, index_members, key_member, last_index, length_member, lost_entry_data, op_member, read_data, shown_member, value_member};
+ghost use Rattle.raft_report.specs.JsonPieces.{AreJoined, AreTrailed, IsTextOf, item_back, item_front, member_text, trailed};
+ghost use Rattle.serde_json.specs.Written.{comma_if, compact_text};
+
+use crate::json::{QueueName, append_comma, quoted, quoted_hex};
+use raft_base::{AllocResult, EntryIndex, Error, FileBlockHandle, Result};
+use raft_listing::{
+    BytesOfEntry, Loss, ReadBlock, Selection, bytes_of_entry, needed_block, status_of,
+};
+use raft_records::{
+    AtomicGroupStatus, Command, FilePart, KeyValue, LogItem, LogItemContent, OpType,
+};
+use std::alloc::Global;
+
+/// Appends a line for each item of the batch at a byte that is selected.
+///
+/// # Errors
+///
+/// `Memory`. Some lines may then be appended.
+pub(crate) fn append_json_items(
+    part: &FilePart,
+    at: usize,
+    items: &[LogItem],
+    selection: &Selection,
+    text: &mut String,
+) -> Result<()>
+    requires { at ≤ length part.now.bytes }
+    ensures ok { OnOk result (Adds (AreItemLines selection.now part.now at (map item_of items.now))
+        (string_bytes text.old) (string_bytes text.new)) }
+    ensures memory { IfErr result (λ e. e ≡ Error.Memory) }
+{
+    let block = needed_block(part, items, selection)?;
+    for item in items {
+        append_if_selected(part, at, item, selection, block, text)?;
+    }
+    Ok(())
+}
+
+/// Appends the line of an item of the batch at a byte, if it is selected.
+fn append_if_selected(
+    part: &FilePart,
+    at: usize,
+    item: &LogItem,
+    selection: &Selection,
+    known: Option<ReadBlock<'_>>,
+    text: &mut String,
+) -> Result<()>
+    requires inside { at ≤ length part.now.bytes }
+    requires known { IfSome known (IsReadBlock part.now) }
+    ensures ok { OnOk result (Adds (IsSelectedItemLine selection.now part.now at (item_of item.now))
+        (string_bytes text.old) (string_bytes text.new)) }
+    ensures memory { IfErr result (λ e. e ≡ Error.Memory) }
+{
+    if selection.has_item(item) {
+        return append_json_item(part, at, item, selection, known, text);
+    }
+    Ok(())
+}
+
+/// Appends the line of an item of the batch at a byte.
+fn append_json_item(
+    part: &FilePart,
+    at: usize,
+    item: &LogItem,
+    selection: &Selection,
+    known: Option<ReadBlock<'_>>,
+    text: &mut String,
+) -> Result<()>
+    requires inside { at ≤ length part.now.bytes }
+    requires known { IfSome known (IsReadBlock part.now) }
+    ensures ok { OnOk result (Adds (IsItemLine selection.now part.now at (item_of item.now))
+        (string_bytes text.old) (string_bytes text.new)) }
+    ensures memory { IfErr result (λ e. e ≡ Error.Memory) }
+{
+    append_item_front(part, text)?;
+    append_said(part, item, selection, known, text)?;
+    append_item_back(part, at, item.raft_group_id, text)?;
+    Ok(())
+}
+
+/// Appends the line of an item up to what it says.
+fn append_item_front(part: &FilePart, text: &mut String) -> AllocResult<()>
+    ensures { OnOk result (string_bytes text.new ≡ string_bytes text.old ++ item_front part.now) }
+{
+    write!(text, "{{\"file\":{},\"item\":", part.id().seq)
+}
+
+/// Appends the line of an item of this region in the batch at a byte, from behind what it says on.
+fn append_item_back(part: &FilePart, at: usize, region: u64, text: &mut String) -> AllocResult<()>
+    requires { at ≤ length part.now.bytes }
+    ensures { OnOk result (string_bytes text.new ≡ string_bytes text.old ++ item_back part.now at region) }
+{
+    let (name, offset) = (QueueName(part.id().queue), part.offset() + at as u64);
+    writeln!(
+        text,
+        ",\"offset\":{offset},\"queue\":{name},\"region\":{region}}}"
+    )
+}
+
+/// Appends what an item says.
+fn append_said(
+    part: &FilePart,
+    item: &LogItem,
+    selection: &Selection,
+    known: Option<ReadBlock<'_>>,
+    text: &mut String,
+) -> Result<()>
+    requires { IfSome known (IsReadBlock part.now) }
+    ensures ok { OnOk result (Adds (IsTextOf (IsContentData selection.now part.now (item_of item.now) (item_of item.now).content))
+        (string_bytes text.old) (string_bytes text.new)) }
+    ensures memory { IfErr result (λ e. e ≡ Error.Memory) }
+{
+    match &item.content {
+        LogItemContent::EntryIndexes(entries) => {
+            append_entries(part, entries.0.as_slice(), selection, known, text)
+        }
+        LogItemContent::Command(command) => Ok(append_command(command, text)?),
+        LogItemContent::Kv(change) => append_change(part, item, change, selection, text),
+    }
+}
+
+/// Appends a command.
+fn append_command(command: &Command, text: &mut String) -> AllocResult<()>
+    ensures { OnOk result (string_bytes text.new ≡ string_bytes text.old ++ compact_text (command_data command.now)) }
+{
+    match command {
+        Command::Clean => text.push_str("{\"what\":\"clean\"}"),
+        Command::Compact { index } => write!(text, "{{\"index\":{index},\"what\":\"compact\"}}"),
+        Command::Truncate { index } => write!(text, "{{\"index\":{index},\"what\":\"truncate\"}}"),
+    }
+}
+
+/// Appends what is done to a key, and whether that begins, continues or ends an atomic group.
+fn append_change(
+    part: &FilePart,
+    item: &LogItem,
+    change: &KeyValue,
+    selection: &Selection,
+    text: &mut String,
+) -> Result<()>
+    requires { (item_of item.now).content ≡ pair (pair_of change.now) }
+    ensures ok { OnOk result (Adds (IsTextOf (IsChangeData selection.now (item_of item.now) (pair_of change.now)))
+        (string_bytes text.old) (string_bytes text.new)) }
+    ensures memory { IfErr result (λ e. e ≡ Error.Memory) }
+{
+    let alloc = part.allocator();
+    append_value_len(&change.value, text)?;
+    let status = status_of(part, item)?;
+    append_group(status, text)?;
+    append_key(alloc, change.key.as_slice(), text)?;
+    append_value(alloc, &change.value, selection, text)?;
+    append_op(change.op_type, text)?;
+    Ok(())
+}
+
+/// Appends how many bytes a value has, if there is one, as the first member.
+fn append_value_len(value: &Option<Vec<u8>>, text: &mut String) -> AllocResult<()>
+    ensures { OnOk result (string_bytes text.new
+        ≡ string_bytes text.old ++ (codes "{" ++ trailed (bytes_member (option_map (λ v. v.items) value.now)))) }
+{
+    match value {
+        Some(value) => write!(text, "{{\"bytes\":{},", value.len()),
+        None => text.push_str("{"),
+    }
+}
+
+/// Appends that an atomic group begins, goes on or ends, if one does.
+fn append_group(status: Option<AtomicGroupStatus>, text: &mut String) -> AllocResult<()>
+    ensures { OnOk result (string_bytes text.new ≡ string_bytes text.old ++ trailed (group_member status)) }
+{
+    match status {
+        None => Ok(()),
+        Some(AtomicGroupStatus::Begin) => text.push_str("\"group\":\"begins\","),
+        Some(AtomicGroupStatus::Middle) => text.push_str("\"group\":\"goes on\","),
+        Some(AtomicGroupStatus::End) => text.push_str("\"group\":\"ends\","),
+    }
+}
+
+/// Appends a key, in base 16.
+fn append_key(alloc: Global, key: &[u8], text: &mut String) -> AllocResult<()>
+    ensures { OnOk result (string_bytes text.new ≡ string_bytes text.old ++ trailed (key_member key.now)) }
+{
+    let key = quoted_hex(alloc, key)?;
+    write!(text, "\"key\":{key},")
+}
+
+/// Appends a value in base 16, if there is one and it is asked for.
+fn append_value(
+    alloc: Global,
+    value: &Option<Vec<u8>>,
+    selection: &Selection,
+    text: &mut String,
+) -> AllocResult<()>
+    ensures { OnOk result (string_bytes text.new
+        ≡ string_bytes text.old ++ trailed (value_member selection.now (option_map (λ v. v.items) value.now))) }
+{
+    match value {
+        Some(value) if selection.values => append_bytes(alloc, value.as_slice(), text),
+        _ => Ok(()),
+    }
+}
+
+/// Appends the bytes of a value, in base 16.
+fn append_bytes(alloc: Global, value: &[u8], text: &mut String) -> AllocResult<()>
+    ensures { OnOk result (string_bytes text.new
+        ≡ string_bytes text.old ++ trailed (shown_member value.now)) }
+{
+    let value = quoted_hex(alloc, value)?;
+    write!(text, "\"value\":{value},")
+}
+
+/// Appends what is done to a key, as the last member.
+fn append_op(op_type: OpType, text: &mut String) -> AllocResult<()>
+    ensures { OnOk result (string_bytes text.new ≡ string_bytes text.old ++ (member_text (op_member op_type) ++ codes "}")) }
+{
+    match op_type {
+        OpType::Put => text.push_str("\"what\":\"put\"}"),
+        OpType::Del => text.push_str("\"what\":\"delete\"}"),
+    }
+}
+
+/// Appends the entries of an item: the first and the last index, where their block stands, and where they are asked for the bytes
+/// of those that are selected.
+fn append_entries(
+    part: &FilePart,
+    entries: &[EntryIndex],
+    selection: &Selection,
+    known: Option<ReadBlock<'_>>,
+    text: &mut String,
+) -> Result<()>
+    requires { IfSome known (IsReadBlock part.now) }
+    ensures ok { OnOk result (Adds (IsTextOf (IsEntriesData selection.now part.now entries.now))
+        (string_bytes text.old) (string_bytes text.new)) }
+    ensures memory { IfErr result (λ e. e ≡ Error.Memory) }
+{
+    let Some(first) = entries.first() else {
+        text.push_str("{\"what\":\"entries\"}")?;
+        return Ok(());
+    };
+    append_block(&first.entries, text)?;
+    append_contents(part, entries, selection, known, text)?;
+    append_indexes(first.index, last_index(entries, first.index), text)?;
+    append_length(&first.entries, text)?;
+    append_entries_word(text)?;
+    Ok(())
+}
+
+/// Returns the index of the last of some entries; without entries `first`.
+fn last_index(entries: &[EntryIndex], first: u64) -> u64
+    ensures { result ≡ last_index entries.now first }
+{
+    match entries.last() {
+        Some(last) => last.index,
+        None => first,
+    }
+}
+
+/// Appends where an entry block stands, as the first member, if there is one.
+fn append_block(place: &Option<FileBlockHandle>, text: &mut String) -> AllocResult<()>
+    ensures { OnOk result (string_bytes text.new ≡ string_bytes text.old ++ (codes "{" ++ trailed (block_member place.now))) }
+{
+    match place {
+        Some(place) => write!(text, "{{\"block\":{},", place.offset),
+        None => text.push_str("{"),
+    }
+}
+
+/// Appends the first and the last index of entries.
+fn append_indexes(first: u64, last: u64, text: &mut String) -> AllocResult<()>
+    ensures { OnOk result (string_bytes text.new ≡ string_bytes text.old ++ trailed (index_members first last)) }
+{
+    write!(text, "\"first\":{first},\"last\":{last},")
+}
+
+/// Appends how many bytes an entry block has, if there is one.
+fn append_length(place: &Option<FileBlockHandle>, text: &mut String) -> AllocResult<()>
+    ensures { OnOk result (string_bytes text.new ≡ string_bytes text.old ++ trailed (length_member place.now)) }
+{
+    match place {
+        Some(place) => write!(text, "\"length\":{},", place.len),
+        None => Ok(()),
+    }
+}
+
+/// Appends that they are entries, as the last member.
+fn append_entries_word(text: &mut String) -> AllocResult<()>
+    ensures { OnOk result (string_bytes text.new ≡ string_bytes text.old ++ (member_text entries_member ++ codes "}")) }
+{
+    text.push_str("\"what\":\"entries\"}")
+}
+
+/// Appends the bytes of the entries that are selected, where they are asked for.
+fn append_contents(
+    part: &FilePart,
+    entries: &[EntryIndex],
+    selection: &Selection,
+    known: Option<ReadBlock<'_>>,
+    text: &mut String,
+) -> Result<()>
+    requires { IfSome known (IsReadBlock part.now) }
+    ensures ok { OnOk result (Adds (AreTrailed (IsContentsMember selection.now part.now entries.now))
+        (string_bytes text.old) (string_bytes text.new)) }
+    ensures memory { IfErr result (λ e. e ≡ Error.Memory) }
+{
+    if !selection.values {
+        return Ok(());
+    }
+    text.push_str("\"entries\":[")?;
+    append_each_entry(part, entries, selection, known, text)?;
+    text.push_str("],")?;
+    Ok(())
+}
+
+/// Appends the bytes of the entries that are selected, with a comma between each two.
+fn append_each_entry(
+    part: &FilePart,
+    entries: &[EntryIndex],
+    selection: &Selection,
+    known: Option<ReadBlock<'_>>,
+    text: &mut String,
+) -> Result<()>
+    requires { IfSome known (IsReadBlock part.now) }
+    ensures ok { OnOk result (Adds (AreJoined (AreEntryData selection.now part.now entries.now))
+        (string_bytes text.old) (string_bytes text.new)) }
+    ensures memory { IfErr result (λ e. e ≡ Error.Memory) }
+{
+    let mut later = false;
+    for entry in entries {
+        later = append_if_asked(part, entry, selection, known, later, text)?;
+    }
+    Ok(())
+}
+
+/// Appends the bytes of an entry, if it is selected, behind another one or as the first. Returns whether one is in front of the next.
+fn append_if_asked(
+    part: &FilePart,
+    entry: &EntryIndex,
+    selection: &Selection,
+    known: Option<ReadBlock<'_>>,
+    later: bool,
+    text: &mut String,
+) -> Result<bool>
+    requires { IfSome known (IsReadBlock part.now) }
+    ensures ok { IfOk result (λ next. MatchBool (has_index selection.now entry.now)
+        ((next ≡ true) × Adds (IsTextOf (IsEntryData part.now entry.now)) (string_bytes text.old ++ comma_if later) (string_bytes text.new))
+        ((next ≡ later) × (string_bytes text.new ≡ string_bytes text.old))) }
+    ensures memory { IfErr result (λ e. e ≡ Error.Memory) }
+{
+    if !selection.has_entry(entry) {
+        return Ok(later);
+    }
+    append_comma(later, text)?;
+    let read = bytes_of_entry(part, entry, known)?;
+    append_entry(part.allocator(), entry.index, read, text)?;
+    Ok(true)
+}
+
+/// Appends an entry with its bytes in base 16, or why they can't be read.
+fn append_entry(
+    alloc: Global,
+    index: u64,
+    read: BytesOfEntry<'_>,
+    text: &mut String,
+) -> AllocResult<()>
+    ensures { OnOk result (string_bytes text.new ≡ string_bytes text.old ++ compact_text (entry_data index read.entry)) }
+{
+    match read {
+        BytesOfEntry::Read(bytes) => append_read(alloc, index, bytes, text),
+        BytesOfEntry::Lost(loss) => append_lost(alloc, index, loss, text),
+    }
+}
+
+/// Appends an entry with its bytes in base 16.
+fn append_read(alloc: Global, index: u64, bytes: &[u8], text: &mut String) -> AllocResult<()>
+    ensures { OnOk result (string_bytes text.new ≡ string_bytes text.old ++ compact_text (read_data index bytes.now)) }
+{
+    let bytes = quoted_hex(alloc, bytes)?;
+    write!(text, "{{\"bytes\":{bytes},\"index\":{index}}}")
+}
+
+/// Appends why an entry can't be read.
+fn append_lost(alloc: Global, index: u64, loss: Loss, text: &mut String) -> AllocResult<()>
+    ensures { OnOk result (string_bytes text.new ≡ string_bytes text.old ++ compact_text (lost_entry_data index loss)) }
+{
+    let why = quoted(alloc, loss.words())?;
+    write!(text, "{{\"bytes\":null,\"index\":{index},\"why\":{why}}}")
+}

@@ -1,0 +1,186 @@
+//! Tables, and what they need of files, as lines of JSON.
+
+ghost use Rattle.std.specs.Prelude.{◌≡◌, ◌++◌, map, option_copied, string_bytes, IfErr, OnOk};
+ghost use Rattle.raft_report.specs.JsonData.{count, json_line, list_of};
+ghost use Rattle.raft_report.specs.JsonLines.{IsRegionAdded, first_of, key_value_data, last_of, live_in, region_json, regions_of, table_back, table_front, totals_data, use_data, uses_json};
+ghost use Rattle.serde_json.specs.Written.{comma_if, compact_text};
+
+use crate::json::{Nullable, QueueName, append_comma, append_numbers, quoted_hex};
+use crate::uses::{FileUse, FileUses, live_in};
+use raft_base::{AllocResult, Error, LogQueue, Result};
+use raft_reading::FileSize;
+use raft_recover::{MemTable, MemTableAccessor};
+use std::alloc::Global;
+
+/// Appends the line of a region; `keys` says whether its keys and their values are printed too, in base 16.
+///
+/// # Errors
+///
+/// `Memory`. Some of it may then be appended.
+pub fn append_json_region(
+    alloc: Global,
+    table: &MemTable,
+    keys: bool,
+    text: &mut String,
+) -> Result<()>
+    ensures ok { OnOk result (IsRegionAdded table.now keys (string_bytes text.old) (string_bytes text.new)) }
+    ensures memory { IfErr result (λ e. e ≡ Error.Memory) }
+{
+    if !keys {
+        return Ok(append_table(table, "null", text)?);
+    }
+    let pairs = pairs_text(alloc, table)?;
+    Ok(append_table(table, pairs.as_str(), text)?)
+}
+
+/// Appends the line of a table, with this text for its pairs.
+fn append_table(table: &MemTable, pairs: &str, text: &mut String) -> AllocResult<()>
+    ensures { OnOk result (string_bytes text.new ≡ string_bytes text.old ++ region_json table.now pairs.now) }
+{
+    append_table_front(table, text)?;
+    text.push_str(pairs)?;
+    append_table_back(table, text)
+}
+
+/// Appends the line of a table up to its pairs.
+fn append_table_front(table: &MemTable, text: &mut String) -> AllocResult<()>
+    ensures { OnOk result (string_bytes text.new ≡ string_bytes text.old ++ table_front table.now) }
+{
+    let append = Nullable(table.min_file_seq(LogQueue::Append));
+    let (first, last) = (Nullable(first_of(table)), Nullable(last_of(table)));
+    let keys = table.key_count();
+    write!(
+        text,
+        "{{\"append\":{append},\"first\":{first},\"keys\":{keys},\"last\":{last},\"pairs\":"
+    )
+}
+
+/// Appends the line of a table from behind its pairs on.
+fn append_table_back(table: &MemTable, text: &mut String) -> AllocResult<()>
+    ensures { OnOk result (string_bytes text.new ≡ string_bytes text.old ++ table_back table.now) }
+{
+    let rewrite = Nullable(table.min_file_seq(LogQueue::Rewrite));
+    let region = table.region_id();
+    writeln!(text, ",\"region\":{region},\"rewrite\":{rewrite}}}")
+}
+
+/// Returns the first index of a table, if it has entries.
+fn first_of(table: &MemTable) -> Option<u64>
+    ensures { result ≡ first_of table.now.entries }
+{
+    table.first_index()
+}
+
+/// Returns the last index of a table, if it has entries.
+fn last_of(table: &MemTable) -> Option<u64>
+    ensures { result ≡ last_of table.now.entries }
+{
+    table.last_index()
+}
+
+/// Returns the keys of a region with their values, as a list.
+///
+/// # Errors
+///
+/// `Memory`.
+fn pairs_text(alloc: Global, table: &MemTable) -> Result<String>
+    ensures memory { IfErr result (λ e. e ≡ Error.Memory) }
+{
+    let mut text = String::new(alloc);
+    text.push('[')?;
+    let (mut later, mut appended) = (false, Ok(()));
+    table.scan(None, None, false, |key, value| {
+        appended = append_pair(alloc, later, key, value, &mut text);
+        later = true;
+        appended.is_ok()
+    })?;
+    match appended {
+        Ok(()) => {
+            text.push(']')?;
+            Ok(text)
+        }
+        Err(_) => Err(Error::Memory),
+    }
+}
+
+/// Appends a key with its value, behind another one or as the first.
+fn append_pair(
+    alloc: Global,
+    later: bool,
+    key: &[u8],
+    value: &[u8],
+    text: &mut String,
+) -> AllocResult<()>
+    ensures { OnOk result (string_bytes text.new
+        ≡ string_bytes text.old ++ (comma_if later ++ compact_text (key_value_data (key.now, value.now)))) }
+{
+    append_comma(later, text)?;
+    let (key, value) = (quoted_hex(alloc, key)?, quoted_hex(alloc, value)?);
+    write!(text, "{{\"key\":{key},\"value\":{value}}}")
+}
+
+/// Appends the line of the cleaned regions and of how many records are live in each queue.
+///
+/// # Errors
+///
+/// Want of memory. Some of it may then be appended.
+pub fn append_json_totals(accessor: &MemTableAccessor, text: &mut String) -> AllocResult<()>
+    ensures { OnOk result (string_bytes text.new ≡ string_bytes text.old ++ json_line (totals_data accessor.now)) }
+{
+    text.push_str("{\"cleaned\":")?;
+    append_numbers(accessor.cleaned_regions(), text)?;
+    let append = accessor.stats().live_entries(LogQueue::Append);
+    let rewrite = accessor.stats().live_entries(LogQueue::Rewrite);
+    writeln!(
+        text,
+        ",\"live_append\":{append},\"live_rewrite\":{rewrite}}}"
+    )
+}
+
+/// Appends a line for each file of a queue: its bytes, how many of them are live entries, and the regions whose oldest file it is.
+///
+/// # Errors
+///
+/// Want of memory. Some lines may then be appended.
+pub fn append_json_uses(
+    queue: LogQueue,
+    sizes: &[FileSize],
+    uses: &FileUses,
+    text: &mut String,
+) -> AllocResult<()>
+    ensures { OnOk result (string_bytes text.new ≡ string_bytes text.old ++ uses_json queue uses.now sizes.now) }
+{
+    for size in sizes {
+        append_json_use(queue, size, uses.get(&size.seq), text)?;
+    }
+    Ok(())
+}
+
+/// Appends the line of a file.
+fn append_json_use(
+    queue: LogQueue,
+    size: &FileSize,
+    file_use: Option<&FileUse>,
+    text: &mut String,
+) -> AllocResult<()>
+    ensures { OnOk result (string_bytes text.new ≡ string_bytes text.old ++ json_line (use_data queue size.now (option_copied file_use.entry))) }
+{
+    let (name, bytes, file, live) = (QueueName(queue), size.len, size.seq, live_in(file_use));
+    write!(
+        text,
+        "{{\"bytes\":{bytes},\"file\":{file},\"live\":{live},\"queue\":{name},\"regions\":"
+    )?;
+    append_region_numbers(file_use, text)?;
+    text.push_str("}\n")
+}
+
+/// Appends the regions whose oldest file it is, as a list.
+fn append_region_numbers(file_use: Option<&FileUse>, text: &mut String) -> AllocResult<()>
+    ensures { OnOk result (string_bytes text.new
+        ≡ string_bytes text.old ++ compact_text (list_of (map count (regions_of (option_copied file_use.entry))))) }
+{
+    match file_use {
+        Some(file_use) => append_numbers(file_use.regions.as_slice(), text),
+        None => text.push_str("[]"),
+    }
+}

@@ -1,0 +1,25 @@
+//! The lines of what is found in log files, as text and as JSON, and a picture of the files. Nothing here changes a file.
+#![tactic(auto)]
+
+pub mod form;
+pub mod json;
+pub mod json_dump;
+pub mod json_files;
+mod json_items;
+pub mod json_tables;
+pub mod picture;
+pub mod print_error;
+pub mod regions;
+pub mod uses;
+
+pub use form::Form;
+pub use json::{QueueName, quoted, quoted_reason};
+pub use json_dump::JsonDump;
+pub use json_files::{
+    append_json_kept, append_json_missing_files, append_json_no_files, append_json_scan,
+};
+pub use json_tables::{append_json_region, append_json_totals, append_json_uses};
+pub use picture::append_picture;
+pub use print_error::{PrintError, PrintResult, write_text};
+pub use regions::{append_keys, append_region};
+pub use uses::{FileUse, FileUses, append_uses, uses_of};

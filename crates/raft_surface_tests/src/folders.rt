@@ -1,0 +1,64 @@
+//! The files of an engine in a folder, from `raft_folder`.
+
+use raft_base::{Error, FileId, FileSeq, LogQueue};
+use raft_files::EngineFiles;
+use raft_folder::{
+    FolderError, FolderFile, FolderFiles, FolderHost, FolderResult, FoundFolder, KeptTail,
+    ReadFolder,
+};
+
+type LogFiles = Vec<(FileSeq, Vec<u8>)>;
+
+/// Makes each call of an opened folder.
+fn calls<R: FolderHost>(files: &FolderFiles<'_, R>, id: FileId) -> FolderResult<()> {
+    let listed: Vec<FolderFile> = FolderFiles::list(files, id.queue)?;
+    for file in listed {
+        let (_seq, _len): (FileSeq, u64) = (file.seq, file.len);
+    }
+    let _path: String = FolderFiles::path_of(files, id)?;
+    for tail in FolderFiles::kept(files) {
+        let KeptTail { len, kept } = tail;
+        let (_len, _kept): (&usize, &String) = (len, kept);
+    }
+    Ok(())
+}
+
+/// Opens a folder.
+fn found(rt: &HostRuntime, path: &str) -> FolderResult<(LogFiles, LogFiles)> {
+    let found: FoundFolder<'_, HostRuntime> = FolderFiles::open(rt, path)?;
+    is_of_engine(&found.files);
+    calls(&found.files, FileId::new(LogQueue::Append, 1))?;
+    Ok((found.append, found.rewrite))
+}
+
+fn is_of_engine<F: EngineFiles>(_files: &F) {}
+
+/// Opens a folder to read it.
+fn read<'a, R: FolderHost>(rt: &'a R, path: &'a str) -> FolderResult<LogFiles> {
+    let folder: ReadFolder<'a, R> = ReadFolder::open(rt, path)?;
+    let _listed: Vec<FolderFile> = ReadFolder::list(&folder, LogQueue::Append)?;
+    let _path: String = ReadFolder::path_of(&folder, FileId::new(LogQueue::Append, 1))?;
+    ReadFolder::bytes_of_files(&folder, LogQueue::Rewrite)
+}
+
+/// Returns the path that a refusal names.
+fn path_in(error: FolderError) -> Option<String> {
+    match error {
+        FolderError::System(path, _error) => Some(path),
+        FolderError::Locked(path) | FolderError::Misnamed(path) | FolderError::Foreign(path) => {
+            Some(path)
+        }
+        FolderError::Refused(path, _why) => Some(path),
+        FolderError::Memory => None,
+    }
+}
+
+#[test]
+fn folders_are_handed_on(rt: HostRuntime) {
+    let opened: FolderResult<(LogFiles, LogFiles)> = found(&rt, "no_such_folder/folder");
+    assert!(rt; matches!(opened, Err(FolderError::System(_, _))));
+    assert!(rt; path_in(FolderError::Memory).is_none());
+    let refused = read(&rt, "no_such_folder");
+    assert!(rt; matches!(refused, Err(FolderError::System(_, _))));
+    assert!(rt; matches!(Error::from(FolderError::Memory), Error::Memory));
+}

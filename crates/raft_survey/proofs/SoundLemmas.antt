@@ -1,0 +1,129 @@
+-- Files of which scans say nothing are sound.
+use Rattle.std.proofs.Common.{◌≡◌, ℕ, ◌+◌, List, [], ◌∷◌, ◌++◌, length, refl, sym, ap, ◌∙◌, subst, append_assoc, append-nil}
+use Rattle.std.specs.List.{AllByRecursion}
+use Rattle.raft_base.specs.declared.pipe_log.FileId.{FileId}
+use Rattle.raft_base.specs.declared.pipe_log.LogFileContext.{LogFileContext}
+use Rattle.raft_base.specs.declared.pipe_log.LogQueue.{LogQueue}
+use Rattle.raft_base.specs.declared.pipe_log.Version.{Version}
+use Rattle.raft_records.specs.FilePart.{Part, part_of}
+use Rattle.raft_records.specs.Item.{Item, Content, entries, command, pair}
+use Rattle.raft_reading.specs.QueueRead.{file_of}
+use Rattle.raft_reading.specs.declared.queue_files.FileSize.{FileSize}
+use Rattle.raft_listing.specs.Scanned.{AreSaidOf, IsSaidOfContent, IsScanned}
+use Rattle.raft_listing.specs.SoundParts.{AreRead, IsContentRead, AreSoundBetween}
+use Rattle.raft_listing.specs.Walks.{AreVisited, IsWalkFrom, Met, batch, damage}
+use Rattle.raft_listing.specs.declared.damage.DamageKind.TheVariants.{Batch}
+use Rattle.raft_listing.specs.declared.scan.FileScan.{FileScan}
+use Rattle.raft_survey.specs.FileScans.{AreScansOf, IsScanOf}
+use Rattle.raft_survey.specs.FileWalks.{AreWalkedFrom, HasWalkedFile}
+use Rattle.raft_survey.specs.SoundFiles.{AreSoundFiles, AreSoundParts, IsSoundFile}
+
+-- where nothing stands together, nothing stands in either part
+none_in_front : {X : Type 0} (xs ys : List X) → xs ++ ys ≡ [] → xs ≡ []
+none_in_front [] ys none = refl
+none_in_front (x ∷ xs) ys none = absurd cc
+
+none_behind : {X : Type 0} (xs ys : List X) → xs ++ ys ≡ [] → ys ≡ []
+none_behind [] ys none = none
+none_behind (x ∷ xs) ys none = absurd cc
+
+-- what nothing is said of can be read
+content_none : (part : Part) (offset region : ℕ) (content : Content) → IsSaidOfContent part offset region content [] → IsContentRead part content
+content_none part offset region (entries es) are = are
+content_none part offset region (command c) are = tt
+content_none part offset region (pair p) are = tt
+
+-- items of which nothing is said can be read
+said_none : (part : Part) (offset : ℕ) (items : List Item) → AreSaidOf part offset items [] → AreRead part items
+said_none part offset [] are = tt
+said_none part offset (item ∷ items) are =
+    let first = subst (IsSaidOfContent part offset item.raft_group_id item.content) (none_in_front are.0 are.1 (sym are.2)) are.3 in
+    let rest = subst (AreSaidOf part offset items) (none_behind are.0 are.1 (sym are.2)) are.4 in
+    (content_none part offset item.raft_group_id item.content first, said_none part offset items rest)
+
+-- what is said stays
+scan_none : (part : Part) (at : ℕ) (m : Met) (old new : FileScan) → IsScanned old part at m new → new.damages.items ≡ [] → old.damages.items ≡ []
+scan_none part at m old new scanned none = none_in_front old.damages.items scanned.said (sym scanned.behind ∙ none)
+
+visits_none : (part : Part) (ms : List (ℕ × Met)) (old new : FileScan) → AreVisited IsScanned part old ms new → new.damages.items ≡ [] → old.damages.items ≡ []
+visits_none part [] old new visited none = ap (λ (s : FileScan). s.damages.items) visited ∙ none
+visits_none part (m ∷ ms) old new visited none = scan_none part m.0 m.1 old visited.0 visited.1 (visits_none part ms visited.0 new visited.2 none)
+
+-- a walk of which nothing is said meets sound batches alone, up to the end
+walk_sound : (part : Part) (at : ℕ) (ms : List (ℕ × Met)) (old new : FileScan) → IsWalkFrom part at ms → AreVisited IsScanned part old ms new → new.damages.items ≡ []
+    → (batches : List (List Item)) × AreSoundBetween part at (length part.bytes) batches
+walk_sound part at [] old new walk visited none = ([], walk)
+walk_sound part at ((a, batch items next) ∷ ms) old new walk visited none =
+    let between = visits_none part ms visited.0 new visited.2 none in
+    let scanned = visited.1 in
+    let said : scanned.said ≡ [] = none_behind old.damages.items scanned.said (sym scanned.behind ∙ between) in
+    let read = said_none part (part.offset + a) items (subst (AreSaidOf part (part.offset + a) items) said scanned.is_said) in
+    let rest = walk_sound part next ms visited.0 new walk.3 visited.2 none in
+    (items ∷ rest.0, (next, walk.2, read, rest.1))
+walk_sound part at ((a, damage next e) ∷ ms) old new walk visited none =
+    let between = visits_none part ms visited.0 new visited.2 none in
+    let scanned = visited.1 in
+    let said : scanned.said ≡ [] = none_behind old.damages.items scanned.said (sym scanned.behind ∙ between) in
+    let one = scanned.is_said in
+    let never : record { offset = part.offset + a; kind = Batch e } ∷ [] ≡ [] = sym one ∙ said in absurd cc
+
+-- so it is of parts
+walked_none : (file : LogFileContext) (offset : ℕ) (parts : List (List ℕ)) (old new : FileScan) → AreWalkedFrom IsScanned file offset parts old new → new.damages.items ≡ [] → old.damages.items ≡ []
+walked_none file offset [] old new walked none = ap (λ (s : FileScan). s.damages.items) walked ∙ none
+walked_none file offset (bytes ∷ parts) old new walked none =
+    visits_none (part_of file offset bytes) walked.1.met old walked.0 walked.1.visited (walked_none file (offset + length bytes) parts walked.0 new walked.2 none)
+
+parts_sound : (file : LogFileContext) (offset : ℕ) (parts : List (List ℕ)) (old new : FileScan) → AreWalkedFrom IsScanned file offset parts old new → new.damages.items ≡ [] → AreSoundParts file offset parts
+parts_sound file offset [] old new walked none = tt
+parts_sound file offset (bytes ∷ parts) old new walked none = (
+  walk_sound (part_of file offset bytes) 0 walked.1.met old walked.0 walked.1.is_walk walked.1.visited (walked_none file (offset + length bytes) parts walked.0 new walked.2 none),
+  parts_sound file (offset + length bytes) parts walked.0 new walked.2 none,
+)
+
+-- the context of a file
+pub context_of : (version : Version) (file : LogFileContext) (id made : FileId) → file ≡ record { id = id; version = version } → id ≡ made → file ≡ record { id = made; version = version }
+context_of version file id made is same = is ∙ ap (λ (i : FileId). record { id = i; version = version }) same
+
+module _ (Gives : FileId → ℕ → List ℕ → Type 0) (queue : LogQueue) (version : Version) where
+  -- of a file
+  file_sound : (size : FileSize) (scan : FileScan) → IsScanOf Gives queue version size scan → scan.damages.items ≡ []
+      → IsSoundFile (Gives (file_of queue size.seq)) (record { id = file_of queue size.seq; version = version }) size.len
+  file_sound size scan is none = record {
+    bytes = is.walked.bytes;
+    read = is.walked.read;
+    whole = is.walked.whole;
+    parts = is.walked.parts ++ is.walked.last ∷ [];
+    all = is.walked.all;
+    sound = parts_sound (record { id = file_of queue size.seq; version = version }) 0 (is.walked.parts ++ is.walked.last ∷ []) is.first scan is.walked.walked none;
+  }
+
+  -- a scan that has seen nothing yet, and was shown the file
+  pub scan_of : (size : FileSize) (file : LogFileContext) (begun scan : FileScan) → file ≡ record { id = file_of queue size.seq; version = version } → begun.batches ≡ 0 → begun.read ≡ size.len → begun.unseen ≡ 0 → begun.damages.items ≡ [] → begun.seq ≡ size.seq → begun.len ≡ size.len
+      → HasWalkedFile IsScanned (Gives file.id) file size.len begun scan → IsScanOf Gives queue version size scan
+  scan_of size file begun scan is batches read unseen undamaged seq len walked = record {
+    first = begun;
+    batches = batches;
+    read = read;
+    unseen = unseen;
+    undamaged = undamaged;
+    seq = seq;
+    len = len;
+    walked = subst (λ (f : LogFileContext). HasWalkedFile IsScanned (Gives f.id) f size.len begun scan) is walked;
+  }
+
+  -- of the files of a queue
+  pub files_sound : (sizes : List FileSize) (scans : List FileScan) → AreScansOf Gives queue version sizes scans → AllByRecursion (λ (s : FileScan). s.damages.items ≡ []) scans → AreSoundFiles Gives queue version sizes
+  files_sound [] [] are none = tt
+  files_sound [] (scan ∷ scans) are none = absurd are
+  files_sound (size ∷ sizes) [] are none = absurd are
+  files_sound (size ∷ sizes) (scan ∷ scans) are none = (file_sound size scan are.0 none.0, files_sound sizes scans are.1 none.1)
+
+  -- the scans so far are those of the first files: with scans of those that are left they are all
+  abbrev pub AreBegun : List FileSize → List FileSize → List FileScan → Type 0
+  AreBegun all left scans = (rest : List FileScan) → AreScansOf Gives queue version left rest → AreScansOf Gives queue version all (scans ++ rest)
+
+  pub one_more : (all left : List FileSize) (size : FileSize) (scans : List FileScan) (scan : FileScan) → AreBegun all (size ∷ left) scans → IsScanOf Gives queue version size scan → AreBegun all left (scans ++ scan ∷ [])
+  one_more all left size scans scan begun is rest are = subst (AreScansOf Gives queue version all) (sym (append_assoc scans (scan ∷ []) rest)) (begun (scan ∷ rest) (is, are))
+
+  pub all_scanned : (all : List FileSize) (scans : List FileScan) → AreBegun all [] scans → AreScansOf Gives queue version all scans
+  all_scanned all scans begun = subst (AreScansOf Gives queue version all) (append-nil scans) (begun [] tt)

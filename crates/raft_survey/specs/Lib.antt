@@ -1,0 +1,14 @@
+-- walks through files that are read in pieces
+pub mod FileWalks
+-- the bytes of both queues, as reads gave them
+pub mod QueuesRead
+-- what scans of files say
+pub mod FileScans
+-- the lines of a check
+pub mod Reported
+-- what is dumped of files
+pub mod DumpedFiles
+-- files in which everything can be read
+pub mod SoundFiles
+-- numbers in a row
+pub mod Rows

@@ -1,0 +1,43 @@
+-- What the commands do with found files.
+use Rattle.std.specs.Prelude.{◌≡◌, ◌↔◌, ⊤, ℕ, List, codes, Option, Bool}
+use Rattle.std.specs.Io.KnownBytes.{Appends, Keeps}
+use Rattle.raft_base.specs.declared.pipe_log.FileId.{FileId}
+use Rattle.raft_base.specs.declared.pipe_log.Version.{Version}
+use Rattle.raft_accessor.specs.Accessor.{Accessor}
+use Rattle.raft_reading.specs.declared.queue_files.FileSize.{FileSize}
+use Rattle.raft_recover.specs.TableLines.{PrintsTables}
+use Rattle.raft_listing.specs.declared.selection.Selection.{Selection}
+use Rattle.raft_report.specs.declared.form.Form.{Form}
+use Rattle.raft_survey.specs.DumpedFiles.{AreDumped}
+use Rattle.raft_survey.specs.QueuesRead.{AreBothRead}
+use Rattle.raft_inspect.specs.Checked.{IsChecked}
+use Rattle.raft_inspect.specs.Openings.{AreTablesOf}
+use Rattle.raft_inspect.specs.Printed.{verdict_word}
+use Rattle.raft_inspect.specs.PrintedForms.{check_lines}
+use Rattle.raft_inspect.specs.declared.findings.Findings.{Findings}
+use Rattle.raft_inspect.specs.declared.opening.Opening.{Opening}
+use Rattle.raft_inspect.specs.declared.opening.Opening.TheVariants.{Opens, Refuses}
+
+-- files of these sizes were checked, the lines of what was found were written and nothing else, and the status is 0 exactly where the last word is `sound`
+pub record IsCheckDone (Gives : FileId → ℕ → List ℕ → Type 0) (version : Version) (workers : ℕ) (append rewrite : List FileSize) (form : Form) (before after : Option (List ℕ)) (status : ℕ) : Type 0 where
+  pub found : Findings
+  pub checked : IsChecked Gives version workers append rewrite found
+  pub written : Appends before after (check_lines form found)
+  pub verdict : (status ≡ 0) ↔ (verdict_word found ≡ codes "sound")
+
+-- what stands in files of these sizes was dumped to lines, as text, and all of these are in the output
+pub record IsDumpDone (Gives : FileId → ℕ → List ℕ → Type 0) (version : Version) (append rewrite : List FileSize) (selection : Selection) (before after : Option (List ℕ)) (is_damaged : Bool) : Type 0 where
+  pub lines : Option (List ℕ)
+  pub dumped : AreDumped Gives version append rewrite selection before lines is_damaged
+  pub whole : Keeps lines after
+
+-- tables that an engine would have of files of these sizes were written, and nothing else
+pub record AreRegionsPrinted (Gives : FileId → ℕ → List ℕ → Type 0) (version : Version) (append rewrite : List FileSize) (before after : Option (List ℕ)) : Type 0 where
+  pub tables : Accessor
+  pub read : AreBothRead Gives append rewrite (AreTablesOf version tables)
+  pub written : PrintsTables tables before after
+
+-- files are opened, and not refused
+abbrev pub IsOpened : Opening → Type 0
+IsOpened (Opens recovered) = ⊤
+IsOpened (Refuses error) = ⊥

@@ -1,0 +1,6 @@
+-- the files that a command looks into
+pub mod Sources
+-- what the commands do with found files
+pub mod Commands
+-- what outputs hold
+pub mod Outputs

@@ -1,0 +1,74 @@
+//! `raftlog check`.
+
+ghost use Rattle.std.specs.Prelude.{◌≡◌, ◌↔◌, ◌<◌, ◌≤◌, codes, IfOk};
+ghost use Rattle.raft_inspect.specs.Printed.{verdict_word};
+ghost use Rattle.raftlog.specs.Commands.{IsCheckDone};
+
+use crate::errors::ToolResult;
+use crate::host::Host;
+use crate::options::{form_of, version_of, workers_of};
+use crate::source::find;
+use crate::tools::{DONE, WRONG};
+use clap::ArgMatches;
+use raft_base::Version;
+use raft_inspect::{Findings, print_check};
+use raft_reading::ReadFiles;
+use raft_report::Form;
+use raft_survey::BothSizes;
+use std::io::Write;
+use std::thread::Threads;
+
+/// Says what can't be read, and what an opening would do.
+///
+/// # Errors
+///
+/// Those of the files and of the output, `Memory`.
+pub(crate) fn check<'a, R: Host, W: Write>(
+    rt: &'a R,
+    words: &ArgMatches<'a>,
+    out: &mut W,
+) -> ToolResult<u8> {
+    let found = find(rt, words, 2)?;
+    let (version, workers, form) = (version_of(words), workers_of(rt, words), form_of(words));
+    let mut out = found.source.over_bar(out);
+    let checked = check_files(
+        rt,
+        &found.source,
+        version,
+        &found.sizes,
+        workers,
+        form,
+        &mut out,
+    );
+    found.source.end_progress();
+    checked
+}
+
+/// Says what can't be read of found files, and what an opening would do with them.
+fn check_files<R: Threads + Sync + AllocGlobal, S: ReadFiles, W: Write>(
+    rt: &R,
+    source: &S,
+    version: Version,
+    sizes: &BothSizes,
+    workers: usize,
+    form: Form,
+    out: &mut W,
+) -> ToolResult<u8>
+    requires { (0 < workers) × (workers ≤ 256) }
+    ensures { IfOk result (IsCheckDone (S.gives source.now) version workers sizes.now.append.items
+        sizes.now.rewrite.items form (W.contents out.old) (W.contents out.new)) }
+{
+    let findings = print_check(rt, rt.alloc(), source, version, sizes, workers, form, out)?;
+    Ok(status_of(&findings))
+}
+
+/// Returns the status of a check: no files are nothing that is sound.
+fn status_of(findings: &Findings) -> u8
+    ensures { (result ≡ 0) ↔ (verdict_word findings.now ≡ codes "sound") }
+{
+    if findings.verdict() == "sound" {
+        DONE
+    } else {
+        WRONG
+    }
+}

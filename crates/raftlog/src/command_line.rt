@@ -1,0 +1,354 @@
+//! The words of the commands that look into a folder.
+
+use clap::{Arg, ArgAction, Command, value_parser};
+use raft_base::AllocResult;
+use std::alloc::Global;
+
+/// The version that the program says.
+const VERSION: &str = "0.1.0";
+
+/// What `--help` says behind the commands.
+const AFTER_HELP: &str = "\
+To see what is wrong with a folder: raftlog check FOLDER. To see which entries stand where: raftlog dump FOLDER.
+Only cut --yes changes log files (see its help). Beside it files --svg alone writes a file, which has to be a new one.
+A queue is append (new batches) or rewrite (records that were moved). Offsets are bytes from the beginning of a file.
+
+Status: 0 it is done; of check and dump also: nothing is wrong with what was looked at; of regions, files and cut also: an engine can be opened over the
+files, though it may cut off a torn end first. 1 check or dump found that something is wrong (check also: there are no files), or a line on standard error
+says why it isn't done. 2 the words ask for nothing that can be done.";
+
+/// What `check --help` says behind the options.
+const CHECK_HELP: &str = "\
+Below the line of a file stands one for each place in it where something can't be read: entries that are lost, by region and first and last
+index, or why no batch can be read there. Of such a batch nothing else is known, neither its entries, nor its keys, nor what it
+deletes: to see which entries it had, list those of a region before and behind it (raftlog dump --region REGION). Behind such a place the reading goes on
+only where the header there is whole and says where the next batch begins; else no byte up to the end of the file is looked at, as a line says then, and the batches
+there may be whole. Many such places in one file may mean that it has another number than it was written with, or another --format.
+Then comes what an engine would do that is opened over the files: refuse them, or open them, and cut off the end of a queue's last
+file first, as a crash leaves one. Where it refuses a batch that can be read, since it can't follow those before it, some of these are gone: look at the end
+of the file before.
+
+The last line is `sound` (status 0); or, with status 1, `damaged`, also where all that is wrong is an end that would be cut off; or `empty`, where there are
+no files.
+
+What can't be seen, so that `sound` is said: that files are gone in front of a queue's first or behind its last one, or all of a queue's; that a file
+was renamed to the other queue's name, where its records can be read there; that a file is empty, or was cut where a batch ends, unless an entry behind
+it can't follow then. So all files may be empty, or the last batches of any file gone that have no entries. Of files named one by one what
+isn't named isn't looked for.
+
+Append files alone that can be read to their ends are read in pieces. Else all bytes of the files are in memory, as an opening has them.";
+
+/// What `regions --help` says behind the options.
+const REGIONS_HELP: &str = "\
+A line is `7 entries 3..7 keys 1 append 2 rewrite -`: region 7 has the entries with the indexes 3 to 6 and one key, and its oldest record stands in append file 2;
+it has none in a rewrite file. `cleaned 4 9` are regions whose records are gone (`cleaned -`: none are). `live 50 0` counts the records that are still needed:
+50 of the append queue and none of the rewrite queue.";
+
+/// What `dump --help` says behind the options.
+const DUMP_HELP: &str = "\
+`entries 3..7` are those with the indexes 3 to 6. --from and --to select among entries alone, and other items are printed as without them. Values and entries
+are printed in quotes where all is printable ASCII and no quote, else as 0x and hex digits.
+Numbers of files that are missing, bytes at which no batch can be read, and with --values entries that can't be, have a line of their own, and the status is
+then 1. So it is where nothing is printed of a --region.";
+
+/// What `files --help` says behind the options.
+const FILES_HELP: &str = "\
+Of each file: its bytes, how much of it are bytes of entries that are live (items, keys, values and headers aren't counted), and the regions
+whose oldest file it is. A file can go once it is the oldest one of no region, and no older one is left.
+The picture of --svg is written to a file that isn't there yet; one that is there stays as it is, and the status is 1.";
+
+/// What `cut --help` says behind the options.
+const CUT_HELP: &str = "\
+What is cut off from a file is kept beside it, as NUMBER.raftlog.OFFSET.cut or NUMBER.rewrite.OFFSET.cut, and where one is there, with other bytes, as
+NUMBER.raftlog.OFFSET.2.cut. An engine that is opened over the folder does the same. --yes makes a file LOCK in the folder, and leaves it there. Status 1: the files
+are refused, and nothing is cut, or it isn't done.";
+
+/// What `recover --help` says behind the options.
+const RECOVER_HELP: &str = "\
+Files that are refused are refused in a word. Which file it is, where in it and why, and both queues together: raftlog check (or regions) --append SEQ=PATH ..
+Status: 0 the lines are printed; 1 it is refused; 2 the words aren't these.";
+
+/// What `batch --help` says behind the options.
+const BATCH_HELP: &str = "\
+An item batch is a batch without its header and its entries. Whole files: raftlog dump --append SEQ=PATH ..
+Status: 0 the lines are printed; 1 it is refused; 2 the words aren't these.";
+
+/// How a word of a command is read.
+enum Kind {
+    /// It stands without a name in front, and may be left out.
+    Optional,
+    /// It stands without a name in front, and has to be there.
+    Needed,
+    /// So it is, as often as is wanted.
+    Rest,
+    /// Its name alone, `--json`.
+    Flag,
+    /// Its name, and a text behind it.
+    Text,
+    /// So it is, as often as is wanted.
+    Texts,
+    /// Its name, and a number behind it.
+    Number,
+    /// Its name, and a number behind it from 1 to this one.
+    UpTo(i64),
+}
+
+/// A word of a command: its name, what stands for its value in the help, and what it says there.
+struct Word {
+    name: &'static str,
+    value: &'static str,
+    kind: Kind,
+    help: &'static str,
+}
+
+/// A command, with its words and what its help says.
+struct CommandWords {
+    name: &'static str,
+    about: &'static str,
+    words: &'static [&'static Word],
+    after: &'static str,
+}
+
+const FOLDER: Word = Word {
+    name: "folder",
+    value: "FOLDER",
+    kind: Kind::Optional,
+    help: "The folder with the files of both queues",
+};
+
+const CUT_FOLDER: Word = Word {
+    name: "folder",
+    value: "FOLDER",
+    kind: Kind::Needed,
+    help: "The folder with the files of both queues",
+};
+
+const APPEND: Word = Word {
+    name: "append",
+    value: "SEQ=PATH",
+    kind: Kind::Texts,
+    help: "A file of the append queue: its number and its path",
+};
+
+const REWRITE: Word = Word {
+    name: "rewrite",
+    value: "SEQ=PATH",
+    kind: Kind::Texts,
+    help: "A file of the rewrite queue: its number and its path",
+};
+
+const JSON: Word = Word {
+    name: "json",
+    value: "",
+    kind: Kind::Flag,
+    help: "Prints lines of JSON",
+};
+
+const FORMAT: Word = Word {
+    name: "format",
+    value: "VERSION",
+    kind: Kind::UpTo(2),
+    help: "The format version of the files: 1 or 2; else 2",
+};
+
+const WORKERS: Word = Word {
+    name: "workers",
+    value: "COUNT",
+    kind: Kind::UpTo(256),
+    help: "How many threads recover the tables at most: 1 to 256; else as many as there are processors",
+};
+
+const REGION: Word = Word {
+    name: "region",
+    value: "REGION",
+    kind: Kind::Number,
+    help: "Prints this region alone; regions prints it with its keys",
+};
+
+const FROM: Word = Word {
+    name: "from",
+    value: "INDEX",
+    kind: Kind::Number,
+    help: "Prints entries from this index on",
+};
+
+const TO: Word = Word {
+    name: "to",
+    value: "INDEX",
+    kind: Kind::Number,
+    help: "Prints entries below this index",
+};
+
+const VALUES: Word = Word {
+    name: "values",
+    value: "",
+    kind: Kind::Flag,
+    help: "Prints values too; dump also the bytes of entries",
+};
+
+const PICTURE: Word = Word {
+    name: "svg",
+    value: "FILE",
+    kind: Kind::Text,
+    help: "Draws them as a picture in SVG, which is written to this new file",
+};
+
+const DRY_RUN: Word = Word {
+    name: "dry-run",
+    value: "",
+    kind: Kind::Flag,
+    help: "Changes nothing, and says what would be cut off",
+};
+
+const YES: Word = Word {
+    name: "yes",
+    value: "",
+    kind: Kind::Flag,
+    help: "Cuts it off",
+};
+
+const QUEUE: Word = Word {
+    name: "queue",
+    value: "queue",
+    kind: Kind::Needed,
+    help: "append or rewrite: to which of the two it belongs",
+};
+
+const SEQ: Word = Word {
+    name: "seq",
+    value: "seq",
+    kind: Kind::Needed,
+    help: "The number of the file",
+};
+
+const VERSION_WORD: Word = Word {
+    name: "version",
+    value: "version",
+    kind: Kind::Needed,
+    help: "1 or 2: the format version",
+};
+
+const WORKERS_WORD: Word = Word {
+    name: "workers",
+    value: "workers",
+    kind: Kind::Needed,
+    help: "1 to 256: how many threads read the files at most",
+};
+
+const FILES_WORD: Word = Word {
+    name: "seq=path",
+    value: "seq=path",
+    kind: Kind::Rest,
+    help: "The number of a file and its path; files are given by rising numbers",
+};
+
+/// The commands, in the order of the help. The words of the last two are read elsewhere: these are for their help alone.
+const COMMANDS: [CommandWords; 7] = [
+    CommandWords {
+        name: "check",
+        about: "Says of each file what can't be read, and what an opening would do",
+        words: &[&FOLDER, &APPEND, &REWRITE, &JSON, &FORMAT, &WORKERS],
+        after: CHECK_HELP,
+    },
+    CommandWords {
+        name: "regions",
+        about: "Prints the tables that an engine would have which is opened over the files",
+        words: &[
+            &FOLDER, &REGION, &VALUES, &APPEND, &REWRITE, &JSON, &FORMAT, &WORKERS,
+        ],
+        after: REGIONS_HELP,
+    },
+    CommandWords {
+        name: "dump",
+        about: "Prints the batches of the files, item by item",
+        words: &[
+            &FOLDER, &REGION, &FROM, &TO, &VALUES, &APPEND, &REWRITE, &JSON, &FORMAT, &WORKERS,
+        ],
+        after: DUMP_HELP,
+    },
+    CommandWords {
+        name: "files",
+        about: "Prints how much of each file is live, and which regions hold it",
+        words: &[
+            &FOLDER, &PICTURE, &APPEND, &REWRITE, &JSON, &FORMAT, &WORKERS,
+        ],
+        after: FILES_HELP,
+    },
+    CommandWords {
+        name: "cut",
+        about: "Cuts off what an opening would cut off, and keeps it in files beside",
+        words: &[&CUT_FOLDER, &DRY_RUN, &YES, &JSON, &FORMAT, &WORKERS],
+        after: CUT_HELP,
+    },
+    CommandWords {
+        name: "recover",
+        about: "Prints the tables that files of one queue give, which are named one by one",
+        words: &[&QUEUE, &VERSION_WORD, &WORKERS_WORD, &FILES_WORD],
+        after: RECOVER_HELP,
+    },
+    CommandWords {
+        name: "batch",
+        about: "Prints the items of an item batch, which it reads from standard input",
+        words: &[&QUEUE, &SEQ, &VERSION_WORD],
+        after: BATCH_HELP,
+    },
+];
+
+/// Makes the parser of the words.
+///
+/// # Errors
+///
+/// Want of memory.
+pub(crate) fn command_line<'a>(alloc: Global) -> AllocResult<Command<'a>> {
+    let mut command = Command::new(alloc, "raftlog")
+        .bin_name("raftlog")?
+        .about("Looks into the log files of an engine")
+        .version(VERSION)
+        .propagate_version(true)
+        .no_binary_name(true)
+        .subcommand_required(true)
+        .after_help(AFTER_HELP);
+    for words in &COMMANDS {
+        command = command.subcommand(command_of(alloc, words)?)?;
+    }
+    Ok(command)
+}
+
+/// Makes the parser of a command.
+fn command_of<'a>(alloc: Global, words: &CommandWords) -> AllocResult<Command<'a>> {
+    let mut command = Command::new(alloc, words.name)
+        .about(words.about)
+        .after_help(words.after);
+    for word in words.words {
+        command = command.arg(arg_of(alloc, word))?;
+    }
+    Ok(command)
+}
+
+/// Makes the parser of a word.
+fn arg_of<'a>(alloc: Global, word: &Word) -> Arg<'a> {
+    let arg = Arg::new(alloc, word.name).help(word.help);
+    match word.kind {
+        Kind::Optional => arg.value_name(word.value),
+        Kind::Needed => arg.value_name(word.value).required(true),
+        Kind::Rest => arg
+            .value_name(word.value)
+            .required(true)
+            .action(ArgAction::Append),
+        Kind::Flag => arg.long(word.name).action(ArgAction::SetTrue),
+        Kind::Text => arg.long(word.name).value_name(word.value),
+        Kind::Texts => arg
+            .long(word.name)
+            .value_name(word.value)
+            .action(ArgAction::Append),
+        Kind::Number => arg
+            .long(word.name)
+            .value_name(word.value)
+            .value_parser(value_parser!(u64))
+            .allow_negative_numbers(true), // they are refused as numbers, not as options
+        Kind::UpTo(most) => arg
+            .long(word.name)
+            .value_name(word.value)
+            .value_parser(value_parser!(u64).range(1..=most)),
+    }
+}

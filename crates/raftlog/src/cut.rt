@@ -1,0 +1,112 @@
+//! `raftlog cut`.
+
+ghost use Rattle.std.specs.Prelude.{◌≡◌, ◌↔◌};
+ghost use Rattle.raftlog.specs.Commands.{IsOpened};
+
+use crate::errors::{ToolError, ToolResult};
+use crate::host::Host;
+use crate::options::{form_of, version_of, workers_of};
+use crate::source::{in_folder, refuse_file};
+use crate::streams::hold_streams;
+use crate::tools::{DONE, WRONG};
+use clap::ArgMatches;
+use raft_folder::{FolderFiles, ReadFolder};
+use raft_inspect::{Opening, cut_as_opened, print_opening, try_opening};
+use raft_report::{Form, append_json_kept, write_text};
+use std::io::Write;
+
+/// Cuts off what an opening would cut off, or says what that is.
+///
+/// # Errors
+///
+/// `Misused` where the words say neither which of both, or both; those of the folder and of the output; `Memory`. What was cut off
+/// by then is said.
+pub(crate) fn cut<'a, R: Host, W: Write>(
+    rt: &'a R,
+    words: &ArgMatches<'a>,
+    out: &mut W,
+) -> ToolResult<u8> {
+    let Some(path) = words.get_str("folder") else {
+        return Err(ToolError::Misused("name a folder"));
+    };
+    match (words.get_flag("dry-run"), words.get_flag("yes")) {
+        (true, false) => say_cut(rt, words, path, out),
+        (false, true) => cut_folder(rt, words, path, out),
+        (true, true) => Err(ToolError::Misused("say --dry-run or --yes, and not both")),
+        (false, false) => Err(ToolError::Misused(
+            "cut changes files: say --dry-run to see what it would do, or --yes",
+        )),
+    }
+}
+
+/// Says what would be cut off.
+fn say_cut<'a, R: Host, W: Write>(
+    rt: &'a R,
+    words: &ArgMatches<'a>,
+    path: &'a str,
+    out: &mut W,
+) -> ToolResult<u8> {
+    let found = in_folder(rt, path, 1)?;
+    let (version, workers, alloc) = (version_of(words), workers_of(rt, words), rt.alloc());
+    let (source, sizes) = (&found.source, &found.sizes);
+    let opening = try_opening(rt, alloc, source, version, sizes, workers);
+    source.end_progress();
+    let opening = opening?;
+    print_opening(form_of(words), alloc, &opening, out)?;
+    Ok(status_of(&opening))
+}
+
+/// Cuts off what an opening would, and says where it is kept. A folder that isn't there is refused, and not made.
+fn cut_folder<R: Host, W: Write>(
+    rt: &R,
+    words: &ArgMatches<'_>,
+    path: &str,
+    out: &mut W,
+) -> ToolResult<u8> {
+    let _streams = hold_streams(rt)?;
+    be_there(rt, path)?;
+    let found = FolderFiles::open(rt, path)?;
+    let (mut files, append, rewrite) = (found.files, found.append, found.rewrite);
+    let (version, workers, form) = (version_of(words), workers_of(rt, words), form_of(words));
+    let alloc = rt.alloc();
+    let cut = cut_as_opened(
+        rt, alloc, form, version, append, rewrite, workers, &mut files, out,
+    );
+    print_kept(rt, form, &files, out)?;
+    Ok(status_of(&cut?))
+}
+
+/// Returns the status for what an opening does.
+fn status_of(opening: &Opening) -> u8
+    ensures { (result ≡ 0) ↔ IsOpened opening.now }
+{
+    match opening {
+        Opening::Opens(_) => DONE,
+        Opening::Refuses(_) => WRONG,
+    }
+}
+
+/// Refuses a folder that isn't there: who opens one to write to it makes it.
+fn be_there<R: Host>(rt: &R, path: &str) -> ToolResult<()> {
+    refuse_file(rt, path)?;
+    let _folder = ReadFolder::open(rt, path)?;
+    Ok(())
+}
+
+/// Prints what was cut off, and which files keep it.
+fn print_kept<R: Host, W: Write>(
+    rt: &R,
+    form: Form,
+    files: &FolderFiles<'_, R>,
+    out: &mut W,
+) -> ToolResult<()> {
+    let mut text = String::new(rt.alloc());
+    for tail in files.kept() {
+        match form {
+            Form::Text => writeln!(text, "cut: {} bytes are kept in {}", tail.len, tail.kept)?,
+            Form::Json => append_json_kept(rt.alloc(), tail.len, tail.kept.as_str(), &mut text)?,
+        }
+    }
+    write_text(out, text.as_str())?;
+    Ok(())
+}

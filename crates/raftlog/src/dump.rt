@@ -1,0 +1,196 @@
+//! `raftlog dump`.
+
+ghost use Rattle.std.specs.Prelude.{◌≡◌, IfOk};
+ghost use Rattle.raft_survey.specs.DumpedFiles.{AreDumped};
+ghost use Rattle.raftlog.specs.Commands.{IsDumpDone};
+
+use crate::errors::{ToolError, ToolResult};
+use crate::host::Host;
+use crate::lost::LostEntries;
+use crate::options::{form_of, version_of};
+use crate::output::Lines;
+use crate::source::{Found, find};
+use crate::tools::{DONE, WRONG};
+use clap::ArgMatches;
+use raft_base::{AllocResult, LogQueue, Result, Version};
+use raft_listing::Selection;
+use raft_reading::ReadFiles;
+use raft_report::{Form, JsonDump, append_json_missing_files, write_text};
+use raft_survey::{BothSizes, append_missing_files, print_dump, walk_files};
+use std::alloc::Global;
+use std::io::Write;
+
+/// Prints which files are missing, and the batches of the others, item by item.
+///
+/// # Errors
+///
+/// `Misused` where no index is from the one on and below the other; `NothingOf` where nothing is printed of a region that is asked for; those of
+/// the files and of the output, `Memory`.
+pub(crate) fn dump<'a, R: Host, W: Write>(
+    rt: &'a R,
+    words: &ArgMatches<'a>,
+    out: &mut W,
+) -> ToolResult<u8> {
+    let selection = selection_of(words)?;
+    let times = if selection.values { 2 } else { 1 };
+    let found = find(rt, words, times)?;
+    let has_missing = print_missing(rt.alloc(), &found.sizes, form_of(words), out)?;
+    let dumped = dump_found(rt, words, &found, selection, out);
+    found.source.end_progress();
+    Ok(if dumped? || has_missing { WRONG } else { DONE })
+}
+
+/// Returns what the words select.
+///
+/// # Errors
+///
+/// `Misused` where they select no index.
+fn selection_of(words: &ArgMatches<'_>) -> ToolResult<Selection> {
+    let selection = Selection {
+        region: words.get_one::<u64>("region"),
+        from: words.get_one::<u64>("from").unwrap_or(0),
+        to: words.get_one::<u64>("to").unwrap_or(u64::MAX),
+        values: words.get_flag("values"),
+    };
+    if selection.from >= selection.to {
+        return Err(ToolError::Misused("no index is --from the one on and below --to"));
+    }
+    Ok(selection)
+}
+
+/// Prints a line for the files that are missing between each two, of both queues. Returns whether there are such.
+fn print_missing<W: Write>(
+    alloc: Global,
+    sizes: &BothSizes,
+    form: Form,
+    out: &mut W,
+) -> ToolResult<bool> {
+    let mut text = String::new(alloc);
+    append_missing(form, LogQueue::Append, sizes, &mut text)?;
+    append_missing(form, LogQueue::Rewrite, sizes, &mut text)?;
+    write_text(out, text.as_str())?;
+    Ok(!text.is_empty())
+}
+
+/// Appends a line for the files of a queue that are missing between each two.
+fn append_missing(
+    form: Form,
+    queue: LogQueue,
+    sizes: &BothSizes,
+    text: &mut String,
+) -> AllocResult<()> {
+    match form {
+        Form::Text => append_missing_files(queue, sizes.of(queue), text),
+        Form::Json => append_json_missing_files(queue, sizes.of(queue), text),
+    }
+}
+
+/// Prints the batches of found files, item by item. Returns whether something of it can't be read.
+fn dump_found<R: Host, W: Write>(
+    rt: &R,
+    words: &ArgMatches<'_>,
+    found: &Found<'_, R>,
+    selection: Selection,
+    out: &mut W,
+) -> ToolResult<bool> {
+    let (alloc, version, form) = (rt.alloc(), version_of(words), form_of(words));
+    let out = found.source.over_bar(out);
+    let (_out, dumped) = dump_files(
+        alloc,
+        &found.source,
+        &found.sizes,
+        version,
+        selection,
+        form,
+        out,
+    )?;
+    if let (Some(region), true) = (selection.region, dumped.is_empty) {
+        return Err(ToolError::NothingOf(region));
+    }
+    if dumped.is_damaged || !selection.values {
+        return Ok(dumped.is_damaged);
+    }
+    let mut look = LostEntries::new(selection);
+    walk_files(alloc, &found.source, version, &found.sizes, &mut look)?;
+    Ok(look.is_any)
+}
+
+/// What was dumped.
+#[derive(Clone, Copy, PartialEq, Eq, Debug)]
+struct Dumped {
+    /// Whether nothing was printed.
+    is_empty: bool,
+    /// Whether some batch couldn't be read.
+    is_damaged: bool,
+}
+
+/// Prints what stands in the files of both queues, many lines at once. Returns the output again.
+///
+/// # Errors
+///
+/// Those of the files and of the output, `Memory`. Some lines may then be printed.
+fn dump_files<S: ReadFiles, W: Write + Drop>(
+    alloc: Global,
+    source: &S,
+    sizes: &BothSizes,
+    version: Version,
+    selection: Selection,
+    form: Form,
+    out: W,
+) -> ToolResult<(W, Dumped)>
+    ensures { form ≡ Form.Text → IfOk result (λ dumped. IsDumpDone (S.gives source.now) version sizes.now.append.items
+        sizes.now.rewrite.items selection (W.contents out) (W.contents dumped.0) dumped.1.is_damaged) }
+{
+    let lines = Lines::new(alloc, out)?;
+    let (lines, printed) = print_batches(alloc, source, sizes, version, selection, form, lines);
+    let is_empty = lines.is_empty();
+    let (out, is_damaged) = lines.end(printed)?;
+    Ok((
+        out,
+        Dumped {
+            is_empty,
+            is_damaged,
+        },
+    ))
+}
+
+/// Prints what stands in the files of both queues. Returns where it was printed, and whether some batch couldn't be read.
+fn print_batches<S: ReadFiles, W: Write + Drop>(
+    alloc: Global,
+    source: &S,
+    sizes: &BothSizes,
+    version: Version,
+    selection: Selection,
+    form: Form,
+    lines: W,
+) -> (W, Result<bool>)
+    ensures { form ≡ Form.Text → IfOk result.1 (λ is_damaged. AreDumped (S.gives source.now) version sizes.now.append.items
+        sizes.now.rewrite.items selection (W.contents lines) (W.contents result.0) is_damaged) }
+{
+    match form {
+        Form::Text => print_dump(alloc, source, version, sizes, selection, lines),
+        Form::Json => print_json(alloc, source, version, sizes, selection, lines),
+    }
+}
+
+/// Prints what stands in the files of both queues as lines of JSON. Returns where it was printed, and whether some batch couldn't be read.
+fn print_json<S: ReadFiles, W: Write + Drop>(
+    alloc: Global,
+    source: &S,
+    version: Version,
+    sizes: &BothSizes,
+    selection: Selection,
+    lines: W,
+) -> (W, Result<bool>) {
+    let mut dump = JsonDump::new(selection, lines);
+    let walked = walk_files(alloc, source, version, sizes, &mut dump);
+    let JsonDump {
+        writer,
+        is_damaged,
+        ..
+    } = dump;
+    match walked {
+        Ok(()) => (writer, Ok(is_damaged)),
+        Err(error) => (writer, Err(error)),
+    }
+}

@@ -1,0 +1,104 @@
+//! `raftlog files`.
+
+use crate::errors::{ToolError, ToolResult};
+use crate::host::Host;
+use crate::options::form_of;
+use crate::regions::tables_of;
+use crate::source::find;
+use crate::streams::hold_streams;
+use crate::tools::DONE;
+use clap::ArgMatches;
+use raft_base::LogQueue;
+use raft_recover::MemTableAccessor;
+use raft_report::{
+    FileUses, Form, append_json_uses, append_picture, append_uses, uses_of, write_text,
+};
+use raft_survey::BothSizes;
+use std::alloc::Global;
+use std::fs::OpenOptions;
+use std::io;
+use std::io::Write;
+
+/// What tables need of the files of both queues.
+#[derive(Drop)]
+struct BothUses {
+    append: FileUses,
+    rewrite: FileUses,
+}
+
+/// Prints how much of each file is live, and which regions hold it.
+///
+/// # Errors
+///
+/// Those of the files, of an opening, and of the output; `File` where a file is at the path of the picture; `Memory`.
+pub(crate) fn files<'a, R: Host, W: Write>(
+    rt: &'a R,
+    words: &ArgMatches<'a>,
+    out: &mut W,
+) -> ToolResult<u8> {
+    let found = find(rt, words, 1)?;
+    let tables = tables_of(rt, words, &found)?;
+    let uses = uses_of_both(rt.alloc(), tables.accessor())?;
+    print_uses(rt.alloc(), form_of(words), &found.sizes, &uses, out)?;
+    if let Some(path) = words.get_str("svg") {
+        draw(rt, path, &found.sizes, &uses)?;
+    }
+    Ok(DONE)
+}
+
+/// Returns what tables need of the files of both queues.
+fn uses_of_both(alloc: Global, tables: &MemTableAccessor) -> ToolResult<BothUses> {
+    let append = uses_of(alloc, tables, LogQueue::Append)?;
+    let rewrite = uses_of(alloc, tables, LogQueue::Rewrite)?;
+    Ok(BothUses { append, rewrite })
+}
+
+/// Prints a line for each file.
+fn print_uses<W: Write>(
+    alloc: Global,
+    form: Form,
+    sizes: &BothSizes,
+    uses: &BothUses,
+    out: &mut W,
+) -> ToolResult<()> {
+    let mut text = String::new(alloc);
+    match form {
+        Form::Text => {
+            append_uses(LogQueue::Append, &sizes.append, &uses.append, &mut text)?;
+            append_uses(LogQueue::Rewrite, &sizes.rewrite, &uses.rewrite, &mut text)?;
+        }
+        Form::Json => {
+            append_json_uses(LogQueue::Append, &sizes.append, &uses.append, &mut text)?;
+            append_json_uses(LogQueue::Rewrite, &sizes.rewrite, &uses.rewrite, &mut text)?;
+        }
+    }
+    write_text(out, text.as_str())?;
+    Ok(())
+}
+
+/// Draws the files as a picture, which is written to a file that isn't there yet. After an `Err` a prefix of it may be there, if nothing was.
+///
+/// # Errors
+///
+/// `File` where a file is at the path, or can't be written; `Memory`.
+fn draw<R: Host>(rt: &R, path: &str, sizes: &BothSizes, uses: &BothUses) -> ToolResult<()> {
+    let _streams = hold_streams(rt)?;
+    let mut picture = String::new(rt.alloc());
+    let (append, rewrite) = (
+        (&*sizes.append, &uses.append),
+        (&*sizes.rewrite, &uses.rewrite),
+    );
+    append_picture(append, rewrite, &mut picture)?;
+    match write_new(rt, path, picture.as_str()) {
+        Ok(()) => Ok(()),
+        Err(error) => Err(ToolError::file(rt.alloc(), path, error)),
+    }
+}
+
+/// Makes a file, and writes text to it.
+fn write_new<R: Host>(rt: &R, path: &str, text: &str) -> io::Result<()> {
+    let mut how = OpenOptions::new();
+    how.write(true).create_new(true);
+    let mut file = how.open(rt, path)?;
+    file.write_all(text.as_bytes())
+}

@@ -1,0 +1,287 @@
+//! The files that a command looks into.
+
+ghost use Rattle.std.specs.Prelude.{◌≡◌, map, IfOk, IfSome};
+ghost use Rattle.raft_recover.specs.FileRecovery.{AreSizesOf, IsNamed};
+ghost use Rattle.raftlog.specs.Sources.{of_queue, path_shown};
+
+use crate::errors::{ToolError, ToolResult};
+use crate::host::{Host, Screen};
+use crate::output::OverBar;
+use crate::progress::Progress;
+use clap::ArgMatches;
+use raft_base::{FileId, FileSeq, LogQueue};
+use raft_folder::{FolderError, ReadFolder};
+use raft_reading::{FileSize, ReadFiles};
+use raft_recover::SharedFiles;
+use raft_survey::BothSizes;
+use std::alloc::Global;
+use std::io;
+use std::io::{ErrorKind, Write};
+
+/// How the files of raft-engine begin. No batch begins so.
+const FOREIGN_HEADER: &[u8] = b"RAFT-LOG-FILE-HEADER";
+
+/// The numbers and the paths of the files of a queue, by rising numbers.
+type Paths = Vec<(FileSeq, String)>;
+
+/// The files of both queues, by their paths.
+#[derive(Drop)]
+pub(crate) struct Source<'a, R: SharedFiles + Screen> {
+    rt: &'a R,
+    alloc: Global,
+    append: Paths,
+    rewrite: Paths,
+    progress: Progress,
+}
+
+/// The files that a command looks into, with their sizes. A folder is locked as long as this value lives.
+#[derive(Drop)]
+pub(crate) struct Found<'a, R: Host> {
+    pub(crate) source: Source<'a, R>,
+    pub(crate) sizes: BothSizes,
+    folder: Option<ReadFolder<'a, R>>,
+}
+
+impl<R: SharedFiles + Screen> Source<'_, R> {
+    /// Takes the bar away that says how far the reading is.
+    pub(crate) fn end_progress(&self) {
+        if let Some(clear) = self.progress.clear() {
+            self.rt.show(clear);
+        }
+    }
+
+    /// Returns an output that takes the bar away before it writes to another one.
+    pub(crate) fn over_bar<'b, W: Write>(&'b self, out: &'b mut W) -> OverBar<'b, R, W> {
+        OverBar::new(self.rt, &self.progress, out)
+    }
+}
+
+impl<R: SharedFiles + Screen> ReadFiles for Source<'_, R> {
+    ghost use Rattle.std.specs.Prelude.{map};
+    ghost use Rattle.raft_recover.specs.FileRecovery.{NamedGives};
+    ghost use Rattle.raftlog.specs.Sources.{of_queue, path_shown};
+
+    ghost gives = { λ source file. NamedGives (R.gives source.rt.now)
+        (map path_shown (of_queue file.queue source.append source.rewrite).items) file };
+
+    fn read(&self, file: FileId, offset: u64, len: usize, bytes: &mut Vec<u8>) -> io::Result<()> {
+        let Some(path) = path_of(paths_of(file.queue, &self.append, &self.rewrite), file.seq) else {
+            return Err(io::Error::from(ErrorKind::NotFound));
+        };
+        if let Some(bar) = self.progress.add(self.rt.millis(), len as u64) {
+            self.rt.show(bar.as_str());
+        }
+        match self.rt.read_file(path, offset, len, bytes) {
+            Ok(()) => Ok(()),
+            Err(error) => Err(with_path(self.alloc, path, error)),
+        }
+    }
+}
+
+/// Returns the files of a queue.
+fn paths_of<'p>(queue: LogQueue, append: &'p Paths, rewrite: &'p Paths) -> &'p [(FileSeq, String)]
+    ensures { result.now ≡ (of_queue queue append.now rewrite.now).items }
+{
+    match queue {
+        LogQueue::Append => append.as_slice(),
+        LogQueue::Rewrite => rewrite.as_slice(),
+    }
+}
+
+/// Returns the path of the file with this number, of files whose numbers rise.
+fn path_of(paths: &[(FileSeq, String)], seq: FileSeq) -> Option<&str>
+    ensures { IfSome result (λ path. IsNamed (map path_shown paths.now) seq path.now) }
+{
+    match paths.binary_search_by_key(&seq, |named| named.0) {
+        Ok(index) => Some(paths[index].1.as_str()),
+        Err(_) => None,
+    }
+}
+
+/// Returns an error with the path in front of its words.
+fn with_path(alloc: Global, path: &str, error: io::Error) -> io::Error {
+    match format!(in alloc; "{path}: {error}") {
+        Ok(text) => io::Error::new(error.kind(), text.as_str()),
+        Err(_) => error,
+    }
+}
+
+/// Finds the files that words name: those of a folder, or those that are named one by one. They are read `times` times.
+///
+/// # Errors
+///
+/// `Misused` where the words name none, or both; those of [`ReadFolder`]; `File` where a file can't be read; `Memory`.
+pub(crate) fn find<'a, R: Host>(
+    rt: &'a R,
+    words: &ArgMatches<'a>,
+    times: u64,
+) -> ToolResult<Found<'a, R>>
+    ensures { IfOk result (λ found. AreSizesOf (map path_shown found.source.append.items) found.sizes.append.items
+        × AreSizesOf (map path_shown found.source.rewrite.items) found.sizes.rewrite.items) }
+{
+    let (append, rewrite) = (words.get_strs("append"), words.get_strs("rewrite"));
+    match words.get_str("folder") {
+        Some(path) if append.is_none() && rewrite.is_none() => in_folder(rt, path, times),
+        None if append.is_some() || rewrite.is_some() => {
+            let append = named(rt, append.unwrap_or(&[]))?;
+            let rewrite = named(rt, rewrite.unwrap_or(&[]))?;
+            take_files(rt, append, rewrite, None, times)
+        }
+        Some(_) => Err(ToolError::Misused(
+            "name a folder, or files by --append and --rewrite, and not both",
+        )),
+        None => Err(ToolError::Misused("name a folder, or files by --append and --rewrite")),
+    }
+}
+
+/// Finds the files of a folder.
+///
+/// # Errors
+///
+/// `NoFolder`; those of [`ReadFolder`]; `Foreign` where a file is one of raft-engine.
+pub(crate) fn in_folder<'a, R: Host>(
+    rt: &'a R,
+    path: &'a str,
+    times: u64,
+) -> ToolResult<Found<'a, R>>
+    ensures { IfOk result (λ found. AreSizesOf (map path_shown found.source.append.items) found.sizes.append.items
+        × AreSizesOf (map path_shown found.source.rewrite.items) found.sizes.rewrite.items) }
+{
+    refuse_file(rt, path)?;
+    let folder = ReadFolder::open(rt, path)?;
+    let append = paths_in(rt, &folder, LogQueue::Append)?;
+    let rewrite = paths_in(rt, &folder, LogQueue::Rewrite)?;
+    take_files(rt, append, rewrite, Some(folder), times)
+}
+
+/// Refuses a file in place of a folder.
+///
+/// # Errors
+///
+/// `NoFolder`, `Memory`.
+pub(crate) fn refuse_file<R: Host>(rt: &R, path: &str) -> ToolResult<()> {
+    match rt.file_len(path) {
+        Ok(Some(_)) => Err(ToolError::NoFolder(String::from_str(rt.alloc(), path)?)),
+        Ok(None) | Err(_) => Ok(()), // whatever else it is, the opening of the folder says
+    }
+}
+
+/// Returns the paths of a queue's files in a folder.
+fn paths_in<R: Host>(rt: &R, folder: &ReadFolder<'_, R>, queue: LogQueue) -> ToolResult<Paths> {
+    let mut paths = Vec::new(rt.alloc());
+    for file in folder.list(queue)? {
+        let path = folder.path_of(FileId::new(queue, file.seq))?;
+        paths.push((file.seq, path))?;
+    }
+    Ok(paths)
+}
+
+/// Returns the files that words name one by one, by their numbers.
+fn named<R: Host>(rt: &R, words: &[&str]) -> ToolResult<Paths> {
+    let mut paths: Paths = Vec::new(rt.alloc());
+    for word in words {
+        let Some((seq, path)) = named_file(word) else {
+            return Err(ToolError::Misused("a file is named as its number, `=` and its path"));
+        };
+        if paths.last().is_some_and(|last| last.0 >= seq) {
+            return Err(ToolError::Misused("files are named by rising numbers"));
+        }
+        paths.push((seq, String::from_str(rt.alloc(), path)?))?;
+    }
+    Ok(paths)
+}
+
+/// Returns the number and the path of the file that a word names.
+fn named_file(word: &str) -> Option<(FileSeq, &str)> {
+    let (seq, path) = word.split_once('=')?;
+    if path.is_empty() {
+        return None;
+    }
+    Some((seq.parse::<u64>().ok()?, path))
+}
+
+/// Makes the files at these paths those that are looked into.
+fn take_files<'a, R: Host>(
+    rt: &'a R,
+    append: Paths,
+    rewrite: Paths,
+    folder: Option<ReadFolder<'a, R>>,
+    times: u64,
+) -> ToolResult<Found<'a, R>>
+    ensures paths { IfOk result (λ found. (found.source.append ≡ append) × (found.source.rewrite ≡ rewrite)) }
+    ensures sizes { IfOk result (λ found. AreSizesOf (map path_shown append.items) found.sizes.append.items
+        × AreSizesOf (map path_shown rewrite.items) found.sizes.rewrite.items) }
+{
+    let sizes = BothSizes {
+        append: sizes_of(rt, append.as_slice())?,
+        rewrite: sizes_of(rt, rewrite.as_slice())?,
+    };
+    let bytes = bytes_of(&sizes.append).saturating_add(bytes_of(&sizes.rewrite));
+    let progress = Progress::new(rt.alloc(), rt.millis(), bytes.saturating_mul(times));
+    let source = Source {
+        rt,
+        alloc: rt.alloc(),
+        append,
+        rewrite,
+        progress,
+    };
+    Ok(Found {
+        source,
+        sizes,
+        folder,
+    })
+}
+
+/// Returns how many bytes files have together.
+fn bytes_of(sizes: &[FileSize]) -> u64 {
+    let mut bytes: u64 = 0;
+    for size in sizes {
+        bytes = bytes.saturating_add(size.len);
+    }
+    bytes
+}
+
+/// Returns the number and the length of each file, none of which is one of raft-engine.
+fn sizes_of<R: Host>(rt: &R, paths: &[(FileSeq, String)]) -> ToolResult<Vec<FileSize>>
+    ensures { IfOk result (λ sizes. AreSizesOf (map path_shown paths.now) sizes.items) }
+{
+    let mut sizes = Vec::new(rt.alloc());
+    for path in paths {
+        let size = size_of(rt, path)?;
+        sizes.push(size)?;
+    }
+    Ok(sizes)
+}
+
+/// Returns the number and the length of a file, which isn't one of raft-engine.
+fn size_of<R: Host>(rt: &R, file: &(FileSeq, String)) -> ToolResult<FileSize>
+    ensures { IfOk result (λ size. size.seq ≡ file.now.0) }
+{
+    let (seq, path) = file;
+    let len = match rt.file_len(path.as_str()) {
+        Ok(Some(len)) => len,
+        Ok(None) => return Err(not_regular(rt, path)),
+        Err(error) => return Err(ToolError::file(rt.alloc(), path.as_str(), error)),
+    };
+    refuse_foreign(rt, path)?;
+    Ok(FileSize { seq: *seq, len })
+}
+
+/// Returns the refusal of what is no file that can be read at an offset.
+fn not_regular<R: Host>(rt: &R, path: &String) -> ToolError {
+    let error = io::Error::new(ErrorKind::InvalidInput, "it isn't a regular file");
+    ToolError::file(rt.alloc(), path.as_str(), error)
+}
+
+/// Refuses a file that begins with raft-engine's header.
+fn refuse_foreign<R: Host>(rt: &R, path: &String) -> ToolResult<()> {
+    let mut begin = Vec::new(rt.alloc());
+    if let Err(error) = rt.read_file(path.as_str(), 0, FOREIGN_HEADER.len(), &mut begin) {
+        return Err(ToolError::file(rt.alloc(), path.as_str(), error));
+    }
+    if begin.as_slice() == FOREIGN_HEADER {
+        let path = String::from_str(rt.alloc(), path.as_str())?;
+        return Err(ToolError::Folder(FolderError::Foreign(path)));
+    }
+    Ok(())
+}

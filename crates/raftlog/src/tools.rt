@@ -1,0 +1,143 @@
+//! The commands that look into a folder.
+
+use crate::check::check;
+use crate::command_line::command_line;
+use crate::cut::cut;
+use crate::dump::dump;
+use crate::errors::{ToolError, ToolResult};
+use crate::files::files;
+use crate::host::Host;
+use crate::regions::regions;
+use clap::ArgMatches;
+use std::io::Write;
+
+/// The first words that ask for one of these commands.
+const FIRST_WORDS: [&str; 6] = ["check", "regions", "dump", "files", "cut", "help"];
+
+/// The words that ask for help, or for the version, of any command.
+const HELP_WORDS: [&str; 4] = ["--help", "-h", "--version", "-V"];
+
+/// The words that each command takes.
+const USAGE: &str = "\
+usage: raftlog check|regions|dump|files <folder>     (or files, by --append and --rewrite)
+       raftlog cut --dry-run|--yes <folder>
+       raftlog batch <queue> <seq> <version>
+       raftlog recover [--plain] <queue> <version> <workers> <seq>=<path>..
+For more: raftlog --help, or raftlog <command> --help
+";
+
+/// What is said of a word that isn't UTF-8.
+const NO_UTF8: &str = "\
+raftlog: a word isn't UTF-8: a folder or file whose path isn't can be named by a link to it, or from within by `.`
+";
+
+/// The status where it is done; of `check` and `dump` also that nothing is wrong, of `cut` that an opening accepts the files.
+pub(crate) const DONE: u8 = 0;
+
+/// The status where `check` or `dump` finds that something is wrong with the files, an opening refuses them, or a command isn't done.
+pub(crate) const WRONG: u8 = 1;
+
+/// The status where the words ask for nothing.
+pub(crate) const MISUSED: u8 = 2;
+
+/// Tests whether words ask for one of these commands, or for help with any.
+pub(crate) fn are_asked(words: &[String]) -> bool {
+    match words.first() {
+        Some(word) if FIRST_WORDS.contains(&word.as_str()) => true,
+        Some(word) if is_help(word) => true,
+        Some(_) => words.get(1).is_some_and(|word: &String| is_help(word)),
+        None => false,
+    }
+}
+
+/// Tests whether a word asks for help, or for the version.
+fn is_help(word: &String) -> bool {
+    HELP_WORDS.contains(&word.as_str())
+}
+
+/// Tests whether words begin with none of the commands.
+pub(crate) fn name_no_command(words: &[String]) -> bool {
+    match words.first() {
+        Some(word) => word.as_str() != "batch" && word.as_str() != "recover",
+        None => true,
+    }
+}
+
+/// Says on `err` that words begin with none of the commands, and lists these. Returns the status to end with.
+pub(crate) fn refuse_words<E: Write>(words: &[String], err: &mut E) -> u8 {
+    let _ = match words.first() {
+        Some(word) => writeln!(err, "raftlog: {word}: the first word names a command"),
+        None => writeln!(err, "raftlog: the first word names a command"),
+    };
+    let _ = err.write_all(USAGE.as_bytes());
+    MISUSED
+}
+
+/// Says on `err` that a word isn't UTF-8, and lists the commands. Returns the status to end with.
+pub(crate) fn refuse_encoding<E: Write>(err: &mut E) -> u8 {
+    let _ = err.write_all(NO_UTF8.as_bytes());
+    let _ = err.write_all(USAGE.as_bytes());
+    MISUSED
+}
+
+/// Does what words ask for, and returns the status to end with. A refusal is a line on `err`. It isn't inlined, so that the other
+/// commands don't pay for its frame.
+#[inline(never)]
+pub(crate) fn run<'a, R: Host, W: Write, E: Write>(
+    rt: &'a R,
+    words: &'a [String],
+    out: &mut W,
+    err: &mut E,
+) -> u8 {
+    let command = match command_line(rt.alloc()) {
+        Ok(command) => command,
+        Err(_) => return refused(&ToolError::Memory, err),
+    };
+    match command.try_get_matches_from(without_help_of_help(words)) {
+        Ok(matches) => match answer(rt, &matches, out) {
+            Ok(status) => status,
+            Err(error) => refused(&error, err),
+        },
+        Err(shown) if shown.exit_code() == 0 => match write!(out, "{shown}") {
+            Ok(()) => DONE,
+            Err(error) => refused(&ToolError::Output(error), err),
+        },
+        Err(shown) => {
+            let _ = write!(err, "{shown}");
+            MISUSED
+        }
+    }
+}
+
+/// Returns words without those which ask for help with `help`.
+fn without_help_of_help(words: &[String]) -> &[String] {
+    match words {
+        [first, second] if first.as_str() == "help" && is_help(second) => words.split_at(1).0,
+        _ => words,
+    }
+}
+
+/// Says why a command isn't done, and returns the status for that.
+fn refused<E: Write>(error: &ToolError, err: &mut E) -> u8 {
+    let _ = writeln!(err, "raftlog: {error}");
+    match error {
+        ToolError::Misused(_) => MISUSED,
+        _ => WRONG,
+    }
+}
+
+/// Does what the words of a command ask for, and returns the status to end with.
+fn answer<'a, R: Host, W: Write>(
+    rt: &'a R,
+    matches: &ArgMatches<'a>,
+    out: &mut W,
+) -> ToolResult<u8> {
+    match matches.subcommand() {
+        Some(("check", words)) => check(rt, words, out),
+        Some(("regions", words)) => regions(rt, words, out),
+        Some(("dump", words)) => dump(rt, words, out),
+        Some(("files", words)) => files(rt, words, out),
+        Some(("cut", words)) => cut(rt, words, out),
+        _ => Err(ToolError::Misused("no command is named: raftlog --help")),
+    }
+}

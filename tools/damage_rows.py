@@ -1,0 +1,299 @@
+"""Folders of log files with damage, one thing each, and what `raftlog check` has to say of them.
+
+Each row changes a folder and returns the status that is wanted and the texts that have to be said. The offsets come from the headers of the batches; files that aren't
+those of demo/ are made by docs/FORMAT.md.
+"""
+import os
+import random
+import shutil
+from pathlib import Path
+
+from logs import checksum, number
+
+TOP = Path(__file__).resolve().parent.parent
+HEADER_LEN = 16
+LAST = 3
+
+
+def name_of(seq, ending="raftlog"):
+    return f"{seq:016}.{ending}"
+
+
+def batches(bytes_):
+    """Where each batch begins, where its items begin, and where it ends, by the headers."""
+    at, found = 0, []
+    while at < len(bytes_):
+        len_ = int.from_bytes(bytes_[at:at + 8], "big") >> 8
+        items_at = int.from_bytes(bytes_[at + 8:at + 16], "big")
+        found.append((at, at + items_at, at + len_))
+        at += len_
+    return found
+
+
+def batch(seq, *items, entries=b""):
+    """A batch of version 2 of the file with this number."""
+    item_batch = number(len(items)) + b"".join(items)
+    item_batch += checksum(item_batch, seq)
+    entries += checksum(entries) if entries else b""
+    length = HEADER_LEN + len(entries) + len(item_batch)
+    return (length << 8).to_bytes(8, "big") + (HEADER_LEN + len(entries)).to_bytes(8, "big") + entries + item_batch
+
+
+def entries_of(region, first, lens, before=0):
+    """An item of entries of these lengths, behind so many bytes of others."""
+    tails = [before + sum(lens[:i + 1]) for i in range(len(lens))]
+    return number(region) + b"\x01" + number(len(lens)) + number(first) + b"".join(map(number, tails))
+
+
+def marker(group, status):
+    """An item that marks the place of its batch in an atomic group."""
+    return number(group) + b"\x03\x01\x03__\x01\x01" + bytes([status])
+
+
+class Room:
+    """A folder with the first files of demo/."""
+
+    def __init__(self, path):
+        self.path = path
+        path.mkdir()
+        for seq in range(1, LAST + 1):
+            shutil.copy(TOP / f"demo/{seq}.log", self.file(seq))
+
+    def file(self, seq, ending="raftlog"):
+        return self.path / name_of(seq, ending)
+
+    def only(self, append, rewrite=()):
+        """Puts files of these batches in place of all, from the number 1 on."""
+        for path in self.path.iterdir():
+            path.unlink()
+        for ending, files in (("raftlog", append), ("rewrite", rewrite)):
+            for seq, found in enumerate(files, 1):
+                self.file(seq, ending).write_bytes(b"".join(found))
+
+    def batches(self, seq):
+        return batches(self.file(seq).read_bytes())
+
+    def flip(self, seq, at, bit=0):
+        bytes_ = bytearray(self.file(seq).read_bytes())
+        bytes_[at] ^= 1 << bit
+        self.file(seq).write_bytes(bytes_)
+
+    def contents(self):
+        """The bytes of each file but LOCK."""
+        return {path.name: path.read_bytes() for path in self.path.iterdir() if path.name != "LOCK"}
+
+    def keep(self, seq, len_):
+        os.truncate(self.file(seq), len_)
+
+
+def sizes(room):
+    return [f"append file {seq}: {room.file(seq).stat().st_size} bytes, {len(room.batches(seq))} batches, read from offset 0 to {room.file(seq).stat().st_size}\n"
+            for seq in range(1, LAST + 1)]
+
+
+# ---- the rows: each changes a folder, and returns the status that is wanted and the texts that have to be said
+
+def untouched(room):
+    return 0, [*sizes(room), "rewrite: no files", "opening: would open, and cut nothing of the append queue", "\nsound\n"]
+
+
+def first_byte(room):
+    """The header of the last file's first batch isn't one any more, and sound batches stand behind it."""
+    (_, _, second), *_ = room.batches(LAST)
+    left = room.file(LAST).stat().st_size
+    room.flip(LAST, 0)
+    return 1, [f"append file {LAST} offset 0: no batch can be read there, {left} bytes before the end: ", f"append file {LAST} offset 0: the {left} bytes from there on weren't searched for batches\n", f"opening: refused: Corruption: append file {LAST}, offset 0: ",
+               f"one stands behind it, at offset {second}\n", "\ndamaged\n"]
+
+
+def length_bit(room):
+    """A batch in the midst of the last file is longer by its header than it is."""
+    found = room.batches(LAST)
+    at, _, behind = found[3]
+    room.flip(LAST, at + 5, 3)
+    return 1, [f"append file {LAST} offset {at}: no batch can be read there, ", f"opening: refused: Corruption: append file {LAST}, offset {at}: ",
+               f"one stands behind it, at offset {behind}\n"]
+
+
+def other_number(room):
+    """A file alone has another number than its batches were signed for."""
+    for seq in (2, 3):
+        room.file(seq).unlink()
+    room.file(1).rename(room.file(2))
+    return 1, ["append file 2 offset 0: no batch can be read there, ", "opening: refused: Corruption: append file 2, offset 0: ", "signed for file 1\n"]
+
+
+def one_missing(room):
+    room.file(2).unlink()
+    return 1, ["append file 2: missing\n", "opening: refused: Corruption: append file 2: it is missing, files 1 and 3 are there\n"]
+
+
+def two_missing(room):
+    shutil.copy(TOP / "demo/4.log", room.file(4))
+    room.file(2).unlink()
+    room.file(3).unlink()
+    return 1, ["append files 2 to 3: missing\n", "opening: refused: Corruption: append file 2: it is missing, files 1 and 4 are there\n"]
+
+
+def torn(room):
+    """The last batch of the last file has lost its end."""
+    *_, (at, _, end) = room.batches(LAST)
+    room.keep(LAST, end - 5)
+    return 1, [f"append file {LAST}: {end - 5} bytes, {len(batches(room.file(LAST).read_bytes()[:at]))} batches, read from offset 0 to {at}\n",
+               f"append file {LAST} offset {at}: no batch can be read there, {end - 5 - at} bytes before the end: ",
+               f"opening: would open, and cut {end - 5 - at} bytes of append file {LAST} from offset {at} on: ", "\ndamaged\n"]
+
+
+def torn_before_the_last(room):
+    *_, (at, _, end) = room.batches(2)
+    room.keep(2, end - 5)
+    return 1, [f"append file 2 offset {at}: no batch can be read there, {end - 5 - at} bytes before the end: ", f"opening: refused: Corruption: append file 2, offset {at}: "]
+
+
+def entry_byte(room):
+    """A byte of an entry: recovery doesn't read it."""
+    at, items_at, end = room.batches(2)[1]
+    room.flip(2, at + HEADER_LEN)
+    return 1, [f"append file 2 offset {at}: entr", " can't be read: their entry block doesn't stand in the file, or its checksum doesn't hold\n", "opening: would open, and cut nothing of the append queue\n", "\ndamaged\n"]
+
+
+def item_byte(room):
+    at, items_at, _ = room.batches(2)[2]
+    room.flip(2, items_at)
+    return 1, [f"append file 2 offset {at}: no batch can be read there, ", f"opening: refused: Corruption: append file 2, offset {at}: "]
+
+
+def zeros(room):
+    """The pages of the last batch were never written."""
+    *_, (at, _, end) = room.batches(LAST)
+    room.file(LAST).write_bytes(room.file(LAST).read_bytes()[:at] + bytes(end - at))
+    return 1, [f"append file {LAST} offset {at}: no batch can be read there, {end - at} bytes before the end: ", f"opening: would open, and cut {end - at} bytes of append file {LAST} from offset {at} on: "]
+
+
+def misnamed(room):
+    room.file(LAST).rename(room.path / "3.raftlog")
+    return 1, [f"raftlog: {room.path}/3.raftlog: it isn't the name of a log file\n"]
+
+
+def foreign(room):
+    room.file(LAST).write_bytes(b"RAFT-LOG-FILE-HEADER" + bytes(44))
+    return 1, [f"raftlog: {room.file(LAST)}: it is a file of raft-engine"]
+
+
+def no_folder(room):
+    shutil.rmtree(room.path)
+    return 1, [f"raftlog: {room.path}: ", "No such file or directory"]
+
+
+def nothing(room):
+    shutil.rmtree(room.path)
+    room.path.mkdir()
+    return 1, ["append: no files\n", "rewrite: no files\n", "\nempty\n"]
+
+
+def last_missing(room):
+    """Nothing says that there was a file more."""
+    room.file(LAST).unlink()
+    return 0, ["opening: would open, and cut nothing of the append queue\n", "\nsound\n"]
+
+
+# (region 7 has the entries 1 to 4 in append file 1; of these 1 to 2 were rewritten, in a group of two batches)
+APPEND = [batch(1, entries_of(7, 1, [2, 3, 4, 5]), entries=b"aabbbccccddddd")]
+GROUP = [batch(2, marker(9, 0), entries_of(7, 1, [2]), entries=b"aa"), batch(2, marker(9, 2), entries_of(7, 2, [3]), entries=b"bbb")]
+OLDER = [batch(1, entries_of(8, 1, [1]), entries=b"x")]
+
+
+def both_queues(room):
+    room.only([APPEND], [OLDER, GROUP])
+    return 0, [f"rewrite file 2: {sum(map(len, GROUP))} bytes, 2 batches, read from offset 0 to {sum(map(len, GROUP))}\n", "opening: would open, and cut nothing of the rewrite queue\n", "\nsound\n"]
+
+
+def rewrite_torn(room):
+    room.only([APPEND], [OLDER, [batch(2, entries_of(8, 1, [1]), entries=b"x"), GROUP[0][:30]]])
+    at = len(batch(2, entries_of(8, 1, [1]), entries=b"x"))
+    return 1, [f"rewrite file 2 offset {at}: no batch can be read there, 30 bytes before the end: ", f"opening: would open, and cut 30 bytes of rewrite file 2 from offset {at} on: ",
+               "opening: would open, and cut nothing of the append queue\n"]
+
+
+def both_torn(room):
+    """An append tail and a rewrite tail."""
+    room.only([[*APPEND, batch(1, entries_of(7, 5, [1]), entries=b"y")[:25]]], [OLDER, [GROUP[0], GROUP[1], GROUP[0][:30]]])
+    at, behind = sum(map(len, APPEND)), sum(map(len, GROUP))
+    return 1, [f"opening: would open, and cut 25 bytes of append file 1 from offset {at} on: ", f"opening: would open, and cut 30 bytes of rewrite file 2 from offset {behind} on: ", "\ndamaged\n"]
+
+
+def rewrite_entry_byte(room):
+    """The last rewrite file may be the only one that has them."""
+    room.only([APPEND], [OLDER, [GROUP[0], GROUP[1][:HEADER_LEN] + b"X" + GROUP[1][HEADER_LEN + 1:]]])
+    at = len(GROUP[0])
+    return 1, [f"rewrite file 2 offset {at}: entry 2 of region 7 can't be read: ", f"opening: refused: Corruption: rewrite file 2, offset {at}: the entries of this batch are damaged\n"]
+
+
+def older_rewrite_entry_byte(room):
+    """An opening doesn't look at the entries of older files."""
+    room.only([APPEND], [[OLDER[0][:HEADER_LEN] + b"X" + OLDER[0][HEADER_LEN + 1:]], GROUP])
+    return 1, ["rewrite file 1 offset 0: entry 1 of region 8 can't be read: ", "opening: would open, and cut nothing of the rewrite queue\n", "\ndamaged\n"]
+
+
+def hole(room):
+    """Each batch can be read, but one can't follow the one before it."""
+    second = batch(1, entries_of(7, 40, [1] * 5), entries=b"ABCDE")
+    room.only([[batch(1, entries_of(7, 10, [1] * 10), entries=b"0123456789"), second]])
+    size = room.file(1).stat().st_size
+    return 1, [f"append file 1: {size} bytes, 2 batches, read from offset 0 to {size}\n", f"opening: refused: Corruption: append file 1, offset {size - len(second)}: "]
+
+
+def unknown_status(room):
+    room.only([APPEND], [[batch(1, marker(9, 3), entries_of(7, 1, [2]), entries=b"aa")]])
+    return 1, ["opening: refused: "]
+
+
+def group_over_two_files(room):
+    room.only([APPEND], [[batch(1, marker(9, 0), entries_of(7, 1, [2]), entries=b"aa")], [GROUP[1]]])
+    return 1, ["opening: refused: "]
+
+
+def past_its_block(room):
+    """The batch is sound, but an entry would end behind the entry bytes. An opening doesn't look at entries of append files."""
+    room.only([[batch(1, entries_of(7, 1, [2, 9]), entries=b"aab")]])
+    return 1, ["append file 1 offset 0: entry 2 of region 7 can't be read: they end past their entry block\n", "opening: would open, and cut nothing of the append queue\n"]
+
+
+def without_block(room):
+    room.only([[batch(1, entries_of(7, 1, [2]))]])
+    return 1, ["append file 1 offset 0: entry 1 of region 7 can't be read: ", "opening: would open, and cut nothing of the append queue\n", "\ndamaged\n"]
+
+
+def large(seed=5):
+    """Batches of up to 700 KB, one of which stands over each multiple of 4 MiB."""
+    dice, found, first = random.Random(seed), [], 1
+    while sum(map(len, found)) < 18 << 20:
+        lens = [dice.randrange(1, 100_000) for _ in range(7)]
+        found.append(batch(1, entries_of(7, first, lens), entries=dice.randbytes(sum(lens))))
+        first += len(lens)
+    return found
+
+
+def large_file(room):
+    found = large()
+    room.only([found])
+    size = sum(map(len, found))
+    return 0, [f"append file 1: {size} bytes, {len(found)} batches, read from offset 0 to {size}\n", "\nsound\n"]
+
+
+def large_file_damaged(room):
+    """The batch over the second border, its entries; and the items of one before the last border."""
+    found = large()
+    room.only([found])
+    bounds = room.batches(1)
+    over = next(at for at, _, end in bounds if at < 8 << 20 < end)
+    items, items_at, behind = next(bound for bound in bounds if bound[2] > 15 << 20)
+    room.flip(1, over + HEADER_LEN)
+    room.flip(1, items_at)
+    return 1, [f"append file 1: {sum(map(len, found))} bytes, {len(found) - 1} batches, read from offset 0 to {items}\n", f"append file 1 offset {over}: entries ",
+               f"append file 1 offset {items}: no batch can be read there, ", f"opening: refused: Corruption: append file 1, offset {items}: ", f"one stands behind it, at offset {behind}\n"]
+
+
+ROWS = [untouched, first_byte, length_bit, other_number, one_missing, two_missing, torn, torn_before_the_last, entry_byte, item_byte, zeros,
+        misnamed, foreign, no_folder, nothing, last_missing, both_queues, rewrite_torn, both_torn, rewrite_entry_byte, older_rewrite_entry_byte, hole, unknown_status,
+        group_over_two_files, past_its_block, without_block, large_file, large_file_damaged]

@@ -33,7 +33,7 @@ use Rattle.raft_history.proofs.Words.{with_step}
 use Rattle.raft_history.proofs.WithoutMarkers.{plain_steps, unnamed_steps}
 use Rattle.raft_accessor.specs.Accessor.{Accessor}
 use Rattle.raft_files.specs.Asks.{Ask, NumberedBytes}
-use Rattle.raft_engine_fronts.proofs.TornLemmas.{one_reading}
+use Rattle.raft_engine_prefixes.proofs.TornLemmas.{one_reading}
 use Rattle.raft_engine.specs.Opened.{AreRead}
 use Rattle.raft_engine.specs.ReadBack.{IsReadBackAlone}
 use Rattle.raft_engine.proofs.ReadBackLemmas.{unmoved_self}

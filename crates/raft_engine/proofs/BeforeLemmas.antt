@@ -16,7 +16,7 @@ use Rattle.raft_files.specs.Asks.{Begin, Found, NumberedBytes, ask}
 use Rattle.raft_files.specs.Disk.{IsLeftOf}
 use Rattle.raft_recover.specs.Files.{FilesHold}
 use Rattle.raft_engine_laws.specs.Records.{Records, HaveRecords, live}
-use Rattle.raft_engine_fronts.specs.TornTails.{FilesHoldTorn}
+use Rattle.raft_engine_prefixes.specs.TornTails.{FilesHoldTorn}
 use Rattle.raft_engine.specs.KeptEngine.{KeptEngine}
 use Rattle.raft_engine.specs.Lasting.{IsLasting, IsLastingAfter}
 use Rattle.raft_engine.specs.Restarts.{AreFromBefore}

@@ -47,16 +47,16 @@ pub other_count : (es : List EntryIndex) (e : EntryIndex) (p : FileBlockHandle) 
 other_count [] e p h n = absurd h
 other_count (a ∷ es) e p h n = ap suc (other_change (a ∷ es) e p h n)
 
--- ---- a front
+-- ---- a prefix
 
-front_change : (es fs : List EntryIndex) → change_count es ≤ change_count (es ++ fs)
-front_change [] fs = omega arith
-front_change (a ∷ []) fs = omega arith
-front_change (a ∷ b ∷ es) fs = more (cond (are_same_places a.entries b.entries) 0 1) (change_count (b ∷ es)) (change_count (b ∷ es ++ fs)) (front_change (b ∷ es) fs)
+prefix_change : (es fs : List EntryIndex) → change_count es ≤ change_count (es ++ fs)
+prefix_change [] fs = omega arith
+prefix_change (a ∷ []) fs = omega arith
+prefix_change (a ∷ b ∷ es) fs = more (cond (are_same_places a.entries b.entries) 0 1) (change_count (b ∷ es)) (change_count (b ∷ es ++ fs)) (prefix_change (b ∷ es) fs)
   where
     more : (m x y : ℕ) → x ≤ y → m + x ≤ m + y
     more m x y h = omega (arith, h)
 
-pub front_count : (es fs : List EntryIndex) → block_count es ≤ block_count (es ++ fs)
-front_count [] fs = omega arith
-front_count (a ∷ es) fs = let h : change_count (a ∷ es) ≤ change_count (a ∷ es ++ fs) = front_change (a ∷ es) fs in omega (arith, h)
+pub prefix_count : (es fs : List EntryIndex) → block_count es ≤ block_count (es ++ fs)
+prefix_count [] fs = omega arith
+prefix_count (a ∷ es) fs = let h : change_count (a ∷ es) ≤ change_count (a ∷ es ++ fs) = prefix_change (a ∷ es) fs in omega (arith, h)

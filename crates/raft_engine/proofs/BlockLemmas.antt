@@ -27,8 +27,8 @@ use Rattle.raft_recover.specs.Files.{whole_file}
 use Rattle.raft_replay.specs.Cuts.{bytes_before}
 use Rattle.raft_replay.specs.Stops.{IsUnreadableAt}
 use Rattle.raft_replay.proofs.SegmentLemmas.{batch_none, batch_unique}
-use Rattle.raft_engine_fronts.specs.TornTails.{StopsAt}
-use Rattle.raft_engine_fronts.proofs.TornLemmas.{stop_unreadable}
+use Rattle.raft_engine_prefixes.specs.TornTails.{StopsAt}
+use Rattle.raft_engine_prefixes.proofs.TornLemmas.{stop_unreadable}
 use Rattle.raft_engine.specs.SoundBlocks.{AreBlocksSound, HasSoundBlock, IsFileSound, IsPartSound, IsUnsoundAs, damaged_entries_text}
 
 -- ---- one batch

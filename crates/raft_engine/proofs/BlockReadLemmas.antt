@@ -21,7 +21,7 @@ use Rattle.raft_files.specs.Asks.{Ask, Read, ask}
 use Rattle.raft_engine.specs.BlockReads.{AreBytesIn, AreNoBytesIn, IsBlockOf, IsKeptOf, IsNoBlockOf, IsOfEntry, IsSoundRead, IsUnsoundRead}
 use Rattle.raft_engine.specs.Reads.{AreReadByBlocks, AreReads, AreUnread, IsDamaged, IsReadAmong, NamesEntry}
 use Rattle.raft_engine.specs.declared.block_reads.EntryBlock.{EntryBlock}
-use Rattle.raft_engine.proofs.BlockCounts.{EndsAt, ends_more, front_count, other_count, same_count}
+use Rattle.raft_engine.proofs.BlockCounts.{EndsAt, ends_more, prefix_count, other_count, same_count}
 
 -- ---- blocks
 
@@ -256,7 +256,7 @@ some_entries (x ∷ es) rest e h = cc
 
 more_blocks : (es rest : List EntryIndex) (e : EntryIndex) (n : ℕ) → block_count (es ++ e ∷ []) ≡ suc (block_count es) → n ≡ block_count es → n < block_count (es ++ e ∷ rest)
 more_blocks es rest e n count is =
-    let h : block_count (es ++ e ∷ []) ≤ block_count ((es ++ e ∷ []) ++ rest) = front_count (es ++ e ∷ []) rest in
+    let h : block_count (es ++ e ∷ []) ≤ block_count ((es ++ e ∷ []) ++ rest) = prefix_count (es ++ e ∷ []) rest in
     let k : block_count ((es ++ e ∷ []) ++ rest) ≡ block_count (es ++ e ∷ rest) = ap block_count (joined es) in
     omega (arith, h, k, count, is)
   where

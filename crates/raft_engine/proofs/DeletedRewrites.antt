@@ -11,8 +11,8 @@ use Rattle.raft_files.specs.Disk.{begun, deletions}
 use Rattle.raft_engine_laws.specs.DeletedFiles.{AreLeastFrom}
 use Rattle.raft_engine_laws.specs.Groups.{EndNoOlderGroup}
 use Rattle.raft_engine_laws.specs.Records.{Records}
-use Rattle.raft_engine_laws.specs.Stops.{Deed, Delete, IsSafe, IsSynced, LoseNothing, MayBeGone, in_files_from, written}
-use Rattle.raft_engine_fronts.specs.Contents.{AreBothTold, KeepsBytes}
+use Rattle.raft_engine_laws.specs.Crashes.{Deed, Delete, IsSafe, IsSynced, LoseNothing, MayBeGone, in_files_from, written}
+use Rattle.raft_engine_prefixes.specs.Contents.{AreBothTold, KeepsBytes}
 use Rattle.raft_engine.specs.Stored.{AreAllDone}
 use Rattle.raft_engine.specs.StoredAsks.{DeletionsAreStored, WhatIsDoneLasts}
 use Rattle.raft_engine.proofs.DoneLemmas.{deeds_synced}

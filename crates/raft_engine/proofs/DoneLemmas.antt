@@ -14,15 +14,15 @@ use Rattle.raft_files.specs.Asks.{Act, Begin, NumberedBytes, Put, Sync}
 use Rattle.raft_files.specs.Disk.{begun, deletions}
 use Rattle.raft_replay.specs.WrittenParts.{written_event}
 use Rattle.raft_recover.specs.Files.{whole_file}
-use Rattle.raft_engine_laws.specs.Stops as queue_deeds
-use Rattle.raft_engine_laws.specs.Stops.{Deed, Write, Delete, Stop, written, deleted, IsSynced}
-use Rattle.raft_engine_fronts.specs.Fronts.{ArePut, ArePutWhole, WrittenBatchIsPut}
-use Rattle.raft_engine_fronts.specs.Done.{AreDoneWhole, AreRisingFrom, Follows, LastFileIsNext, WrittenBatchIsDone, numbers}
-use Rattle.raft_engine_fronts.proofs.EntryPlaceLemmas.{written_within}
+use Rattle.raft_engine_laws.specs.Crashes as queue_deeds
+use Rattle.raft_engine_laws.specs.Crashes.{Deed, Write, Delete, Crash, written, deleted, IsSynced}
+use Rattle.raft_engine_prefixes.specs.Prefixes.{ArePut, ArePutWhole, WrittenBatchIsPut}
+use Rattle.raft_engine_prefixes.specs.Done.{AreDoneWhole, AreRisingFrom, Follows, LastFileIsNext, WrittenBatchIsDone, numbers}
+use Rattle.raft_engine_prefixes.proofs.EntryPlaceLemmas.{written_within}
 use Rattle.raft_engine.specs.Lasting.{AreSynced}
 use Rattle.raft_engine.specs.Stored.{AreAllDone}
 use Rattle.raft_engine.specs.StoredAsks.{IsWritableBatch}
-use Rattle.raft_engine.proofs.LastingLemmas.{all_synced, synced_front}
+use Rattle.raft_engine.proofs.LastingLemmas.{all_synced, synced_prefix}
 use Rattle.raft_engine.proofs.SealedLemmas.{put_is_sound}
 use Rattle.raft_engine.proofs.WellPutLemmas.{begin_well, delete_well, none_well, put_well, sync_well}
 
@@ -31,13 +31,13 @@ use Rattle.raft_engine.proofs.WellPutLemmas.{begin_well, delete_well, none_well,
 is_synced : (deeds : List Deed) → queue_deeds.synced deeds ≡ written deeds → IsSynced deeds
 is_synced [] e = tt
 is_synced (Write x ∷ earlier) e =
-    let f = synced_front earlier in
+    let f = synced_prefix earlier in
     let long = ap length e ∙ length-append (written earlier) (x ∷ []) in
     let split = ap length f.1 ∙ length-append (queue_deeds.synced earlier) f.0 in
     absurd (omega (arith, long, split))
 is_synced (queue_deeds.Sync ∷ earlier) e = tt
 is_synced (Delete n ∷ earlier) e = is_synced earlier e
-is_synced (Stop standing n ∷ earlier) e = tt
+is_synced (Crash standing n ∷ earlier) e = tt
 
 module _ (queue : LogQueue) (version : Version) (acts : List Act) (deeds : List Deed) (a : AreAllDone queue version acts deeds) (s : AreSynced acts) where
   pub same_synced : queue_deeds.synced deeds ≡ written deeds

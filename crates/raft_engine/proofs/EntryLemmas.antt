@@ -15,12 +15,12 @@ use Rattle.raft_files.specs.Disk.{cut_last}
 use Rattle.raft_files.proofs.LastLemmas.{last_of}
 use Rattle.raft_replay.specs.Segments.{HoldsFrom}
 use Rattle.raft_recover.specs.Files.{FilesHold, whole_file}
-use Rattle.raft_engine_fronts.specs.Done.{AreRisingFrom, numbers}
-use Rattle.raft_engine_fronts.specs.EntryPlaces.{EndsWithin, EntriesEndWithin, FilesEndWithin, PlaceStands, StandsAt}
-use Rattle.raft_engine_fronts.specs.TornTails.{FilesHoldTorn}
-use Rattle.raft_engine_fronts.proofs.NumberLemmas.{consecutive_rise, numbers_on_last}
-use Rattle.raft_engine_fronts.proofs.TableEntryLemmas.{stand}
-use Rattle.raft_engine_fronts.proofs.TornLemmas.{cut_found, one_reading, whole_torn}
+use Rattle.raft_engine_prefixes.specs.Done.{AreRisingFrom, numbers}
+use Rattle.raft_engine_prefixes.specs.EntryPlaces.{EndsWithin, EntriesEndWithin, FilesEndWithin, PlaceStands, StandsAt}
+use Rattle.raft_engine_prefixes.specs.TornTails.{FilesHoldTorn}
+use Rattle.raft_engine_prefixes.proofs.NumberLemmas.{consecutive_rise, numbers_on_last}
+use Rattle.raft_engine_prefixes.proofs.TableEntryLemmas.{stand}
+use Rattle.raft_engine_prefixes.proofs.TornLemmas.{cut_found, one_reading, whole_torn}
 use Rattle.raft_engine.specs.CutFiles.{AreCut}
 use Rattle.raft_engine.specs.FoundFiles.{IsCut, IsFirstBegun, IsReady, IsUntorn}
 use Rattle.raft_engine.specs.KeptEngine.{table_in}

@@ -7,8 +7,8 @@ use Rattle.raft_records.specs.Item.{Item}
 use Rattle.raft_records.specs.LogBatch.{Batch}
 use Rattle.raft_files.specs.Asks.{Act, Ask, NumberedBytes, Sync, acts_on, ask}
 use Rattle.raft_files.specs.Disk.{begun, deletions, files_of}
-use Rattle.raft_engine_fronts.specs.Done.{numbers}
-use Rattle.raft_engine_fronts.proofs.NumberLemmas.{numbers_on_last}
+use Rattle.raft_engine_prefixes.specs.Done.{numbers}
+use Rattle.raft_engine_prefixes.proofs.NumberLemmas.{numbers_on_last}
 use Rattle.raft_engine.specs.BatchBytes.{bytes_for}
 use Rattle.raft_engine.specs.KeptEngine.{KeptEngine}
 use Rattle.raft_engine.specs.Moved.{IsTold}

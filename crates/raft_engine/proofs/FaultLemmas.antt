@@ -25,9 +25,9 @@ none_put : (file : LogFileContext) (batch : Batch) (items : List Item) → items
 none_put file batch items none = ap (asks_of_items file batch) none
 
 -- a sync that is wanted, behind others
-synced_front : (sync : Bool) (asks : List Ask) → synced_if sync [] ++ asks ≡ synced_if sync asks
-synced_front true asks = refl
-synced_front false asks = refl
+synced_prefix : (sync : Bool) (asks : List Ask) → synced_if sync [] ++ asks ≡ synced_if sync asks
+synced_prefix true asks = refl
+synced_prefix false asks = refl
 
 synced_more : (sync : Bool) (asks old : List Ask) → synced_if sync (asks ++ old) ≡ synced_if sync asks ++ old
 synced_more true asks old = refl
@@ -179,13 +179,13 @@ module _ (MayFail : Failures) where
       → FailsAmong MayFail (synced_if sync (put_asks file batch)) old new e
   writing_put context file made batch sync old new e is_file is_made some may why =
       let f = made_fails context file made batch old new e is_file is_made some may why in
-      subst (λ (l : List Ask). FailsAmong MayFail l old new e) (synced_front sync (put_asks file batch)) (part_failed MayFail (synced_if sync []) (put_asks file batch) old new e f)
+      subst (λ (l : List Ask). FailsAmong MayFail l old new e) (synced_prefix sync (put_asks file batch)) (part_failed MayFail (synced_if sync []) (put_asks file batch) old new e f)
 
   -- they are put, but not synced
   pub writing_sync : (context file : LogFileContext) (made batch : Batch) (sync : Bool) (old half new : List Ask) (e : Error) → context ≡ file → made ≡ record batch { stage = encoded } → batch.items ≢ []
       → half ≡ ask context.id.queue (Put (bytes_for context made)) ∷ old → FailsAmong MayFail (synced_if sync []) half new e → FailsAmong MayFail (synced_if sync (put_asks file batch)) old new e
   writing_sync context file made batch sync old half new e is_file is_made some is f =
-      subst (λ (l : List Ask). FailsAmong MayFail l old new e) (synced_front sync (put_asks file batch))
+      subst (λ (l : List Ask). FailsAmong MayFail l old new e) (synced_prefix sync (put_asks file batch))
       (more_failed MayFail (synced_if sync []) (put_asks file batch) old half new e (put_whole context file made batch old half is_file is_made some is) f)
 
   -- nothing is put, and the sync fails

@@ -49,16 +49,16 @@ pub fetched_consecutive : (gate : Option ℕ) (es old new : List EntryIndex) →
 fetched_consecutive gate es old new h none e = subst IsConsecutive (sym (e ∙ ap (λ l. l ++ moving_entries gate es) none)) (moving_consecutive gate es h)
 
 -- what is behind the longest front that passes a test
-pub front_passes : {X : Type 0} (p : X → Bool) (xs : List X) → AllByRecursion (λ (x : X). p x ≡ true) (take (prefix_len p xs) xs)
-front_passes p [] = tt
-front_passes {X} p (x ∷ xs) = at (p x) refl (front_passes p xs)
+pub prefix_passes : {X : Type 0} (p : X → Bool) (xs : List X) → AllByRecursion (λ (x : X). p x ≡ true) (take (prefix_len p xs) xs)
+prefix_passes p [] = tt
+prefix_passes {X} p (x ∷ xs) = at (p x) refl (prefix_passes p xs)
   where
     at : (b : Bool) → p x ≡ b → AllByRecursion (λ (y : X). p y ≡ true) (take (prefix_len p xs) xs) → AllByRecursion (λ (y : X). p y ≡ true) (take (prefix_len p (x ∷ xs)) (x ∷ xs))
     at true e h = let k : 1 + prefix_len p xs ≡ suc (prefix_len p xs) = omega arith in rw (e, k) (e, h)
     at false e h = rw e tt
 
 pub all_may_move : (gate : ℕ) (es : List EntryIndex) → AllByRecursion (λ (x : EntryIndex). may_move (Some gate) x ≡ true) (appended_before gate es)
-all_may_move gate es = front_passes (is_placed_before gate) (placed_in Append es)
+all_may_move gate es = prefix_passes (is_placed_before gate) (placed_in Append es)
 
 -- ---- pairs
 

@@ -3,7 +3,7 @@ use Rattle.std.proofs.Common.{◌≡◌, ◌⊎◌, inl, inr, ℕ, suc, ◌+◌,
 use Rattle.std.proofs.lemmas.List.{drop_more}
 use Rattle.std.specs.Global.{Global}
 use Rattle.raft_files.specs.HeldFiles.{file_shown}
-use Rattle.raft_engine_fronts.specs.Done.{AreConsecutive, numbers}
+use Rattle.raft_engine_prefixes.specs.Done.{AreConsecutive, numbers}
 use Rattle.raft_engine.specs.FoundFiles.{StandTogether}
 
 -- the first numbers are consecutive up to this one, and these others follow

@@ -11,8 +11,8 @@ use Rattle.raft_files.specs.Disk.{begun, cut_last}
 use Rattle.raft_files.specs.Places.{bytes_at}
 use Rattle.raft_files.proofs.LastLemmas.{last_of}
 use Rattle.raft_recover.specs.Files.{whole_file}
-use Rattle.raft_engine_fronts.specs.Contents.{KeepsBytes}
-use Rattle.raft_engine_fronts.specs.TornTails.{StopsAt}
+use Rattle.raft_engine_prefixes.specs.Contents.{KeepsBytes}
+use Rattle.raft_engine_prefixes.specs.TornTails.{StopsAt}
 use Rattle.raft_engine.specs.BatchBytes.{bytes_for}
 use Rattle.raft_engine.specs.CutFiles.{AreCut, IsLastCut}
 use Rattle.raft_engine.specs.FoundFiles.{IsCut, IsFirstBegun, IsReady, IsUntorn}

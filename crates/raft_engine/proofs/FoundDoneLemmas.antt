@@ -10,13 +10,13 @@ use Rattle.raft_files.proofs.LastLemmas.{last_of}
 use Rattle.raft_replay.specs.Segments.{HoldsFrom}
 use Rattle.raft_replay.specs.Stops.{IsUnreadableAt}
 use Rattle.raft_recover.specs.Files.{FilesHold, whole_file}
-use Rattle.raft_engine_laws.specs.Stops.{Deed, Stop, deleted, in_files_from, IsSynced}
-use Rattle.raft_engine_fronts.specs.Done.{AreConsecutive, AreDone, AreDoneWhole, AreRisingFrom, Follows, numbers}
-use Rattle.raft_engine_fronts.specs.Fronts.{ArePut, ArePutWhole}
-use Rattle.raft_engine_fronts.specs.TornTails.{FilesHoldTorn, StopsAt}
-use Rattle.raft_engine_fronts.proofs.EventLemmas.{files_high}
-use Rattle.raft_engine_fronts.proofs.NumberLemmas.{consecutive_rise}
-use Rattle.raft_engine_fronts.proofs.TornLemmas.{one_file, whole_torn}
+use Rattle.raft_engine_laws.specs.Crashes.{Deed, Crash, deleted, in_files_from, IsSynced}
+use Rattle.raft_engine_prefixes.specs.Done.{AreConsecutive, AreDone, AreDoneWhole, AreRisingFrom, Follows, numbers}
+use Rattle.raft_engine_prefixes.specs.Prefixes.{ArePut, ArePutWhole}
+use Rattle.raft_engine_prefixes.specs.TornTails.{FilesHoldTorn, StopsAt}
+use Rattle.raft_engine_prefixes.proofs.EventLemmas.{files_high}
+use Rattle.raft_engine_prefixes.proofs.NumberLemmas.{consecutive_rise}
+use Rattle.raft_engine_prefixes.proofs.TornLemmas.{one_file, whole_torn}
 use Rattle.raft_engine.specs.FoundFiles.{IsCut, IsFirstBegun, IsLastOfOther, IsReady, IsTornFrom, IsUntorn}
 use Rattle.raft_engine.specs.SoundBlocks.{IsLastSound}
 use Rattle.raft_engine.specs.Stored.{AreAllDone}
@@ -83,24 +83,24 @@ one_ask queue version asks later files left r = go r.ready
     go (inr (inl u)) = inl u.asked
     go (inr (inr c)) = inr (Cut c.at, c.asked)
 
--- what was found, and what is left, holds the same batches, which are those of a stop
+-- what was found, and what is left, holds the same batches, which are those of a crash
 pub record IsFoundDone (queue : LogQueue) (version : Version) (acts : List Act) (h : List Event) : Type 0 where
-  pub done : AreDone queue version acts (Stop h 0 ∷ [])
+  pub done : AreDone queue version acts (Crash h 0 ∷ [])
   pub put : ArePut queue version acts h h
   pub well : AreWellPut queue version acts
 
 pub record AreReadyDone (queue : LogQueue) (version : Version) (files left : List NumberedBytes) (later : List Act) (h : List Event) : Type 0 where
   pub torn : FilesHoldTorn queue version files h
   pub before : IsFoundDone queue version (Found files ∷ []) h
-  pub after : AreAllDone queue version later (Stop h 0 ∷ [])
+  pub after : AreAllDone queue version later (Crash h 0 ∷ [])
   pub are : begun later ≡ left
   pub none : deletions later ≡ 0
 
 module _
     (found : (queue : LogQueue) (version : Version) (acts : List Act) (deeds : List Deed) (files : List NumberedBytes) (standing : List Event) (n : ℕ)
-    → FilesHoldTorn queue version files (in_files_from n standing) → AreRisingFrom n (numbers files) → AreConsecutive (numbers files) → AreDone queue version (Found files ∷ acts) (Stop standing n ∷ deeds))
+    → FilesHoldTorn queue version files (in_files_from n standing) → AreRisingFrom n (numbers files) → AreConsecutive (numbers files) → AreDone queue version (Found files ∷ acts) (Crash standing n ∷ deeds))
     (found_whole : (queue : LogQueue) (version : Version) (acts : List Act) (deeds : List Deed) (files : List NumberedBytes) (standing : List Event) (n : ℕ)
-    → FilesHold queue version files (in_files_from n standing) → AreRisingFrom n (numbers files) → AreConsecutive (numbers files) → AreDoneWhole queue version (Found files ∷ acts) (Stop standing n ∷ deeds))
+    → FilesHold queue version files (in_files_from n standing) → AreRisingFrom n (numbers files) → AreConsecutive (numbers files) → AreDoneWhole queue version (Found files ∷ acts) (Crash standing n ∷ deeds))
     (cut : (queue : LogQueue) (version : Version) (acts : List Act) (deeds : List Deed) (closed : List NumberedBytes) (last : NumberedBytes) (at : ℕ)
     → AreDone queue version acts deeds → begun acts ≡ closed ++ last ∷ [] → StopsAt (whole_file queue version last) at → AreDoneWhole queue version (Cut at ∷ acts) deeds)
     (begin : (queue : LogQueue) (version : Version) (acts : List Act) (deeds : List Deed) (seq : ℕ)
@@ -120,7 +120,7 @@ module _
   }
 
   whole_done : (queue : LogQueue) (version : Version) (files : List NumberedBytes) (h : List Event) → AreConsecutive (numbers files) → ¬ (IsLastOfOther queue version files) → IsLastSound queue version files → FilesHold queue version files h
-      → AreAllDone queue version (Found files ∷ []) (Stop h 0 ∷ [])
+      → AreAllDone queue version (Found files ∷ []) (Crash h 0 ∷ [])
   whole_done queue version files h consecutive none sound held =
       let torn = whole_torn queue version files h held in record {
         done = found_whole queue version [] [] files h 0 (subst (FilesHold queue version files) (sym (files_high queue version 0 files h (consecutive_rise (numbers files) consecutive) torn)) held) (consecutive_rise (numbers files) consecutive) consecutive;
@@ -138,7 +138,7 @@ module _
         torn = none;
         before = torn_done queue version [] h tt no_other sound none;
         after = record {
-          done = begin queue version (Found [] ∷ []) (Stop h 0 ∷ []) 1 all.done tt tt (omega arith);
+          done = begin queue version (Found [] ∷ []) (Crash h 0 ∷ []) 1 all.done tt tt (omega arith);
           put = put_begin queue version (Found [] ∷ []) h h 1 all.put;
           well = begin_well queue version (Found [] ∷ []) 1 all.well;
         };
@@ -170,7 +170,7 @@ module _
         torn = torn;
         before = before;
         after = record {
-          done = cut queue version (Found files ∷ []) (Stop h 0 ∷ []) closed last at before.done refl t.0;
+          done = cut queue version (Found files ∷ []) (Crash h 0 ∷ []) closed last at before.done refl t.0;
           put = put_cut queue version (Found files ∷ []) h h closed last at before.put refl t.0;
           well = cut_well queue version (Found files ∷ []) at h torn held before.well;
         };

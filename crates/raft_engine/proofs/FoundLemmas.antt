@@ -16,10 +16,10 @@ use Rattle.raft_records.specs.LogBatch.{IsReadable}
 use Rattle.raft_records.proofs.Names.{part_signature}
 use Rattle.raft_replay.specs.Stops.{IsUnreadableAt}
 use Rattle.raft_replay.proofs.SegmentLemmas.{batch_none}
-use Rattle.raft_engine_fronts.specs.TornTails.{IsDamagedAt, StopsAt}
+use Rattle.raft_engine_prefixes.specs.TornTails.{IsDamagedAt, StopsAt}
 use Rattle.raft_tail.specs.Tails.{IsBrokenOff, IsNextElsewhere, IsNextSound}
-use Rattle.raft_engine_fronts.proofs.BatchPartLemmas.{batch_long, end_unreadable}
-use Rattle.raft_engine_fronts.proofs.TornLemmas.{one_stop}
+use Rattle.raft_engine_prefixes.proofs.BatchPartLemmas.{batch_long, end_unreadable}
+use Rattle.raft_engine_prefixes.proofs.TornLemmas.{one_stop}
 use Rattle.raft_engine.specs.FoundFiles.{BeginsInOther, IsOfEngine, IsOfOther, IsOtherText, IsRefusedAt, IsTailRefused, engine_header, in_other, other_version}
 use Rattle.raft_engine.specs.declared.recovery_mode.RecoveryMode.{RecoveryMode}
 

@@ -13,9 +13,9 @@ use Rattle.raft_files.specs.Asks.{NumberedBytes}
 use Rattle.raft_files.specs.Disk.{cut_last}
 use Rattle.raft_files.proofs.LastLemmas.{last_of}
 use Rattle.raft_recover.specs.Files.{AreWholeFiles, bytes_of_files, segment_shown, whole_file}
-use Rattle.raft_engine_fronts.specs.Done.{AreConsecutive, numbers}
-use Rattle.raft_engine_fronts.specs.TornTails.{StopsAt}
-use Rattle.raft_engine_fronts.proofs.TornLemmas.{stop_unreadable}
+use Rattle.raft_engine_prefixes.specs.Done.{AreConsecutive, numbers}
+use Rattle.raft_engine_prefixes.specs.TornTails.{StopsAt}
+use Rattle.raft_engine_prefixes.proofs.TornLemmas.{stop_unreadable}
 use Rattle.raft_replay.specs.Stops.{IsUnreadableAt}
 use Rattle.raft_engine.specs.CutTails.{IsTailOf, IsTailTold, IsTornAs}
 use Rattle.raft_engine.specs.FoundFiles.{AreAccepted, BeginsInOther, IsFoundFault, IsOfEngine, IsOfOther, IsOtherAs, IsRefusalText, IsRefusedAt, IsTailRefused, IsTailRefusedAs}

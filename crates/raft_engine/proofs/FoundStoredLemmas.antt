@@ -27,12 +27,12 @@ use Rattle.raft_recover.specs.Files.{FilesHold, whole_file}
 use Rattle.raft_engine_laws.specs.Groups.{HasNoMarker}
 use Rattle.raft_engine_laws.specs.GroupsInRows.{AreGroupsInRows}
 use Rattle.raft_engine_laws.specs.Records.{HaveRecords, Records, live}
-use Rattle.raft_engine_laws.specs.Stops as queue_deeds
-use Rattle.raft_engine_laws.specs.Stops.{Deed, Stop, Write, IsLeft, IsNextIn, IsSafe, LoseNothing, written}
+use Rattle.raft_engine_laws.specs.Crashes as queue_deeds
+use Rattle.raft_engine_laws.specs.Crashes.{Deed, Crash, Write, IsLeft, IsNextIn, IsSafe, LoseNothing, written}
 use Rattle.raft_engine_laws.specs.MarksTold.{IsToldNowOrLater}
 use Rattle.raft_engine_laws.specs.Telling.{TakeAway}
-use Rattle.raft_engine_fronts.specs.Done.{AreDone, HoldLeft, LastFileIsNext}
-use Rattle.raft_engine_fronts.specs.Fronts.{ArePut}
+use Rattle.raft_engine_prefixes.specs.Done.{AreDone, HoldLeft, LastFileIsNext}
+use Rattle.raft_engine_prefixes.specs.Prefixes.{ArePut}
 use Rattle.raft_engine.specs.BatchBytes.{bytes_for, place_at, placed_at}
 use Rattle.raft_engine.specs.FoundFiles.{IsReady}
 use Rattle.raft_engine.specs.FoundRecords.{FoundRecordsLast, HaveEverRecords}
@@ -43,12 +43,12 @@ use Rattle.raft_engine.specs.OpeningAsks.{asks_that_tell}
 use Rattle.raft_engine.specs.Stored.{AreAllDone, Bases}
 use Rattle.raft_engine.specs.StoredAsks.{IsWritableBatch, WhatIsDoneLasts}
 use Rattle.raft_engine.specs.WellPut.{AreWellPut}
-use Rattle.raft_engine_fronts.specs.Contents.{AreBothTold, KeepsBytes}
+use Rattle.raft_engine_prefixes.specs.Contents.{AreBothTold, KeepsBytes}
 use Rattle.raft_engine.specs.StoredFound.{AreMadeReady, AreReady, AreStoredBeside, FoundFilesAreReady, FoundFilesAreStored, found_asks, told_asks}
 use Rattle.raft_engine.proofs.FoundDoneLemmas.{AreReadyDone, one_ask}
 use Rattle.raft_engine.proofs.JoinedLemmas.{joined_told}
 use Rattle.raft_engine_laws.proofs.InRows.{rows_alone, rows_left}
-use Rattle.raft_engine_laws.proofs.SafeOpenings.{left_of_stop}
+use Rattle.raft_engine_laws.proofs.SafeOpenings.{left_of_crash}
 use Rattle.raft_engine.proofs.StoredLemmas.{first_on, goes_on}
 use Rattle.raft_engine.proofs.UntoldLemmas.{placed_away, placed_steps}
 use Rattle.raft_engine.proofs.WellPutLemmas.{both_well}
@@ -116,8 +116,8 @@ module _ (ready : ReadyIsDone) (version : Version) (asked : List Ask) (append re
   b : AreReadyDone Rewrite version rewrite rewrite_left (acts_on Rewrite asked) k
   b = ready Rewrite version r.between asked rewrite rewrite_left rewrite_same r.rewrite_ready k rewrite_held
 
-  append_all : AreAllDone Append version (acts_on Append asked) (Stop h 0 ∷ [])
-  append_all = subst (λ (l : List Act). AreAllDone Append version l (Stop h 0 ∷ [])) (sym append_same) a.after
+  append_all : AreAllDone Append version (acts_on Append asked) (Crash h 0 ∷ [])
+  append_all = subst (λ (l : List Act). AreAllDone Append version l (Crash h 0 ∷ [])) (sym append_same) a.after
 
   -- the files were found first
   since_between : (since : List Ask) × (r.between ≡ since ++ first)
@@ -140,7 +140,7 @@ module _ (ready : ReadyIsDone) (version : Version) (asked : List Ask) (append re
   }
 
   module _ (P : List Ask → Type 0)
-      (so : (l : List Ask) → (since : List Ask) × (l ≡ since ++ first) → AreDone Append version (acts_on Append l) (Stop h 0 ∷ []) → AreDone Rewrite version (acts_on Rewrite l) (Stop k 0 ∷ []) → ArePut Append version (acts_on Append l) h h
+      (so : (l : List Ask) → (since : List Ask) × (l ≡ since ++ first) → AreDone Append version (acts_on Append l) (Crash h 0 ∷ []) → AreDone Rewrite version (acts_on Rewrite l) (Crash k 0 ∷ []) → ArePut Append version (acts_on Append l) h h
       → ((queue : LogQueue) → AreWellPut queue version (acts_on queue l)) → P l) where
     at_first : WasEver P first
     at_first [] earlier e begun = subst P e (so first ([], refl) a.before.done b.before.done a.before.put (both_well version first a.before.well b.before.well))
@@ -152,7 +152,7 @@ module _ (ready : ReadyIsDone) (version : Version) (asked : List Ask) (append re
     ever_ready =
         may_more P Rewrite r.between asked step_rewrite
         (may_more P Append first r.between step_append at_first
-        (so r.between since_between a.after.done.done (subst (λ (l : List Act). AreDone Rewrite version l (Stop k 0 ∷ [])) (sym rewrite_same) b.before.done) a.after.put.put
+        (so r.between since_between a.after.done.done (subst (λ (l : List Act). AreDone Rewrite version l (Crash k 0 ∷ [])) (sym rewrite_same) b.before.done) a.after.put.put
         (both_well version r.between a.after.well (subst (AreWellPut Rewrite version) (sym rewrite_same) b.before.well))))
         (so asked since_asked append_all.done.done b.after.done.done append_all.put.put (both_well version asked append_all.well b.after.well))
 
@@ -173,10 +173,10 @@ LeftIsHeld =
 
 -- where nothing is lost, what is left has the records that were found
 records_found : LeftIsHeld → (content : EntryIndex → List ℕ) (version : Version) (base : ℕ → Records) (l : List Ask) (h : List Event) (rewritten : List Deed)
-    → AreDone Append version (acts_on Append l) (Stop h 0 ∷ []) → AreDone Rewrite version (acts_on Rewrite l) rewritten → AreGroupsInRows (written rewritten)
-    → LoseNothing content base (Stop h 0 ∷ []) rewritten → HaveLeft content version (live content base h) l
+    → AreDone Append version (acts_on Append l) (Crash h 0 ∷ []) → AreDone Rewrite version (acts_on Rewrite l) rewritten → AreGroupsInRows (written rewritten)
+    → LoseNothing content base (Crash h 0 ∷ []) rewritten → HaveLeft content version (live content base h) l
 records_found left content version base l h rewritten append_done rewrite_done rows none append rewrite left_append left_rewrite =
-    let a = left Append version l (Stop h 0 ∷ []) append append_done left_append in
+    let a = left Append version l (Crash h 0 ∷ []) append append_done left_append in
     let b = left Rewrite version l rewritten rewrite rewrite_done left_rewrite in
     let ok = none.readable a.standing a.left b.standing b.left a.is_left b.is_left in
     let same : a.standing ≡ h = a.is_left.stands in
@@ -218,16 +218,16 @@ module _ (ready : ReadyIsDone) (lasts : WhatIsDoneLasts) (left : LeftIsHeld)
     (open_mixed : (append rewrite : List Event) (found : Tables) (cleaned : List ℕ) (e : Event)
     → IsSoundIn Append append → IsSoundIn Rewrite rewrite → Apart rewrite → (both : IsReadingOfBoth rewrite append found cleaned)
     → ((r : ℕ) → AreTableEntries (table_of r (finite.get found r)).entries)
-    → IsNextIn Rewrite (Stop rewrite 0 ∷ []) e → HasNoMarker e → (untold : List RegionStep)
+    → IsNextIn Rewrite (Crash rewrite 0 ∷ []) e → HasNoMarker e → (untold : List RegionStep)
     → ((r : ℕ) → IsToldNowOrLater (steps_of r (batches append)) (steps_on r (steps_of_items e.items)) (steps_on r untold) (table_of r (finite.get both.rewritten r)) (table_of r (finite.get found r)))
-    → (base : Bases) × ((content : EntryIndex → List ℕ) → IsSafe content (base content) (Stop append 0 ∷ []) (queue_deeds.Sync ∷ Write e ∷ Stop rewrite 0 ∷ []) untold found)
-    × ((content : EntryIndex → List ℕ) → LoseNothing content (base content) (Stop append 0 ∷ []) (Write e ∷ Stop rewrite 0 ∷ []))
-    × ((content : EntryIndex → List ℕ) → LoseNothing content (base content) (Stop append 0 ∷ []) (Stop rewrite 0 ∷ [])))
+    → (base : Bases) × ((content : EntryIndex → List ℕ) → IsSafe content (base content) (Crash append 0 ∷ []) (queue_deeds.Sync ∷ Write e ∷ Crash rewrite 0 ∷ []) untold found)
+    × ((content : EntryIndex → List ℕ) → LoseNothing content (base content) (Crash append 0 ∷ []) (Write e ∷ Crash rewrite 0 ∷ []))
+    × ((content : EntryIndex → List ℕ) → LoseNothing content (base content) (Crash append 0 ∷ []) (Crash rewrite 0 ∷ [])))
     (open_later : (append rewrite : List Event) (found : Tables) (cleaned : List ℕ)
     → IsSoundIn Append append → IsSoundIn Rewrite rewrite → Apart rewrite → (both : IsReadingOfBoth rewrite append found cleaned)
     → ((r : ℕ) → AreTableEntries (table_of r (finite.get found r)).entries) → (untold : List RegionStep)
     → ((r : ℕ) → IsToldNowOrLater (steps_of r (batches append)) [] (steps_on r untold) (table_of r (finite.get both.rewritten r)) (table_of r (finite.get found r)))
-    → (base : Bases) × ((content : EntryIndex → List ℕ) → IsSafe content (base content) (Stop append 0 ∷ []) (Stop rewrite 0 ∷ []) untold found)) where
+    → (base : Bases) × ((content : EntryIndex → List ℕ) → IsSafe content (base content) (Crash append 0 ∷ []) (Crash rewrite 0 ∷ []) untold found)) where
   module _ (version : Version) (asked : List Ask) (append rewrite append_left rewrite_left : List NumberedBytes) (accessor : Accessor) (told untold : Batch)
       (r : AreReady version append rewrite append_left rewrite_left asked) (g : AreRecovered version append_left rewrite_left accessor told untold) where
     abbrev h : List Event
@@ -239,7 +239,7 @@ module _ (ready : ReadyIsDone) (lasts : WhatIsDoneLasts) (left : LeftIsHeld)
     abbrev left_untold : List RegionStep
     left_untold = steps_of_items untold.items
 
-    append_done : AreAllDone Append version (acts_on Append asked) (Stop h 0 ∷ [])
+    append_done : AreAllDone Append version (acts_on Append asked) (Crash h 0 ∷ [])
     append_done = append_all ready version asked append rewrite append_left rewrite_left h k r g.append_held g.rewrite_held
 
     rewrite_done : AreReadyDone Rewrite version rewrite rewrite_left (acts_on Rewrite asked) k
@@ -249,8 +249,8 @@ module _ (ready : ReadyIsDone) (lasts : WhatIsDoneLasts) (left : LeftIsHeld)
     begun_or_found = found_first ready version asked append rewrite append_left rewrite_left h k r g.append_held g.rewrite_held
 
     ever : (P : List Ask → Type 0)
-        → ((l : List Ask) → (since : List Ask) × (l ≡ since ++ found_asks append rewrite) → AreDone Append version (acts_on Append l) (Stop h 0 ∷ [])
-        → AreDone Rewrite version (acts_on Rewrite l) (Stop k 0 ∷ []) → ArePut Append version (acts_on Append l) h h
+        → ((l : List Ask) → (since : List Ask) × (l ≡ since ++ found_asks append rewrite) → AreDone Append version (acts_on Append l) (Crash h 0 ∷ [])
+        → AreDone Rewrite version (acts_on Rewrite l) (Crash k 0 ∷ []) → ArePut Append version (acts_on Append l) h h
         → ((queue : LogQueue) → AreWellPut queue version (acts_on queue l)) → P l)
         → WasEver P asked
     ever = ever_ready ready version asked append rewrite append_left rewrite_left h k r g.append_held g.rewrite_held
@@ -263,39 +263,39 @@ module _ (ready : ReadyIsDone) (lasts : WhatIsDoneLasts) (left : LeftIsHeld)
     found_join l since found = found since.0 append rewrite since.1 h k made.append_held made.rewrite_held
 
     left_join : (l : List Ask) → (since : List Ask) × (l ≡ since ++ found_asks append rewrite) → FoundFilesJoin version l
-        → (standing a others w : List Event) → IsLeft (Stop h 0 ∷ []) standing a → IsLeft (Stop k 0 ∷ []) others w → BatchesJoin a w
+        → (standing a others w : List Event) → IsLeft (Crash h 0 ∷ []) standing a → IsLeft (Crash k 0 ∷ []) others w → BatchesJoin a w
     left_join l since found standing a others w x y =
-        subst (λ (e : List Event). BatchesJoin e w) (sym (left_of_stop Append h standing a g.append_sound.files x))
-        (subst (λ (e : List Event). BatchesJoin h e) (sym (left_of_stop Rewrite k others w g.rewrite_sound.files y)) (found_join l since found))
+        subst (λ (e : List Event). BatchesJoin e w) (sym (left_of_crash Append h standing a g.append_sound.files x))
+        (subst (λ (e : List Event). BatchesJoin h e) (sym (left_of_crash Rewrite k others w g.rewrite_sound.files y)) (found_join l since found))
 
-    ever_lasting : (base : Bases) → ((content : EntryIndex → List ℕ) → LoseNothing content (base content) (Stop h 0 ∷ []) (Stop k 0 ∷ []))
+    ever_lasting : (base : Bases) → ((content : EntryIndex → List ℕ) → LoseNothing content (base content) (Crash h 0 ∷ []) (Crash k 0 ∷ []))
         → (content : EntryIndex → List ℕ) → WasEver (λ (l : List Ask). IsLastingAfter content version (base content) l) asked
     ever_lasting base none content =
         ever (λ (l : List Ask). IsLastingAfter content version (base content) l)
-        (λ l since done done' put well. (lasts content version (base content) l (Stop h 0 ∷ []) (Stop k 0 ∷ []) done done' put well g.rows (none content) (left_join l since)).0)
+        (λ l since done done' put well. (lasts content version (base content) l (Crash h 0 ∷ []) (Crash k 0 ∷ []) done done' put well g.rows (none content) (left_join l since)).0)
 
-    ever_found : (base : Bases) → ((content : EntryIndex → List ℕ) → LoseNothing content (base content) (Stop h 0 ∷ []) (Stop k 0 ∷ []))
+    ever_found : (base : Bases) → ((content : EntryIndex → List ℕ) → LoseNothing content (base content) (Crash h 0 ∷ []) (Crash k 0 ∷ []))
         → (content : EntryIndex → List ℕ) → WasEver (HaveLeft content version (live content (base content) h)) asked
     ever_found base none content =
         ever (HaveLeft content version (live content (base content) h))
-        (λ l since done done' put well. records_found left content version (base content) l h (Stop k 0 ∷ []) done done' g.rows (none content))
+        (λ l since done done' put well. records_found left content version (base content) l h (Crash k 0 ∷ []) done done' g.rows (none content))
 
     module _ (nothing : told.items ≡ []) where
-      open_so : (base : Bases) × ((content : EntryIndex → List ℕ) → IsSafe content (base content) (Stop h 0 ∷ []) (Stop k 0 ∷ []) left_untold accessor.tables)
+      open_so : (base : Bases) × ((content : EntryIndex → List ℕ) → IsSafe content (base content) (Crash h 0 ∷ []) (Crash k 0 ∷ []) left_untold accessor.tables)
       open_so =
           open_later h k accessor.tables accessor.cleaned g.append_sound g.rewrite_sound g.apart g.reading g.runs left_untold
           (λ i. subst (λ (l : List Step). IsToldNowOrLater (steps_of i (batches h)) l (steps_on i left_untold) (table_of i (finite.get g.reading.rewritten i)) (table_of i (finite.get accessor.tables i)))
           (ap (λ (l : List Item). steps_on i (steps_of_items l)) nothing ∙ own_none i) (g.says i))
 
-      none_lost : (content : EntryIndex → List ℕ) → LoseNothing content (open_so.0 content) (Stop h 0 ∷ []) (Stop k 0 ∷ [])
-      none_lost content = lose content (open_so.0 content) (Stop h 0 ∷ []) (Stop k 0 ∷ []) left_untold accessor.tables (open_so.1 content)
+      none_lost : (content : EntryIndex → List ℕ) → LoseNothing content (open_so.0 content) (Crash h 0 ∷ []) (Crash k 0 ∷ [])
+      none_lost content = lose content (open_so.0 content) (Crash h 0 ∷ []) (Crash k 0 ∷ []) left_untold accessor.tables (open_so.1 content)
 
       at_once : AreStoredBeside version asked untold.items accessor.tables
       at_once = (
         open_so.0,
         record {
           first = begun_or_found;
-          now = record { appended = Stop h 0 ∷ []; rewritten = Stop k 0 ∷ []; append_done = append_done; rewrite_done = rewrite_done.after; rows = g.rows; safe = λ content told. open_so.1 content };
+          now = record { appended = Crash h 0 ∷ []; rewritten = Crash k 0 ∷ []; append_done = append_done; rewrite_done = rewrite_done.after; rows = g.rows; safe = λ content told. open_so.1 content };
           ever = λ content told. ever_lasting open_so.0 none_lost content;
         },
       )
@@ -322,8 +322,8 @@ module _ (ready : ReadyIsDone) (lasts : WhatIsDoneLasts) (left : LeftIsHeld)
       is_last : begun (acts_on Rewrite asked) ≡ closed ++ (seq, bytes) ∷ []
       is_last = rewrite_done.are ∙ split
 
-      is_next : IsNextIn Rewrite (Stop k 0 ∷ []) e
-      is_next = next Rewrite version (acts_on Rewrite asked) (Stop k 0 ∷ []) closed (seq, bytes) e rewrite_done.after.done is_last refl (in_file id items taken) (status items taken)
+      is_next : IsNextIn Rewrite (Crash k 0 ∷ []) e
+      is_next = next Rewrite version (acts_on Rewrite asked) (Crash k 0 ∷ []) closed (seq, bytes) e rewrite_done.after.done is_last refl (in_file id items taken) (status items taken)
 
       rows_more : AreGroupsInRows (k ++ e ∷ [])
       rows_more = rows_alone k e (unmarked id items taken) g.rows
@@ -331,9 +331,9 @@ module _ (ready : ReadyIsDone) (lasts : WhatIsDoneLasts) (left : LeftIsHeld)
       steps : steps_of_items items ≡ steps_of_items told.items
       steps = placed_steps (entry_place handle told.entry_bytes) compressions.None told.items g.told_away
 
-      o : (base : Bases) × ((content : EntryIndex → List ℕ) → IsSafe content (base content) (Stop h 0 ∷ []) (queue_deeds.Sync ∷ Write e ∷ Stop k 0 ∷ []) left_untold accessor.tables)
-          × ((content : EntryIndex → List ℕ) → LoseNothing content (base content) (Stop h 0 ∷ []) (Write e ∷ Stop k 0 ∷ []))
-          × ((content : EntryIndex → List ℕ) → LoseNothing content (base content) (Stop h 0 ∷ []) (Stop k 0 ∷ []))
+      o : (base : Bases) × ((content : EntryIndex → List ℕ) → IsSafe content (base content) (Crash h 0 ∷ []) (queue_deeds.Sync ∷ Write e ∷ Crash k 0 ∷ []) left_untold accessor.tables)
+          × ((content : EntryIndex → List ℕ) → LoseNothing content (base content) (Crash h 0 ∷ []) (Write e ∷ Crash k 0 ∷ []))
+          × ((content : EntryIndex → List ℕ) → LoseNothing content (base content) (Crash h 0 ∷ []) (Crash k 0 ∷ []))
       o =
           open_mixed h k accessor.tables accessor.cleaned e g.append_sound g.rewrite_sound g.apart g.reading g.runs is_next (unmarked id items taken) left_untold
           (λ i. subst (λ (l : List RegionStep). IsToldNowOrLater (steps_of i (batches h)) (steps_on i l) (steps_on i left_untold) (table_of i (finite.get g.reading.rewritten i)) (table_of i (finite.get accessor.tables i)))
@@ -342,14 +342,14 @@ module _ (ready : ReadyIsDone) (lasts : WhatIsDoneLasts) (left : LeftIsHeld)
       abbrev put_ask : Ask
       put_ask = ask Rewrite (Put (bytes_for (record { id = id; version = version }) told))
 
-      put_all : AreAllDone Rewrite version (acts_on Rewrite (put_ask ∷ asked)) (Write e ∷ Stop k 0 ∷ [])
-      put_all = put Rewrite version (acts_on Rewrite asked) (Stop k 0 ∷ []) closed (seq, bytes) handle told w refl refl is_last rewrite_done.after
+      put_all : AreAllDone Rewrite version (acts_on Rewrite (put_ask ∷ asked)) (Write e ∷ Crash k 0 ∷ [])
+      put_all = put Rewrite version (acts_on Rewrite asked) (Crash k 0 ∷ []) closed (seq, bytes) handle told w refl refl is_last rewrite_done.after
 
-      sync_all : AreAllDone Rewrite version (acts_on Rewrite (ask Rewrite asks.Sync ∷ put_ask ∷ asked)) (queue_deeds.Sync ∷ Write e ∷ Stop k 0 ∷ [])
-      sync_all = sync Rewrite version (acts_on Rewrite (put_ask ∷ asked)) (Write e ∷ Stop k 0 ∷ []) put_all
+      sync_all : AreAllDone Rewrite version (acts_on Rewrite (ask Rewrite asks.Sync ∷ put_ask ∷ asked)) (queue_deeds.Sync ∷ Write e ∷ Crash k 0 ∷ [])
+      sync_all = sync Rewrite version (acts_on Rewrite (put_ask ∷ asked)) (Write e ∷ Crash k 0 ∷ []) put_all
 
       -- where of the found files nothing stays in front, nothing is told
-      nothing_put : FoundFilesJoin version (put_ask ∷ asked) → (standing a others q : List Event) → IsLeft (Stop h 0 ∷ []) standing a → IsLeft (Write e ∷ Stop k 0 ∷ []) others q → BatchesJoin a q
+      nothing_put : FoundFilesJoin version (put_ask ∷ asked) → (standing a others q : List Event) → IsLeft (Crash h 0 ∷ []) standing a → IsLeft (Write e ∷ Crash k 0 ∷ []) others q → BatchesJoin a q
       nothing_put found standing a others q x y =
           let since = since_asked ready version asked append rewrite append_left rewrite_left h k r g.append_held g.rewrite_held in
           let join = found_join (put_ask ∷ asked) (put_ask ∷ since.0, ap (λ (l : List Ask). put_ask ∷ l) since.1) found in
@@ -358,15 +358,15 @@ module _ (ready : ReadyIsDone) (lasts : WhatIsDoneLasts) (left : LeftIsHeld)
       ever_put : (content : EntryIndex → List ℕ) → WasEver (λ (l : List Ask). IsLastingAfter content version (o.0 content) l) (put_ask ∷ asked)
       ever_put content =
           one_more (λ (l : List Ask). IsLastingAfter content version (o.0 content) l) put_ask asked (ever_lasting o.0 o.3 content)
-          (lasts content version (o.0 content) (put_ask ∷ asked) (Stop h 0 ∷ []) (Write e ∷ Stop k 0 ∷ []) append_done.done.done put_all.done.done append_done.put.put
+          (lasts content version (o.0 content) (put_ask ∷ asked) (Crash h 0 ∷ []) (Write e ∷ Crash k 0 ∷ []) append_done.done.done put_all.done.done append_done.put.put
           (both_well version (put_ask ∷ asked) append_done.well put_all.well) rows_more (o.2 content) nothing_put).0
 
       once_told : AreStoredBeside version (told_asks version seq told asked) untold.items accessor.tables
       once_told = (
         o.0,
         goes_on lasts lose keep version (ask Rewrite asks.Sync) (put_ask ∷ asked) o.0 untold.items accessor.tables tt (first_on put_ask asked begun_or_found) (λ content told. ever_put content) (record {
-          appended = Stop h 0 ∷ [];
-          rewritten = queue_deeds.Sync ∷ Write e ∷ Stop k 0 ∷ [];
+          appended = Crash h 0 ∷ [];
+          rewritten = queue_deeds.Sync ∷ Write e ∷ Crash k 0 ∷ [];
           append_done = append_done;
           rewrite_done = sync_all;
           rows = rows_more;
@@ -380,9 +380,9 @@ module _ (ready : ReadyIsDone) (lasts : WhatIsDoneLasts) (left : LeftIsHeld)
         λ content.
             one_more (HaveLeft content version (live content (o.0 content) h)) (ask Rewrite asks.Sync) (put_ask ∷ asked)
             (one_more (HaveLeft content version (live content (o.0 content) h)) put_ask asked (ever_found o.0 o.3 content)
-            (records_found left content version (o.0 content) (put_ask ∷ asked) h (Write e ∷ Stop k 0 ∷ []) append_done.done.done put_all.done.done rows_more (o.2 content)))
-            (records_found left content version (o.0 content) (ask Rewrite asks.Sync ∷ put_ask ∷ asked) h (queue_deeds.Sync ∷ Write e ∷ Stop k 0 ∷ []) append_done.done.done sync_all.done.done rows_more
-            (lose content (o.0 content) (Stop h 0 ∷ []) (queue_deeds.Sync ∷ Write e ∷ Stop k 0 ∷ []) left_untold accessor.tables (o.1 content))),
+            (records_found left content version (o.0 content) (put_ask ∷ asked) h (Write e ∷ Crash k 0 ∷ []) append_done.done.done put_all.done.done rows_more (o.2 content)))
+            (records_found left content version (o.0 content) (ask Rewrite asks.Sync ∷ put_ask ∷ asked) h (queue_deeds.Sync ∷ Write e ∷ Crash k 0 ∷ []) append_done.done.done sync_all.done.done rows_more
+            (lose content (o.0 content) (Crash h 0 ∷ []) (queue_deeds.Sync ∷ Write e ∷ Crash k 0 ∷ []) left_untold accessor.tables (o.1 content))),
       )
 
   pub found_stored : FoundFilesAreStored

@@ -36,7 +36,7 @@ use Rattle.raft_engine_laws.specs.Moving.{AreCopies, AreOrdinary, MoveAgain, Mov
 use Rattle.raft_engine_laws.proofs.AgainSteps.{copies-append}
 use Rattle.raft_engine_laws.proofs.TakenAgain.{entries_pair, entries_run}
 use Rattle.raft_engine_laws.proofs.ToldItems.{steps-append}
-use Rattle.raft_engine_fronts.specs.Contents.{AddedEntriesAreTold, AreBothTold, HaveContents, KeepsBytes, ReadEntryIsTold, placed_entries}
+use Rattle.raft_engine_prefixes.specs.Contents.{AddedEntriesAreTold, AreBothTold, HaveContents, KeepsBytes, ReadEntryIsTold, placed_entries}
 use Rattle.raft_engine.specs.BatchBytes.{bytes_for, place_at, placed_at}
 use Rattle.raft_engine.specs.GroupAsks.{AreGroupBatchesStored, BegunGroupsAreStored, EndedGroupsArePut, EndedGroupsAreStored, GroupsGoOnStored, IsGroupBegun, IsOfGroup}
 use Rattle.raft_engine.specs.GroupBatches.{ArePartsRead, EntriesPart, IsGroupMoving, batches_behind, group_batches, marker_batch, part_batch, placed_from, puts_asks}

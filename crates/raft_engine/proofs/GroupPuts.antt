@@ -32,12 +32,12 @@ use Rattle.raft_engine_laws.specs.Groups.{IsBeforeEnd, IsMarked, IsWholeGroup, L
 use Rattle.raft_engine_laws.specs.GroupsInRows.{AreGroupsInRows}
 use Rattle.raft_engine_laws.specs.Moving.{MoveAgain}
 use Rattle.raft_engine_laws.specs.Records.{Records}
-use Rattle.raft_engine_laws.specs.Stops.{AreInFileOf, Deed, Write, IsNextIn, IsSafe, IsSynced, LoseNothing, deleted, written}
+use Rattle.raft_engine_laws.specs.Crashes.{AreInFileOf, Deed, Write, IsNextIn, IsSafe, IsSynced, LoseNothing, deleted, written}
 use Rattle.raft_engine_laws.proofs.InRows.{rows_begun, rows_gone_on}
-use Rattle.raft_engine_laws.proofs.StopLemmas.{all_gone}
+use Rattle.raft_engine_laws.proofs.CrashLemmas.{all_gone}
 use Rattle.raft_engine_laws.proofs.TakenAgain.{again_is_taken}
-use Rattle.raft_engine_fronts.specs.Contents.{AreBothTold, KeepsBytes}
-use Rattle.raft_engine_fronts.specs.Done.{LastFileIsNext}
+use Rattle.raft_engine_prefixes.specs.Contents.{AreBothTold, KeepsBytes}
+use Rattle.raft_engine_prefixes.specs.Done.{LastFileIsNext}
 use Rattle.raft_engine.specs.BatchBytes.{bytes_for, place_at, placed_at}
 use Rattle.raft_engine.specs.GroupAsks.{IsGroupBegun, IsOfGroup}
 use Rattle.raft_engine.specs.KeptEngine.{IsLastFile}

@@ -21,7 +21,7 @@ use Rattle.raft_accessor.specs.Accessor.{Accessor}
 use Rattle.raft_accessor.specs.Writes.{AreWritten, Rewriting}
 use Rattle.raft_files.specs.Asks.{Ask, Put, acts_on, ask}
 use Rattle.raft_files.specs.Disk.{begun, deletions}
-use Rattle.raft_engine_laws.specs.Stops as queue_deeds
+use Rattle.raft_engine_laws.specs.Crashes as queue_deeds
 use Rattle.raft_engine.specs.BatchBytes.{bytes_for, placed_at}
 use Rattle.raft_engine.specs.GroupAsks.{AreGroupBatchesStored, MovedGroupsAreStored}
 use Rattle.raft_engine.specs.GroupBatches.{EntriesPart, batches_behind, part_batch, placed_from, puts_asks}

@@ -20,7 +20,7 @@ use Rattle.raft_accessor.specs.Accessor.{Accessor}
 use Rattle.raft_accessor.specs.Writes.{AreWritten, Rewriting, after_items}
 use Rattle.raft_files.specs.Asks.{Ask, MayBeAsked, Put, Read, acts_on, ask}
 use Rattle.raft_files.specs.Disk.{begun, deletions}
-use Rattle.raft_engine_laws.specs.Stops as queue_deeds
+use Rattle.raft_engine_laws.specs.Crashes as queue_deeds
 use Rattle.raft_engine.specs.BatchBytes.{bytes_for, placed_at}
 use Rattle.raft_engine.specs.KeptEngine.{IsLastFile, KeptEngine}
 use Rattle.raft_engine.specs.KeptEngineView.{AreFilesOf, IsKeptBy}

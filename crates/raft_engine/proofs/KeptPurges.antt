@@ -14,7 +14,7 @@ use Rattle.raft_history.specs.RegionSteps.{Tables}
 use Rattle.raft_accessor.specs.Accessor.{Accessor}
 use Rattle.raft_files.specs.Asks.{Ask, Sync, acts_on, ask}
 use Rattle.raft_files.specs.Disk.{begun, deletions}
-use Rattle.raft_engine_fronts.specs.Done.{AreRisingFrom, numbers}
+use Rattle.raft_engine_prefixes.specs.Done.{AreRisingFrom, numbers}
 use Rattle.raft_engine_laws.specs.Telling.{TakeAway}
 use Rattle.raft_engine.specs.BatchBytes.{bytes_for}
 use Rattle.raft_engine.specs.KeptEngine.{IsLastFile, KeptEngine}

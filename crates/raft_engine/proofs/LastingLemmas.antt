@@ -7,17 +7,17 @@ use Rattle.raft_history.specs.Batches.{Event}
 use Rattle.raft_files.specs.Asks as asks
 use Rattle.raft_files.specs.Asks.{Act, Ask, Begin, Cut, Found, NumberedBytes, Put, Read, Sync, acts_on}
 use Rattle.raft_files.specs.Disk.{begun, IsLeftOf}
-use Rattle.raft_engine_laws.specs.Stops as queue_deeds
-use Rattle.raft_engine_laws.specs.Stops.{Deed, Write, Delete, Stop, in_files_from, written, MayStand}
-use Rattle.raft_engine_fronts.specs.EntryPlaces.{FilesEndWithin, FoundEndWithin}
-use Rattle.raft_engine_fronts.specs.Fronts.{ArePut, IsFrontWith}
-use Rattle.raft_engine_fronts.proofs.EndLemmas.{left_within}
-use Rattle.raft_engine_fronts.specs.TornTails.{AreUndamaged, FilesHoldTorn, FoundUndamaged}
-use Rattle.raft_engine_fronts.proofs.TornLemmas.{one_reading, whole_torn}
-use Rattle.raft_engine_fronts.proofs.UndamagedLemmas.{left_undamaged}
-use Rattle.raft_engine_fronts.specs.AnyTails.{IsUnforgedLeftOf}
-use Rattle.raft_engine_fronts.specs.Contents.{AreTold, AreToldByFiles}
-use Rattle.raft_engine_fronts.specs.Done.{AreDone, HoldLeft}
+use Rattle.raft_engine_laws.specs.Crashes as queue_deeds
+use Rattle.raft_engine_laws.specs.Crashes.{Deed, Write, Delete, Crash, in_files_from, written, MayStand}
+use Rattle.raft_engine_prefixes.specs.EntryPlaces.{FilesEndWithin, FoundEndWithin}
+use Rattle.raft_engine_prefixes.specs.Prefixes.{ArePut, IsPrefixWith}
+use Rattle.raft_engine_prefixes.proofs.EndLemmas.{left_within}
+use Rattle.raft_engine_prefixes.specs.TornTails.{AreUndamaged, FilesHoldTorn, FoundUndamaged}
+use Rattle.raft_engine_prefixes.proofs.TornLemmas.{one_reading, whole_torn}
+use Rattle.raft_engine_prefixes.proofs.UndamagedLemmas.{left_undamaged}
+use Rattle.raft_engine_prefixes.specs.AnyTails.{IsUnforgedLeftOf}
+use Rattle.raft_engine_prefixes.specs.Contents.{AreTold, AreToldByFiles}
+use Rattle.raft_engine_prefixes.specs.Done.{AreDone, HoldLeft}
 use Rattle.raft_engine.specs.CutFiles.{AreCut}
 use Rattle.raft_engine.specs.JoinedFiles.{BatchesJoin}
 use Rattle.raft_engine.specs.Lasting.{AreSynced, before_sync}
@@ -29,16 +29,16 @@ use Rattle.raft_engine.proofs.SealedLemmas.{left_sound}
 use Rattle.raft_engine.proofs.WholeLemmas.{whole_of}
 
 -- the synced batches come first
-pub synced_front : (deeds : List Deed) → (more : List Event) × (written deeds ≡ queue_deeds.synced deeds ++ more)
-synced_front [] = ([], refl)
-synced_front (Write e ∷ earlier) =
-    let p = synced_front earlier in (p.0 ++ e ∷ [], ap (λ (h : List Event). h ++ e ∷ []) p.1 ∙ append_assoc (queue_deeds.synced earlier) p.0 (e ∷ []))
-synced_front (queue_deeds.Sync ∷ earlier) = ([], sym (append-nil (written earlier)))
-synced_front (Delete n ∷ earlier) = synced_front earlier
-synced_front (Stop standing n ∷ earlier) = ([], sym (append-nil standing))
+pub synced_prefix : (deeds : List Deed) → (more : List Event) × (written deeds ≡ queue_deeds.synced deeds ++ more)
+synced_prefix [] = ([], refl)
+synced_prefix (Write e ∷ earlier) =
+    let p = synced_prefix earlier in (p.0 ++ e ∷ [], ap (λ (h : List Event). h ++ e ∷ []) p.1 ∙ append_assoc (queue_deeds.synced earlier) p.0 (e ∷ []))
+synced_prefix (queue_deeds.Sync ∷ earlier) = ([], sym (append-nil (written earlier)))
+synced_prefix (Delete n ∷ earlier) = synced_prefix earlier
+synced_prefix (Crash standing n ∷ earlier) = ([], sym (append-nil standing))
 
--- what may stand of a queue is a front of what was written, with the synced batches at least
-stands_with_synced : (deeds : List Deed) (h : List Event) → MayStand deeds h → IsFrontWith (queue_deeds.synced deeds) (written deeds) h
+-- what may stand of a queue is a prefix of what was written, with the synced batches at least
+stands_with_synced : (deeds : List Deed) (h : List Event) → MayStand deeds h → IsPrefixWith (queue_deeds.synced deeds) (written deeds) h
 stands_with_synced [] h s = record { more = []; lost = []; least = s; split = sym (ap (λ (l : List Event). l ++ []) s) }
 stands_with_synced (Write e ∷ earlier) h (inl s) =
     let f = stands_with_synced earlier h s in record {
@@ -48,7 +48,7 @@ stands_with_synced (Write e ∷ earlier) h (inl s) =
       split = ap (λ (l : List Event). l ++ e ∷ []) f.split ∙ append_assoc h f.lost (e ∷ []);
     }
 stands_with_synced (Write e ∷ earlier) h (inr s) =
-    let p = synced_front (Write e ∷ earlier) in record {
+    let p = synced_prefix (Write e ∷ earlier) in record {
       more = p.0;
       lost = [];
       least = s ∙ p.1;
@@ -56,7 +56,7 @@ stands_with_synced (Write e ∷ earlier) h (inr s) =
     }
 stands_with_synced (queue_deeds.Sync ∷ earlier) h s = record { more = []; lost = []; least = s ∙ sym (append-nil (written earlier)); split = sym s ∙ sym (append-nil h) }
 stands_with_synced (Delete n ∷ earlier) h s = stands_with_synced earlier h s
-stands_with_synced (Stop standing n ∷ earlier) h s = record { more = []; lost = []; least = s ∙ sym (append-nil standing); split = sym s ∙ sym (append-nil h) }
+stands_with_synced (Crash standing n ∷ earlier) h s = record { more = []; lost = []; least = s ∙ sym (append-nil standing); split = sym s ∙ sym (append-nil h) }
 
 -- the synced batches are those that the files held at the last sync
 pub held_at_sync : (queue : LogQueue) (version : Version) (acts : List Act) (synced h : List Event) → ArePut queue version acts synced h → FilesHoldTorn queue version (begun (before_sync acts)) synced

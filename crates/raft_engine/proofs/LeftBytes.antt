@@ -15,14 +15,14 @@ use Rattle.raft_files.proofs.LastLemmas.{last_of}
 use Rattle.raft_replay.specs.Stops.{IsUnreadableAt}
 use Rattle.raft_replay.proofs.SegmentLemmas.{batch_none, batch_unique, part_unique}
 use Rattle.raft_recover.specs.Files.{whole_file}
-use Rattle.raft_engine_fronts.specs.Contents.{AreToldByFiles}
-use Rattle.raft_engine_fronts.specs.Done.{AreRisingFrom, numbers}
-use Rattle.raft_engine_fronts.specs.Fronts.{ArePut}
-use Rattle.raft_engine_fronts.specs.TornTails.{FilesHoldTorn, HoldsTornFrom}
-use Rattle.raft_engine_fronts.proofs.FrontLemmas.{all_held}
-use Rattle.raft_engine_fronts.proofs.TornLemmas.{items_of, more_torn, stand_up_to, stands_as, with_all}
+use Rattle.raft_engine_prefixes.specs.Contents.{AreToldByFiles}
+use Rattle.raft_engine_prefixes.specs.Done.{AreRisingFrom, numbers}
+use Rattle.raft_engine_prefixes.specs.Prefixes.{ArePut}
+use Rattle.raft_engine_prefixes.specs.TornTails.{FilesHoldTorn, HoldsTornFrom}
+use Rattle.raft_engine_prefixes.proofs.PrefixLemmas.{all_held}
+use Rattle.raft_engine_prefixes.proofs.TornLemmas.{items_of, more_torn, stand_up_to, stands_as, with_all}
 use Rattle.raft_engine.specs.CutFiles.{AreCut, IsLastCut}
-use Rattle.raft_engine.proofs.FrontFiles.{AreFronts, at_fronts, at_later, fronts_begun, fronts_cut, fronts_drop, fronts_of_cut, fronts_of_put, fronts_put, fronts_self}
+use Rattle.raft_engine.proofs.PrefixFiles.{ArePrefixes, at_prefixes, at_later, prefixes_begun, prefixes_cut, prefixes_drop, prefixes_of_cut, prefixes_of_put, prefixes_put, prefixes_self}
 
 -- ---- batches that stand in a part
 
@@ -63,10 +63,10 @@ one_end part i m n (b ∷ bs) p q =
     let next : p.0 ≡ q.0 = (batch_unique part i b b p.0 q.0 p.1 q.1).1 in
     one_end part q.0 m n bs (subst (λ (k : ℕ). StandBetween part k m bs) next p.2) q.2
 
--- A part of which a front is whole batches isn't cut within these where it holds the same batches before and after.
-front_short : (part : Part) (front rest : List ℕ) (len : ℕ) (h : List Event) → part.bytes ≡ front ++ rest → AreBatchesUpTo (with_all part front) (length front)
+-- A part of which a prefix is whole batches isn't cut within these where it holds the same batches before and after.
+prefix_short : (part : Part) (front rest : List ℕ) (len : ℕ) (h : List Event) → part.bytes ≡ front ++ rest → AreBatchesUpTo (with_all part front) (length front)
     → HoldsTornFrom part 0 h → HoldsTornFrom (with_all part (take len part.bytes)) 0 h → length front ≤ len
-front_short part front rest len h split w t u =
+prefix_short part front rest len h split w t u =
     let all : StandBetween part 0 (length front) w.0 = subst (λ (xs : List ℕ). StandBetween (with_all part xs) 0 (length front) w.0) (sym split) (stand_more (with_all part front) rest 0 (length front) w.0 w.1) in
     let held : StandBetween part 0 t.at (items_of h) = stand_up_to part t.at 0 h t.inside t.held in
     let cut : StandBetween part 0 u.at (items_of h) = subst (λ (xs : List ℕ). StandBetween (with_all part xs) 0 u.at (items_of h)) (take-append-drop len part.bytes)
@@ -101,12 +101,12 @@ module _ (queue : LogQueue) (version : Version) where
       subst LastWhole (sym (c.is ∙ ap (cut_last c.at) c.split ∙ last_of (λ (old : List ℕ). take c.at old) c.closed c.last)) (last_whole c.closed (c.last.0, take c.at c.last.1) (bs.0, stand))
 
   -- fronts of all files stay fronts where a torn tail of these is cut
-  tail_cut : (len : ℕ) (files all : List NumberedBytes) (g h : List Event) → AreFronts files all → LastWhole files
-      → FilesHoldTorn queue version all g → FilesHoldTorn queue version (cut_last len all) h → g ≡ h → AreFronts files (cut_last len all)
+  tail_cut : (len : ℕ) (files all : List NumberedBytes) (g h : List Event) → ArePrefixes files all → LastWhole files
+      → FilesHoldTorn queue version all g → FilesHoldTorn queue version (cut_last len all) h → g ≡ h → ArePrefixes files (cut_last len all)
   tail_cut len [] all g h k w t u same = tt
   tail_cut len (f ∷ files) [] g h k w t u same = absurd k
   tail_cut len (f ∷ []) (x ∷ []) g h k w t u same =
-      fronts_of_cut len f x k (front_short (whole_file queue version x) f.1 k.bytes.rest len h k.bytes.split
+      prefixes_of_cut len f x k (prefix_short (whole_file queue version x) f.1 k.bytes.rest len h k.bytes.split
       (subst (λ (n : ℕ). AreBatchesUpTo (whole_file queue version (n, f.1)) (length f.1)) k.number w) (subst (HoldsTornFrom (whole_file queue version x) 0) same t) u)
   tail_cut len (f ∷ []) (x ∷ next ∷ all) g h k w t u same = k
   tail_cut len (f ∷ i ∷ files) (x ∷ []) g h k w t u same = absurd k.1
@@ -117,31 +117,31 @@ module _ (queue : LogQueue) (version : Version) where
       let rest = append_cancel_left v.first t.rest v.rest (ap (λ (l : List Event). l ++ t.rest) (sym first) ∙ sym t.split ∙ same ∙ v.split) in
       (k.0, tail_cut len (i ∷ files) (next ∷ all) t.rest v.rest k.1 w t.rest_held v.rest_held rest)
 
-  cut_front : (files left all : List NumberedBytes) → AreCut queue version files left → AreFronts files all → AreFronts left all
-  cut_front files left all (inl none) k = subst (λ (fs : List NumberedBytes). AreFronts fs all) (sym none.1) tt
-  cut_front files left all (inr c) k = subst (λ (fs : List NumberedBytes). AreFronts fs all) (sym c.is) (fronts_cut c.at files all k)
+  cut_front : (files left all : List NumberedBytes) → AreCut queue version files left → ArePrefixes files all → ArePrefixes left all
+  cut_front files left all (inl none) k = subst (λ (fs : List NumberedBytes). ArePrefixes fs all) (sym none.1) tt
+  cut_front files left all (inr c) k = subst (λ (fs : List NumberedBytes). ArePrefixes fs all) (sym c.is) (prefixes_cut c.at files all k)
 
-  same_front : (files all : List NumberedBytes) → files ≡ all → AreFronts files all
-  same_front files all e = subst (AreFronts files) e (fronts_self files)
+  same_front : (files all : List NumberedBytes) → files ≡ all → ArePrefixes files all
+  same_front files all e = subst (ArePrefixes files) e (prefixes_self files)
 
-  -- what stands, cut so, is the first of all files, the last one of these with a front of its bytes
-  stand_front : (acts : List Act) (synced h : List Event) (files left : List NumberedBytes) → ArePut queue version acts synced h → MayStand acts files → AreCut queue version files left
-      → AreFronts left (begun acts)
-  stand_front [] synced h files left p s c = cut_front files left [] c (same_front files [] s)
-  stand_front (Put bytes ∷ acts) synced h files left p (inl before) c = fronts_put bytes left (begun acts) (stand_front acts synced p.old files left p.before before c)
-  stand_front (Put bytes ∷ acts) synced h files left p (inr f) c =
+  -- what stands, cut so, is the first of all files, the last one of these with a prefix of its bytes
+  stand_prefix : (acts : List Act) (synced h : List Event) (files left : List NumberedBytes) → ArePut queue version acts synced h → MayStand acts files → AreCut queue version files left
+      → ArePrefixes left (begun acts)
+  stand_prefix [] synced h files left p s c = cut_front files left [] c (same_front files [] s)
+  stand_prefix (Put bytes ∷ acts) synced h files left p (inl before) c = prefixes_put bytes left (begun acts) (stand_prefix acts synced p.old files left p.before before c)
+  stand_prefix (Put bytes ∷ acts) synced h files left p (inr f) c =
       cut_front files left (put_behind bytes (begun acts)) c
-      (subst (λ (fs : List NumberedBytes). AreFronts fs (put_behind bytes (begun acts))) (sym f.put)
-      (subst (λ (b : List ℕ). AreFronts (put_behind f.front (begun acts)) (put_behind b (begun acts))) (sym f.split) (fronts_of_put f.front f.rest (begun acts))))
-  stand_front (Begin seq ∷ acts) synced h files left p (inl is) c = fronts_begun (seq, []) left (begun acts) (cut_front files left (begun acts) c (same_front files (begun acts) is))
-  stand_front (Begin seq ∷ acts) synced h files left p (inr is) c = cut_front files left (begun acts ++ (seq, []) ∷ []) c (same_front files (begun acts ++ (seq, []) ∷ []) is)
-  stand_front (Sync ∷ acts) synced h files left p s c = cut_front files left (begun acts) c (same_front files (begun acts) s)
-  stand_front (Delete ∷ acts) synced h files left p s c = stand_front acts synced h files left p s c
-  stand_front (Cut len ∷ acts) synced h files left p (inl before) c =
-      tail_cut len left (begun acts) h h (stand_front acts synced h files left p.0 before c) (cut_whole files left c) (all_held queue version acts synced h p.0) p.1 refl
-  stand_front (Cut len ∷ acts) synced h files left p (inr is) c = cut_front files left (cut_last len (begun acts)) c (same_front files (cut_last len (begun acts)) is)
-  stand_front (Found found ∷ acts) synced h files left p s c = cut_front files left found c (same_front files found s)
-  stand_front (Read place bytes ∷ acts) synced h files left p s c = stand_front acts synced h files left p s c
+      (subst (λ (fs : List NumberedBytes). ArePrefixes fs (put_behind bytes (begun acts))) (sym f.put)
+      (subst (λ (b : List ℕ). ArePrefixes (put_behind f.front (begun acts)) (put_behind b (begun acts))) (sym f.split) (prefixes_of_put f.front f.rest (begun acts))))
+  stand_prefix (Begin seq ∷ acts) synced h files left p (inl is) c = prefixes_begun (seq, []) left (begun acts) (cut_front files left (begun acts) c (same_front files (begun acts) is))
+  stand_prefix (Begin seq ∷ acts) synced h files left p (inr is) c = cut_front files left (begun acts ++ (seq, []) ∷ []) c (same_front files (begun acts ++ (seq, []) ∷ []) is)
+  stand_prefix (Sync ∷ acts) synced h files left p s c = cut_front files left (begun acts) c (same_front files (begun acts) s)
+  stand_prefix (Delete ∷ acts) synced h files left p s c = stand_prefix acts synced h files left p s c
+  stand_prefix (Cut len ∷ acts) synced h files left p (inl before) c =
+      tail_cut len left (begun acts) h h (stand_prefix acts synced h files left p.0 before c) (cut_whole files left c) (all_held queue version acts synced h p.0) p.1 refl
+  stand_prefix (Cut len ∷ acts) synced h files left p (inr is) c = cut_front files left (cut_last len (begun acts)) c (same_front files (cut_last len (begun acts)) is)
+  stand_prefix (Found found ∷ acts) synced h files left p s c = cut_front files left found c (same_front files found s)
+  stand_prefix (Read place bytes ∷ acts) synced h files left p s c = stand_prefix acts synced h files left p s c
 
   -- ---- what is left
 
@@ -168,17 +168,17 @@ module _ (queue : LogQueue) (version : Version) where
     drop_front : (n : ℕ) (xs ys : List NumberedBytes) → length xs ≡ n → drop n (xs ++ ys) ≡ ys
     drop_front n xs ys e = drop-append-le n xs ys (omega (arith, e)) ∙ ap (λ (fs : List NumberedBytes). fs ++ ys) (drop_all n xs (omega (arith, e)))
 
-    left_front : AreFronts left (drop l.gone (begun (acts_on queue asked)))
-    left_front =
-        subst (λ (fs : List NumberedBytes). AreFronts fs (drop l.gone (begun (acts_on queue asked)))) (ap (drop l.gone) cut_standing ∙ drop_front l.gone gone left (length-take-le l.gone l.standing few))
-        (fronts_drop l.gone (cut_last c.at l.standing) (begun (acts_on queue asked))
-        (stand_front (acts_on queue asked) synced h l.standing (cut_last c.at l.standing) put l.stands
+    left_prefix : ArePrefixes left (drop l.gone (begun (acts_on queue asked)))
+    left_prefix =
+        subst (λ (fs : List NumberedBytes). ArePrefixes fs (drop l.gone (begun (acts_on queue asked)))) (ap (drop l.gone) cut_standing ∙ drop_front l.gone gone left (length-take-le l.gone l.standing few))
+        (prefixes_drop l.gone (cut_last c.at l.standing) (begun (acts_on queue asked))
+        (stand_prefix (acts_on queue asked) synced h l.standing (cut_last c.at l.standing) put l.stands
         (inr (record { closed = gone ++ c.closed; last = c.last; at = c.at; split = standing_split; stops = c.stops; is = refl }))))
 
     left_told : (content : EntryIndex → List ℕ) → AreToldByFiles queue (begun (acts_on queue asked)) content → AreToldByFiles queue left content
     left_told content told = λ place block is at. told place block is
         (at_later place.id.seq place.offset place.len block first l.gone (begun (acts_on queue asked)) rising
-        (at_fronts place.id.seq place.offset place.len block left (drop l.gone (begun (acts_on queue asked))) left_front at))
+        (at_prefixes place.id.seq place.offset place.len block left (drop l.gone (begun (acts_on queue asked))) left_prefix at))
 
   none_told : (content : EntryIndex → List ℕ) → AreToldByFiles queue [] content
   none_told content = λ place block is at. absurd (none_some block at)

@@ -18,7 +18,7 @@ mod OpenedLemmas
 mod DrainLemmas
 mod LastingLemmas
 mod WholeLemmas
-mod FrontFiles
+mod PrefixFiles
 mod LeftBytes
 mod UnreadLemmas
 mod OpensLemmas

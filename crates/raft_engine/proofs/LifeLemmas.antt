@@ -10,16 +10,16 @@ use Rattle.raft_history.specs.Batches.{Event}
 use Rattle.raft_history.proofs.EffectLemmas.{each_weaker}
 use Rattle.raft_files.specs.Asks.{Act, Ask, Begin, Cut, Delete, Found, NumberedBytes, Put, Read, Sync, acts_on, ask, is_same_queue}
 use Rattle.raft_files.specs.Disk.{begun, deletions}
-use Rattle.raft_engine_laws.specs.Stops.{in_files_from}
-use Rattle.raft_engine_laws.proofs.StopLemmas.{from_none}
-use Rattle.raft_engine_fronts.specs.Done.{numbers}
-use Rattle.raft_engine_fronts.specs.EntryPlaces.{FoundEndWithin}
-use Rattle.raft_engine_fronts.specs.Fronts.{AreFirstOf, GoesOn, HoldRestOfFront}
-use Rattle.raft_engine_fronts.specs.TornTails.{FilesHoldTorn}
-use Rattle.raft_engine_fronts.proofs.EventLemmas.{files_low, from_both}
-use Rattle.raft_engine_fronts.proofs.FrontLemmas.{all_front}
-use Rattle.raft_engine_fronts.proofs.RestLemmas.{rest_left}
-use Rattle.raft_engine_fronts.proofs.TornLemmas.{one_reading}
+use Rattle.raft_engine_laws.specs.Crashes.{in_files_from}
+use Rattle.raft_engine_laws.proofs.CrashLemmas.{from_none}
+use Rattle.raft_engine_prefixes.specs.Done.{numbers}
+use Rattle.raft_engine_prefixes.specs.EntryPlaces.{FoundEndWithin}
+use Rattle.raft_engine_prefixes.specs.Prefixes.{AreFirstOf, GoesOn, HoldRestOfPrefix}
+use Rattle.raft_engine_prefixes.specs.TornTails.{FilesHoldTorn}
+use Rattle.raft_engine_prefixes.proofs.EventLemmas.{files_low, from_both}
+use Rattle.raft_engine_prefixes.proofs.PrefixLemmas.{all_front}
+use Rattle.raft_engine_prefixes.proofs.RestLemmas.{rest_left}
+use Rattle.raft_engine_prefixes.proofs.TornLemmas.{one_reading}
 use Rattle.raft_engine.specs.Lasting.{HaveBothBegun, IsLastingAfter}
 use Rattle.raft_engine.specs.Lives.{EntriesAreFound, FollowEachOther, IsFirstLife, IsNextLife, Life, SyncedStaysSynced, WhatLastsIsALife, WrittenEntriesAreFound, at_stop}
 use Rattle.raft_engine.specs.Moments.{FindNoFiles}
@@ -70,7 +70,7 @@ module _ (version : Version) (n : ℕ) (before life : Life version) (next : IsNe
   -- files were begun
   some : deletions (acts_on Append before.asks) < length (begun (acts_on Append before.asks)) → AreFirstOf (in_files_from n old.synced) (in_files_from n found.synced)
   some few =
-      let r : HoldRestOfFront Append version before.asks old.synced old.batches next.append = rest_left Append version before.asks old.synced old.batches next.append old.put few next.append_left in
+      let r : HoldRestOfPrefix Append version before.asks old.synced old.batches next.append = rest_left Append version before.asks old.synced old.batches next.append old.put few next.append_left in
       let same : r.rest ≡ found.synced = one_reading Append version next.append r.rest found.batches r.held found.put.1 ∙ sym found.put.0 in
       let none : in_files_from n r.deleted ≡ [] =
       files_low Append version n (take r.gone (begun (acts_on Append before.asks))) r.deleted (below_taken n r.gone (deletions (acts_on Append before.asks)) (begun (acts_on Append before.asks)) r.at_most low) r.of_deleted in (

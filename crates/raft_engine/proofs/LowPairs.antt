@@ -17,10 +17,10 @@ use Rattle.raft_engine_laws.specs.DeletedFiles.{AreFilesBelow}
 use Rattle.raft_engine_laws.specs.KeptTables.{AreKept}
 use Rattle.raft_engine_laws.specs.Records.{Records}
 use Rattle.raft_engine_laws.specs.Speaking.{pair_left}
-use Rattle.raft_engine_laws.specs.Stops.{Deed, IsSafe, deleted, in_files_from, written}
+use Rattle.raft_engine_laws.specs.Crashes.{Deed, IsSafe, deleted, in_files_from, written}
 use Rattle.raft_engine_laws.proofs.FileSteps.{steps_below}
 use Rattle.raft_engine_laws.proofs.LowEntries.{pair_below}
-use Rattle.raft_engine_laws.proofs.StopLemmas.{all_gone, keeps}
+use Rattle.raft_engine_laws.proofs.CrashLemmas.{all_gone, keeps}
 
 -- ---- batches whose last file isn't above a number
 

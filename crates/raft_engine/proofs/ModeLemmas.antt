@@ -10,8 +10,8 @@ use Rattle.raft_records.specs.Item.{Item}
 use Rattle.raft_records.specs.LogBatch.{Batch}
 use Rattle.raft_files.specs.Asks.{Act, Ask, Begin, Cut, Delete, Found, NumberedBytes, Put, Read, Sync, acts_on, ask}
 use Rattle.raft_recover.specs.Files.{whole_file}
-use Rattle.raft_engine_fronts.specs.Fronts.{GoesOn}
-use Rattle.raft_engine_fronts.specs.TornTails.{AreUndamaged, FoundUndamaged, IsDamagedAt, StopsAt}
+use Rattle.raft_engine_prefixes.specs.Prefixes.{GoesOn}
+use Rattle.raft_engine_prefixes.specs.TornTails.{AreUndamaged, FoundUndamaged, IsDamagedAt, StopsAt}
 use Rattle.raft_engine.specs.BatchBytes.{bytes_for}
 use Rattle.raft_engine.specs.FoundFiles.{AreAccepted, IsCut, IsFirstBegun, IsLastRefused, IsReady, IsUntorn}
 use Rattle.raft_engine.specs.Opened.{IsOpened}

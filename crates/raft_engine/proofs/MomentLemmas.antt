@@ -8,10 +8,10 @@ use Rattle.raft_history.specs.Batches.{Event}
 use Rattle.raft_files.specs.Asks.{Act, Ask, Begin, Found, NumberedBytes, acts_on, ask, is_same_queue}
 use Rattle.raft_files.specs.Disk.{begun}
 use Rattle.raft_engine_laws.specs.Records.{Records}
-use Rattle.raft_engine_fronts.specs.Fronts.{AreFirstOf, GoesOn}
-use Rattle.raft_engine_fronts.specs.TornTails.{FilesHoldTorn}
-use Rattle.raft_engine_fronts.proofs.GoingOnLemmas.{puts_go_on}
-use Rattle.raft_engine_fronts.proofs.TornLemmas.{one_reading}
+use Rattle.raft_engine_prefixes.specs.Prefixes.{AreFirstOf, GoesOn}
+use Rattle.raft_engine_prefixes.specs.TornTails.{FilesHoldTorn}
+use Rattle.raft_engine_prefixes.proofs.GoingOnLemmas.{puts_go_on}
+use Rattle.raft_engine_prefixes.proofs.TornLemmas.{one_reading}
 use Rattle.raft_engine.specs.KeptEngine.{KeptEngine}
 use Rattle.raft_engine.specs.Lasting.{HaveBothBegun, IsBegunOrFound, IsLasting, IsLastingAfter, before_sync}
 use Rattle.raft_engine.specs.Moments.{CallsGoOn, FindNoFiles, MomentsGoOn}

@@ -32,9 +32,9 @@ use Rattle.raft_recover.specs.Files.{whole_file}
 use Rattle.raft_engine_laws.specs.Groups.{HasNoMarker}
 use Rattle.raft_engine_laws.specs.Moving.{AreOrdinary, IsMovingBatch, MoveAgain, moving_items, put_items}
 use Rattle.raft_engine_laws.specs.Records.{Records}
-use Rattle.raft_engine_laws.specs.Stops.{Deed, Write, IsNextIn, IsSafe, IsSynced, LoseNothing, written}
-use Rattle.raft_engine_fronts.specs.Contents.{AddedEntriesAreTold, AreBothTold, HaveContents, KeepsBytes, ReadEntryIsTold, placed_entries}
-use Rattle.raft_engine_fronts.specs.Done.{AreDoneWhole, LastFileIsNext}
+use Rattle.raft_engine_laws.specs.Crashes.{Deed, Write, IsNextIn, IsSafe, IsSynced, LoseNothing, written}
+use Rattle.raft_engine_prefixes.specs.Contents.{AddedEntriesAreTold, AreBothTold, HaveContents, KeepsBytes, ReadEntryIsTold, placed_entries}
+use Rattle.raft_engine_prefixes.specs.Done.{AreDoneWhole, LastFileIsNext}
 use Rattle.raft_engine.specs.BatchBytes.{bytes_for, place_at, placed_at}
 use Rattle.raft_engine.specs.KeptEngine.{IsLastFile}
 use Rattle.raft_engine.specs.Lasting.{AreSynced}

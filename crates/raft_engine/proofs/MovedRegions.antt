@@ -17,7 +17,7 @@ use Rattle.raft_engine.specs.MovedGroups.{AreRegionsMovedAgain, AreSomeRegionsMo
 use Rattle.raft_engine.specs.Rewriting.{moving_entries}
 use Rattle.raft_engine.proofs.GroupReadBack.{puts_append}
 use Rattle.raft_engine.proofs.KeptMoves.{read_synced}
-use Rattle.raft_engine.proofs.BlockCounts.{front_count}
+use Rattle.raft_engine.proofs.BlockCounts.{prefix_count}
 use Rattle.raft_engine.proofs.PartLemmas.{parts_only}
 use Rattle.raft_engine.proofs.PartLengths.{bytes_append}
 use Rattle.raft_engine.proofs.RewrittenRegions.{rewritten_ready}
@@ -29,7 +29,7 @@ all_one es n (inl few) =
     let sum = ap bytes_of_entries (sym (take-append-drop n es)) ∙ bytes_append (take n es) (drop n es) in
     inl (omega (arith, sum, few))
 all_one es n (inr one) =
-    let fewer = front_count (take n es) (drop n es) in
+    let fewer = prefix_count (take n es) (drop n es) in
     let all = ap block_count (take-append-drop n es) in
     inr (omega (arith, fewer, all, one))
 

@@ -23,7 +23,7 @@ use Rattle.raft_history.proofs.Words.{with_step}
 use Rattle.raft_records.specs.declared.key_value.OpType.TheVariants as operations
 use Rattle.raft_accessor.specs.Writes.{Rewriting, after_items}
 use Rattle.raft_files.specs.Asks.{Ask}
-use Rattle.raft_engine_fronts.specs.Contents.{HaveContents, placed_entries}
+use Rattle.raft_engine_prefixes.specs.Contents.{HaveContents, placed_entries}
 use Rattle.raft_engine_laws.specs.Moving.{AreCopies, AreOrdinary, MoveAgain, MovesAgain, entries_on, moving_items, put_items, run_of}
 use Rattle.raft_engine.specs.BatchBytes.{place_at, placed_at}
 use Rattle.raft_engine.specs.Reads.{AreReadByBlocks}

@@ -28,7 +28,7 @@ use Rattle.raft_accessor.specs.Accessor.{Accessor}
 use Rattle.raft_accessor.specs.Writes.{AreItemsRefused, IsFor, IsWriteFault, Rewriting, after_content, after_items}
 use Rattle.raft_accessor.proofs.MapLemmas.{none_some}
 use Rattle.raft_files.specs.Asks.{Ask}
-use Rattle.raft_engine_fronts.specs.Contents.{placed_entries}
+use Rattle.raft_engine_prefixes.specs.Contents.{placed_entries}
 use Rattle.raft_engine_laws.specs.Moving.{AreCopies, moving_items, put_items}
 use Rattle.raft_engine.specs.BatchBytes.{place_at, placed_at}
 use Rattle.raft_engine.specs.KeptEngine.{KeptEngine}

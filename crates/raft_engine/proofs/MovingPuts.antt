@@ -21,8 +21,8 @@ use Rattle.raft_history.specs.RegionSteps.{Tables}
 use Rattle.raft_accessor.specs.Writes.{Rewriting, after_items}
 use Rattle.raft_files.specs.Asks.{Ask, Put, acts_on, ask}
 use Rattle.raft_files.specs.Disk.{begun}
-use Rattle.raft_engine_fronts.specs.Contents.{AddedEntriesAreTold, AreBothTold, HaveContents, KeepsBytes, ReadEntryIsTold, placed_entries}
-use Rattle.raft_engine_fronts.specs.Done.{AreRisingFrom, numbers}
+use Rattle.raft_engine_prefixes.specs.Contents.{AddedEntriesAreTold, AreBothTold, HaveContents, KeepsBytes, ReadEntryIsTold, placed_entries}
+use Rattle.raft_engine_prefixes.specs.Done.{AreRisingFrom, numbers}
 use Rattle.raft_engine_laws.specs.Moving.{AreCopies, IsMovingBatch, moving_items, put_item, put_items}
 use Rattle.raft_engine.specs.BatchBytes.{bytes_for, event_at, place_at, placed_at}
 use Rattle.raft_engine.specs.KeptEngine.{IsLastFile}

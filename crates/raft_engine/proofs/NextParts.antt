@@ -36,11 +36,11 @@ with_fetched gate (e ∷ left) keys = tt
 
 -- ---- what is left moves next
 
--- the longest front that passes a test has all of a front that does
-passing_front : {X : Type 0} (p : X → Bool) (a b : List X) → AllByRecursion (λ (x : X). p x ≡ true) a → take (prefix_len p (a ++ b)) (a ++ b) ≡ a ++ take (prefix_len p b) b
-passing_front p [] b h = refl
-passing_front {X} p (x ∷ a) b h =
-    let k : 1 + prefix_len p (a ++ b) ≡ suc (prefix_len p (a ++ b)) = omega arith in rw (h.0, k) (ap (λ (l : List X). x ∷ l) (passing_front p a b h.1))
+-- the longest front that passes a test has all of a prefix that does
+passing_prefix : {X : Type 0} (p : X → Bool) (a b : List X) → AllByRecursion (λ (x : X). p x ≡ true) a → take (prefix_len p (a ++ b)) (a ++ b) ≡ a ++ take (prefix_len p b) b
+passing_prefix p [] b h = refl
+passing_prefix {X} p (x ∷ a) b h =
+    let k : 1 + prefix_len p (a ++ b) ≡ suc (prefix_len p (a ++ b)) = omega arith in rw (h.0, k) (ap (λ (l : List X). x ∷ l) (passing_prefix p a b h.1))
 
 copies_in : (gs es : List EntryIndex) → AreCopies (λ e. []) gs es → AllByRecursion (λ (e : EntryIndex). is_placed_in Rewrite e ≡ true) gs
 copies_in [] es h = tt
@@ -51,7 +51,7 @@ pub left_before : (gate : ℕ) (part left es copies moved : List EntryIndex) →
     → moved ≡ placed_in Rewrite es ++ (copies ++ back_of gate left es) → left ≡ appended_before gate moved
 left_before gate part left es copies moved are e is =
     append_cancel_left part left (take (prefix_len (is_placed_before gate) back) back)
-    (sym e ∙ ap (λ (l : List EntryIndex). take (prefix_len (is_placed_before gate) l) l) split ∙ passing_front (is_placed_before gate) part back (part_may_move gate part left es e))
+    (sym e ∙ ap (λ (l : List EntryIndex). take (prefix_len (is_placed_before gate) l) l) split ∙ passing_prefix (is_placed_before gate) part back (part_may_move gate part left es e))
     ∙ ap (λ (l : List EntryIndex). take (prefix_len (is_placed_before gate) l) l) (sym only_back)
   where
     back : List EntryIndex

@@ -19,15 +19,15 @@ use Rattle.raft_replay.specs.Segments.{HoldsFrom}
 use Rattle.raft_replay.specs.Stops.{IsUnreadableAt}
 use Rattle.raft_replay.proofs.SegmentLemmas.{batch_none}
 use Rattle.raft_recover.specs.Files.{FilesHold, whole_file}
-use Rattle.raft_engine_fronts.proofs.BatchPartLemmas.{shorter_unreadable}
-use Rattle.raft_engine_fronts.proofs.TornLemmas.{one_file, stands_as}
+use Rattle.raft_engine_prefixes.proofs.BatchPartLemmas.{shorter_unreadable}
+use Rattle.raft_engine_prefixes.proofs.TornLemmas.{one_file, stands_as}
 use Rattle.raft_engine.specs.FoundFiles.{BeginsInOther, IsLastOfOther, IsOfEngine, IsOfOther, engine_header, in_other}
-use Rattle.raft_engine.specs.OfVersion.{FrontsAreNotOther, NoneIsOther, StaysOfVersion, WhatIsLeftIsNotOther}
+use Rattle.raft_engine.specs.OfVersion.{PrefixesAreNotOther, NoneIsOther, StaysOfVersion, WhatIsLeftIsNotOther}
 use Rattle.raft_engine.proofs.FoundLemmas.{begins_some, one_last}
 
 -- ---- bytes
 
--- a front of bytes that begin with a batch doesn't begin with one of the other version, where none of its own can be read
+-- a prefix of bytes that begin with a batch doesn't begin with one of the other version, where none of its own can be read
 not_in_other : (part : Part) (more : List ℕ) (items : List Item) (next : ℕ) → IsBatchAt (record part { bytes = part.bytes ++ more }) 0 items next → IsUnreadableAt part 0 → ¬ (BeginsInOther part)
 not_in_other part more items next b none o = elim (cases_lt (length part.bytes) (length b.bytes)) [ inl shorter ↦ short shorter | inr within ↦ long within ]
   where
@@ -66,8 +66,8 @@ not_of_engine part more items next b e =
     (sym (append_assoc engine_header e.0 more) ∙ ap (λ (l : List ℕ). l ++ more) (sym e.1) ∙ b.stands ∙ ap (λ (l : List ℕ). l ++ drop next (part.bytes ++ more)) f.1.header.split
     ∙ append_assoc f.1.header.front (drop 16 b.bytes) (drop next (part.bytes ++ more)))
 
-pub front_not_other : FrontsAreNotOther
-front_not_other part more items next b o = elim o.begins [
+pub prefix_not_other : PrefixesAreNotOther
+prefix_not_other part more items next b o = elim o.begins [
   | inl other ↦ not_in_other part more items next b o.unreadable other
   | inr engine ↦ not_of_engine part more items next b engine
 ]
@@ -108,15 +108,15 @@ module _ (queue : LogQueue) (version : Version) where
   none_last [] last e = absurd cc
   none_last (c ∷ closed) last e = absurd cc
 
-  -- of bytes that are put behind a file, so that it holds batches, a front
-  front_put : (file : NumberedBytes) (front rest : List ℕ) (g : List Event) → Holds (file.0, file.1 ++ (front ++ rest)) g → ¬ (IsOfOther (whole_file queue version (file.0, file.1 ++ front)))
-  front_put file front rest [] ends o =
+  -- of bytes that are put behind a file, so that it holds batches, a prefix
+  prefix_put : (file : NumberedBytes) (front rest : List ℕ) (g : List Event) → Holds (file.0, file.1 ++ (front ++ rest)) g → ¬ (IsOfOther (whole_file queue version (file.0, file.1 ++ front)))
+  prefix_put file front rest [] ends o =
       let n = length-append file.1 (front ++ rest) in
       let m = length-append front rest in
       let k = length-append file.1 front in
       empty_not_other (whole_file queue version (file.0, file.1 ++ front)) (omega (arith, ends, n, m, k)) o
-  front_put file front rest (e ∷ g) held o =
-      front_not_other (whole_file queue version (file.0, file.1 ++ front)) rest e.items held.1.0
+  prefix_put file front rest (e ∷ g) held o =
+      prefix_not_other (whole_file queue version (file.0, file.1 ++ front)) rest e.items held.1.0
       (subst (λ (bytes : List ℕ). IsBatchAt (whole_file queue version (file.0, bytes)) 0 e.items held.1.0) (sym (append_assoc file.1 front rest)) held.1.1) o
 
   put_not_other : (bytes : List ℕ) (old new : List NumberedBytes) (h : List Event) → FilesHold queue version (put_behind bytes old) h → IsFrontPut bytes old new → ¬ (IsLastOfOther queue version new)
@@ -130,7 +130,7 @@ module _ (queue : LogQueue) (version : Version) where
           let whole : put_behind bytes old ≡ l.0 ++ (l.1.0, l.1.1 ++ (f.front ++ f.rest)) ∷ [] = ap (put_behind bytes) l.2 ∙ last_of (λ bs. bs ++ bytes) l.0 l.1
           ∙ ap (λ (bs : List ℕ). l.0 ++ (l.1.0, l.1.1 ++ bs) ∷ []) f.split in
           let g = last_held l.0 (l.1.0, l.1.1 ++ (f.front ++ f.rest)) h (subst (λ (files : List NumberedBytes). FilesHold queue version files h) whole held) in
-          front_put l.1 f.front f.rest g.0 g.1 (subst (λ (file : NumberedBytes). IsOfOther (whole_file queue version file)) (sym same) o.other)
+          prefix_put l.1 f.front f.rest g.0 g.1 (subst (λ (file : NumberedBytes). IsOfOther (whole_file queue version file)) (sym same) o.other)
 
 -- all that was asked may stand
 pub whole_stands : (acts : List Act) → MayStand acts (begun acts)

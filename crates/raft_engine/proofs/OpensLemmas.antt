@@ -11,8 +11,8 @@ use Rattle.raft_files.specs.Asks.{Ask, NumberedBytes}
 use Rattle.raft_files.specs.Disk.{cut_last}
 use Rattle.raft_files.proofs.LastLemmas.{last_of}
 use Rattle.raft_recover.specs.Files.{FilesCannotBeRead, FilesHold, bytes_of_files}
-use Rattle.raft_engine_fronts.specs.Done.{numbers}
-use Rattle.raft_engine_fronts.specs.TornTails.{FilesHoldTorn}
+use Rattle.raft_engine_prefixes.specs.Done.{numbers}
+use Rattle.raft_engine_prefixes.specs.TornTails.{FilesHoldTorn}
 use Rattle.raft_engine_laws.specs.GroupsInRows.{AreGroupsInRows}
 use Rattle.raft_engine.specs.FoundFiles.{AreAccepted, IsCut, IsFirstBegun, IsFoundFault, IsReady, IsUntorn}
 use Rattle.raft_engine.specs.Restarts.{OpeningsOverSucceed, OpeningsSucceed}

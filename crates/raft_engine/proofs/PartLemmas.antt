@@ -23,26 +23,26 @@ use Rattle.raft_engine.proofs.ReadKept.{read_only, unread_only}
 
 -- ---- consecutive entries in two pieces
 
-rises_front : (s : ℕ) (a b : List EntryIndex) → RisesFrom s (a ++ b) → RisesFrom s a
-rises_front s [] b h = tt
-rises_front s (e ∷ a) b h = (h.0, rises_front (suc s) a b h.1)
+rises_prefix : (s : ℕ) (a b : List EntryIndex) → RisesFrom s (a ++ b) → RisesFrom s a
+rises_prefix s [] b h = tt
+rises_prefix s (e ∷ a) b h = (h.0, rises_prefix (suc s) a b h.1)
 
 rises_back : (s : ℕ) (a b : List EntryIndex) → RisesFrom s (a ++ b) → IsRun b
 rises_back s [] [] h = tt
 rises_back s [] (x ∷ b) h = subst (λ k. RisesFrom (suc k) b) (sym h.0) h.1
 rises_back s (e ∷ a) b h = rises_back (suc s) a b h.1
 
-run_front : (a b : List EntryIndex) → IsRun (a ++ b) → IsRun a
-run_front [] b h = tt
-run_front (e ∷ a) b h = rises_front (suc e.index) a b h
+run_prefix : (a b : List EntryIndex) → IsRun (a ++ b) → IsRun a
+run_prefix [] b h = tt
+run_prefix (e ∷ a) b h = rises_prefix (suc e.index) a b h
 
 run_back : (a b : List EntryIndex) → IsRun (a ++ b) → IsRun b
 run_back [] b h = h
 run_back (e ∷ a) b h = rises_back (suc e.index) a b h
 
-each_front : {X : Type 0} (P : X → Type 0) (a b : List X) → AllByRecursion P (a ++ b) → AllByRecursion P a
-each_front P [] b h = tt
-each_front P (x ∷ a) b h = (h.0, each_front P a b h.1)
+each_prefix : {X : Type 0} (P : X → Type 0) (a b : List X) → AllByRecursion P (a ++ b) → AllByRecursion P a
+each_prefix P [] b h = tt
+each_prefix P (x ∷ a) b h = (h.0, each_prefix P a b h.1)
 
 each_back : {X : Type 0} (P : X → Type 0) (a b : List X) → AllByRecursion P (a ++ b) → AllByRecursion P b
 each_back P [] b h = h
@@ -54,12 +54,12 @@ each_more P [] x h k = (k, tt)
 each_more P (y ∷ xs) x h k = (h.0, each_more P xs x h.1 k)
 
 pub part_consecutive : (a b : List EntryIndex) → IsConsecutive (a ++ b) → IsConsecutive a
-part_consecutive a b both = record { run = run_front a b both.run; bounded = each_front _ a b both.bounded }
+part_consecutive a b both = record { run = run_prefix a b both.run; bounded = each_prefix _ a b both.bounded }
 
-pub front_consecutive : (n : ℕ) (es : List EntryIndex) → IsConsecutive es → IsConsecutive (take n es)
-front_consecutive n es h =
+pub prefix_consecutive : (n : ℕ) (es : List EntryIndex) → IsConsecutive es → IsConsecutive (take n es)
+prefix_consecutive n es h =
     let both = subst IsConsecutive (sym (take-append-drop n es)) h in
-    record { run = run_front (take n es) (drop n es) both.run; bounded = each_front _ (take n es) (drop n es) both.bounded }
+    record { run = run_prefix (take n es) (drop n es) both.run; bounded = each_prefix _ (take n es) (drop n es) both.bounded }
 
 pub back_consecutive : (n : ℕ) (es : List EntryIndex) → IsConsecutive es → IsConsecutive (drop n es)
 back_consecutive n es h =

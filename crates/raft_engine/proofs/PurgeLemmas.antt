@@ -11,7 +11,7 @@ use Rattle.raft_history.specs.RegionSteps.{Tables}
 use Rattle.raft_files.specs.Asks.{Ask, Delete, MayBeAsked, NumberedBytes, acts_on, ask}
 use Rattle.raft_files.specs.Disk.{begun, deletions, files_of}
 use Rattle.raft_engine_laws.specs.DeletedFiles.{AreLeastFrom}
-use Rattle.raft_engine_fronts.specs.Done.{AreRisingFrom, numbers}
+use Rattle.raft_engine_prefixes.specs.Done.{AreRisingFrom, numbers}
 use Rattle.raft_engine.specs.KeptEngine.{KeptEngine}
 use Rattle.raft_engine.specs.KeptEngineView.{AreFilesOf}
 use Rattle.raft_engine.specs.Lasting.{AreSynced}
@@ -22,18 +22,18 @@ use Rattle.raft_engine.specs.declared.queue_files.QueueFiles.{QueueFiles}
 
 -- ---- numbers below one
 
-front_take : (least : ℕ) (ns : List ℕ) → AllByRecursion (λ (n : ℕ). n < least) (take (front_below least ns) ns)
-front_take least [] = tt
-front_take least (n ∷ ns) = go (nat_lt n least) refl (front_take least ns)
+prefix_take : (least : ℕ) (ns : List ℕ) → AllByRecursion (λ (n : ℕ). n < least) (take (front_below least ns) ns)
+prefix_take least [] = tt
+prefix_take least (n ∷ ns) = go (nat_lt n least) refl (prefix_take least ns)
   where
     go : (b : Bool) → nat_lt n least ≡ b → AllByRecursion (λ (n : ℕ). n < least) (take (front_below least ns) ns)
         → AllByRecursion (λ (n : ℕ). n < least) (take (cond b (suc (front_below least ns)) 0) (n ∷ ns))
     go true e all = ((let low : n < least = grind (arith, nat_tests) in low), all)
     go false e all = tt
 
-front_few : (least : ℕ) (ns : List ℕ) → front_below least ns ≤ length ns
-front_few least [] = omega arith
-front_few least (n ∷ ns) = go (nat_lt n least) (front_few least ns)
+prefix_few : (least : ℕ) (ns : List ℕ) → front_below least ns ≤ length ns
+prefix_few least [] = omega arith
+prefix_few least (n ∷ ns) = go (nat_lt n least) (prefix_few least ns)
   where
     go : (b : Bool) → front_below least ns ≤ length ns → cond b (suc (front_below least ns)) 0 ≤ suc (length ns)
     go true few = omega (arith, few)
@@ -46,9 +46,9 @@ rest_same : (a b : ℕ) (more rest : List ℕ) → a ∷ more ≡ b ∷ rest →
 rest_same a b more rest e = cc
 
 -- the first one that isn't
-front_drop : (least : ℕ) (ns : List ℕ) (n : ℕ) (rest : List ℕ) → drop (front_below least ns) ns ≡ n ∷ rest → least ≤ n
-front_drop least [] n rest e = absurd cc
-front_drop least (x ∷ ns) n rest e = go (nat_lt x least) refl (front_drop least ns n rest) e
+prefix_drop : (least : ℕ) (ns : List ℕ) (n : ℕ) (rest : List ℕ) → drop (front_below least ns) ns ≡ n ∷ rest → least ≤ n
+prefix_drop least [] n rest e = absurd cc
+prefix_drop least (x ∷ ns) n rest e = go (nat_lt x least) refl (prefix_drop least ns n rest) e
   where
     go : (b : Bool) → nat_lt x least ≡ b → (drop (front_below least ns) ns ≡ n ∷ rest → least ≤ n)
         → drop (cond b (suc (front_below least ns)) 0) (x ∷ ns) ≡ n ∷ rest → least ≤ n
@@ -64,16 +64,16 @@ rising_to_last : (n : ℕ) (ns : List ℕ) (last : ℕ) → AreRisingFrom n (ns 
 rising_to_last n [] last r = r.0
 rising_to_last n (x ∷ ns) last r = let low = r.0 in let up = rising_to_last (suc x) ns last r.1 in omega (arith, low, up)
 
--- a front of closed numbers and the last one, with something behind it, is one of the closed ones
-front_closed : (ns : List ℕ) (last : ℕ) (front rest : List ℕ) → ns ++ last ∷ [] ≡ front ++ rest → (rest ≡ [] → ⊥) → (length front ≤ length ns) × (front ≡ take (length front) ns)
-front_closed ns last [] rest e some = (omega arith, refl)
-front_closed [] last (x ∷ front) rest e some = absurd (some (none_behind front rest (sym (rest_same last x [] (front ++ rest) e))))
+-- a prefix of closed numbers and the last one, with something behind it, is one of the closed ones
+prefix_closed : (ns : List ℕ) (last : ℕ) (front rest : List ℕ) → ns ++ last ∷ [] ≡ front ++ rest → (rest ≡ [] → ⊥) → (length front ≤ length ns) × (front ≡ take (length front) ns)
+prefix_closed ns last [] rest e some = (omega arith, refl)
+prefix_closed [] last (x ∷ front) rest e some = absurd (some (none_behind front rest (sym (rest_same last x [] (front ++ rest) e))))
   where
     none_behind : (a b : List ℕ) → a ++ b ≡ [] → b ≡ []
     none_behind [] b e = e
     none_behind (y ∷ a) b e = absurd cc
-front_closed (n ∷ ns) last (x ∷ front) rest e some =
-    let more = front_closed ns last front rest (rest_same n x (ns ++ last ∷ []) (front ++ rest) e) some in
+prefix_closed (n ∷ ns) last (x ∷ front) rest e some =
+    let more = prefix_closed ns last front rest (rest_same n x (ns ++ last ∷ []) (front ++ rest) e) some in
     ((let low = more.0 in omega (arith, low)), ap (λ m. m ∷ front) (sym (first_same n x (ns ++ last ∷ []) (front ++ rest) e)) ∙ ap (λ (l : List ℕ). n ∷ l) more.1)
 
 -- ---- which files
@@ -119,7 +119,7 @@ module _ (queue : LogQueue) where
     ns = files.closed.items
 
     few : count ≤ length ns
-    few = let low = front_few least ns in omega (arith, counted, low)
+    few = let low = prefix_few least ns in omega (arith, counted, low)
 
     pub are_expired : AreExpired queue engine count
     are_expired =
@@ -132,9 +132,9 @@ module _ (queue : LogQueue) where
           rest = drop count ns ++ files.seq ∷ [];
           split = numbers_there engine.asks files f ∙ parts;
           many = length-take-le count ns few;
-          are = all_expired engine.accessor.tables least l.from (take count ns) (subst (λ (n : ℕ). AllByRecursion (λ (n : ℕ). n < least) (take n ns)) (sym counted) (front_take least ns));
+          are = all_expired engine.accessor.tables least l.from (take count ns) (subst (λ (n : ℕ). AllByRecursion (λ (n : ℕ). n < least) (take n ns)) (sym counted) (prefix_take least ns));
           no_more = begin_needed engine.accessor.tables files.seq least later.0 l (drop count ns) later.1
-              (λ n rest e. front_drop least ns n rest (ap (λ (m : ℕ). drop m ns) (sym counted) ∙ e));
+              (λ n rest e. prefix_drop least ns n rest (ap (λ (m : ℕ). drop m ns) (sym counted) ∙ e));
         }
 
   -- the expired ones are the first ones of the closed files
@@ -144,7 +144,7 @@ module _ (queue : LogQueue) where
     some_behind (n ∷ rest) b e = absurd cc
 
     closed_front : (length x.expired ≤ length files.closed.items) × (x.expired ≡ take (length x.expired) files.closed.items)
-    closed_front = front_closed files.closed.items files.seq x.expired x.rest (sym (numbers_there engine.asks files f) ∙ x.split) (some_behind x.rest x.no_more)
+    closed_front = prefix_closed files.closed.items files.seq x.expired x.rest (sym (numbers_there engine.asks files f) ∙ x.split) (some_behind x.rest x.no_more)
 
     pub few_expired : count ≤ length files.closed.items
     few_expired = let low = closed_front.0 in let many = x.many in omega (arith, low, many)

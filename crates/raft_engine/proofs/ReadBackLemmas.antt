@@ -31,12 +31,12 @@ use Rattle.raft_files.specs.Asks.{Act, Ask, Begin, Found, NumberedBytes, Put, Sy
 use Rattle.raft_files.specs.Disk.{begun}
 use Rattle.raft_recover.specs.Files.{FilesHold}
 use Rattle.raft_engine_laws.specs.Telling.{TakeAway, TakesAway}
-use Rattle.raft_engine_fronts.specs.Done.{AreRisingFrom, numbers}
-use Rattle.raft_engine_fronts.specs.Fronts.{ArePutWhole}
-use Rattle.raft_engine_fronts.proofs.EventLemmas.{files_up_to, last_low}
-use Rattle.raft_engine_fronts.proofs.FrontLemmas.{begun_whole}
-use Rattle.raft_engine_fronts.proofs.StepLemmas as steps
-use Rattle.raft_engine_fronts.proofs.TornLemmas.{whole_torn}
+use Rattle.raft_engine_prefixes.specs.Done.{AreRisingFrom, numbers}
+use Rattle.raft_engine_prefixes.specs.Prefixes.{ArePutWhole}
+use Rattle.raft_engine_prefixes.proofs.EventLemmas.{files_up_to, last_low}
+use Rattle.raft_engine_prefixes.proofs.PrefixLemmas.{begun_whole}
+use Rattle.raft_engine_prefixes.proofs.StepLemmas as steps
+use Rattle.raft_engine_prefixes.proofs.TornLemmas.{whole_torn}
 use Rattle.raft_engine.specs.BatchBytes.{bytes_for, event_at, place_at, placed_at}
 use Rattle.raft_engine.specs.KeptEngine.{IsLastFile}
 use Rattle.raft_engine.specs.Purged.{asks_of_items, delete_asks, put_asks}

@@ -10,7 +10,7 @@ use Rattle.raft_table.specs.Scan.{VisitsUntilFalse, is_between, pairs_between}
 use Rattle.raft_table.specs.Steps.{table_of}
 use Rattle.raft_table.specs.Table.{Table}
 use Rattle.raft_files.specs.Asks.{Ask}
-use Rattle.raft_engine_fronts.specs.Contents.{AreBothTold, ReadEntryIsTold}
+use Rattle.raft_engine_prefixes.specs.Contents.{AreBothTold, ReadEntryIsTold}
 use Rattle.raft_engine.specs.EntryReads.{AreFetched, AreOfRange, answer_of}
 use Rattle.raft_engine.specs.KeptEngine.{KeptEngine}
 use Rattle.raft_engine.specs.Reads.{AreOnlyRead, AreReadByBlocks, AreUnread, IsReadAmong}

@@ -21,9 +21,9 @@ use Rattle.raft_replay.specs.Segments.{HoldsFrom, SegmentsHold}
 use Rattle.raft_replay.specs.Stops.{IsUnreadableAt, history_in}
 use Rattle.raft_recover.specs.Files.{AreWholeFiles, FilesHold, segment_shown, whole_file}
 use Rattle.raft_recover.proofs.FileLemmas.{as_many, same_read}
-use Rattle.raft_engine_fronts.specs.TornTails.{FilesHoldTorn, HoldsTornFrom, StopsAt}
-use Rattle.raft_engine_fronts.proofs.BatchPartLemmas.{end_unreadable}
-use Rattle.raft_engine_fronts.proofs.TornLemmas.{one_file, stand_up_to, stands_as, torn_more, untorn}
+use Rattle.raft_engine_prefixes.specs.TornTails.{FilesHoldTorn, HoldsTornFrom, StopsAt}
+use Rattle.raft_engine_prefixes.proofs.BatchPartLemmas.{end_unreadable}
+use Rattle.raft_engine_prefixes.proofs.TornLemmas.{one_file, stand_up_to, stands_as, torn_more, untorn}
 use Rattle.raft_engine.specs.CutTails.{IsTailTold, IsTornAs}
 use Rattle.raft_engine.specs.FoundQueues.{IsLastOf}
 use Rattle.raft_engine.specs.ReadQueues.{IsHistoryUpTo, IsReadUpTo, IsReplayedTo}
@@ -57,9 +57,9 @@ same_part file part context offset bytes is id version at held =
 
 module _ {M : Type 0} (stands_for stands_exactly : M → List Event → Type 0) where
   -- a machine that has replayed what stands in front of a byte at which no batch can be read
-  pub replayed_front : (part : Part) (at : ℕ) (old new : M) (tail : Option CutTail) → HasReplayed (IsHistoryUpTo part at) stands_for stands_exactly old new → at ≤ length part.bytes
+  pub replayed_prefix : (part : Part) (at : ℕ) (old new : M) (tail : Option CutTail) → HasReplayed (IsHistoryUpTo part at) stands_for stands_exactly old new → at ≤ length part.bytes
       → IsUnreadableAt part at → IsTornAs part tail → IsReplayedTo stands_for stands_exactly part old new tail
-  replayed_front part at old new tail r inside torn told = record {
+  replayed_prefix part at old new tail r inside torn told = record {
     history = r.history;
     held = record { at = at; inside = inside; held = subst (HoldsFrom (bytes_before part at) 0) (sym r.held.2) (held_before part at 0 r.held.0 inside r.held.1); torn = torn };
     told = told;
@@ -71,13 +71,13 @@ module _ {M : Type 0} (stands_for stands_exactly : M → List Event → Type 0) 
   module _ (part file : Part) (same : part ≡ file) (at : ℕ) (old new : M) (r : HasReplayed (IsHistoryUpTo part at) stands_for stands_exactly old new) where
     pub replayed_to_end : at ≡ length part.bytes → IsReplayedTo stands_for stands_exactly file old new None
     replayed_to_end ends = subst (λ (p : Part). IsReplayedTo stands_for stands_exactly p old new None) same
-        (replayed_front part at old new None r (omega (arith, ends)) (end_unreadable part at ends)
+        (replayed_prefix part at old new None r (omega (arith, ends)) (end_unreadable part at ends)
         (subst (StopsAt part) ends (record { batches = (r.held.0, r.held.1); stops = inl ends })))
 
     pub replayed_to_tail : (error : Error) → at < length part.bytes → IsUnreadableAt part at → IsNextFault (signature_in part.version part.id.seq) (drop at part.bytes) error → error ≢ errors.Memory
         → (tail : CutTail) → IsTailFrom file at error tail → IsReplayedTo stands_for stands_exactly file old new (Some tail)
     replayed_to_tail error before none why other tail from = subst (λ (p : Part). IsReplayedTo stands_for stands_exactly p old new (Some tail)) same
-        (replayed_front part at old new (Some tail) r (omega (arith, before)) none
+        (replayed_prefix part at old new (Some tail) r (omega (arith, before)) none
         (is_tail part at error tail (subst (λ (p : Part). IsTailFrom p at error tail) (sym same) from) (record { batches = (r.held.0, r.held.1); stops = inr none }) before why other))
 
   -- segments of which the same is read

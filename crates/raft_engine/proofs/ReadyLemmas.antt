@@ -8,8 +8,8 @@ use Rattle.raft_records.specs.LogBatch.{Batch}
 use Rattle.raft_files.specs.Asks.{Ask, NumberedBytes}
 use Rattle.raft_files.specs.Disk.{cut_last}
 use Rattle.raft_recover.specs.Files.{whole_file}
-use Rattle.raft_engine_fronts.specs.Done.{AreConsecutive, numbers}
-use Rattle.raft_engine_fronts.specs.TornTails.{StopsAt}
+use Rattle.raft_engine_prefixes.specs.Done.{AreConsecutive, numbers}
+use Rattle.raft_engine_prefixes.specs.TornTails.{StopsAt}
 use Rattle.raft_engine.specs.CutTails.{IsTailOf, IsTailTold, tail_of}
 use Rattle.raft_engine.specs.FoundFiles.{AreAccepted, AreReadyBy, IsFoundFault, IsOfOther, IsOtherAs, IsTailRefused, IsTailRefusedAs}
 use Rattle.raft_engine.specs.OpeningAsks.{asks_that_tell, missing_asks, opening_asks}

@@ -37,7 +37,7 @@ use Rattle.raft_engine_laws.specs.GroupsInRows.{AreGroupsInRows}
 use Rattle.raft_engine_laws.specs.TakenTold.{AreBothRead, AreFoundTables, DoesTakenTakeAway, IsTakenToldByMarks, IsTakenToldNowOrLater}
 use Rattle.raft_engine_laws.proofs.InRows.{rows_apart}
 use Rattle.raft_engine_laws.proofs.ToldContexts.{taken_in_steps}
-use Rattle.raft_engine_fronts.specs.TornTails.{FilesHoldTorn, StopsAt}
+use Rattle.raft_engine_prefixes.specs.TornTails.{FilesHoldTorn, StopsAt}
 use Rattle.raft_engine.specs.FileSegments.{AreSegmentsOfFiles}
 use Rattle.raft_engine.specs.Markers.{AreOutOfRows, HaveRows, NoneIsInRows}
 use Rattle.raft_engine.specs.Opening.{AreRecovered}

@@ -18,9 +18,9 @@ use Rattle.raft_replay.specs.Segments.{SegmentsHold}
 use Rattle.raft_recover.specs.Files.{FilesHold, bytes_of_files, whole_file}
 use Rattle.raft_recover.specs.Recovery.{AreBothRecovered}
 use Rattle.raft_engine_laws.specs.Records.{Records, HaveRecords, live}
-use Rattle.raft_engine_fronts.specs.Done.{AreConsecutive, numbers}
-use Rattle.raft_engine_fronts.specs.Fronts.{IsFrontWith}
-use Rattle.raft_engine_fronts.specs.TornTails.{AreUndamaged, FilesHoldTorn, StopsAt}
+use Rattle.raft_engine_prefixes.specs.Done.{AreConsecutive, numbers}
+use Rattle.raft_engine_prefixes.specs.Prefixes.{IsPrefixWith}
+use Rattle.raft_engine_prefixes.specs.TornTails.{AreUndamaged, FilesHoldTorn, StopsAt}
 use Rattle.raft_engine.specs.CutFiles.{AreCut}
 use Rattle.raft_engine.specs.FoundFiles.{IsCut, IsFirstBegun, IsLastOfOther, IsLastRefused, IsReady, IsUntorn}
 use Rattle.raft_engine.specs.KeptEngine.{KeptEngine}
@@ -32,8 +32,8 @@ use Rattle.raft_engine.specs.declared.recovery_mode.RecoveryMode.{RecoveryMode}
 use Rattle.raft_engine.specs.declared.recovery_mode.RecoveryMode.TheVariants.{TolerateTornTail}
 use Rattle.raft_engine.proofs.OpensLemmas.{AreSoundFiles, openings_over_succeed, openings_succeed}
 
--- a front of all batches with the synced ones is all of them, if all are synced
-pub whole_front : (synced h front : List Event) → IsFrontWith synced h front → synced ≡ h → front ≡ h
+-- a prefix of all batches with the synced ones is all of them, if all are synced
+pub whole_front : (synced h front : List Event) → IsPrefixWith synced h front → synced ≡ h → front ≡ h
 whole_front synced h front f same =
     let a = ap length f.split ∙ length-append front f.lost in
     let b = ap length (f.least ∙ ap (λ (s : List Event). s ++ f.more) same) ∙ length-append h f.more in
@@ -206,7 +206,7 @@ find_so version append rewrite These AreSo so f = record {
   recovered = λ appended rewritten a r accessor b. so accessor.tables (f.recovered appended rewritten a r accessor b);
 }
 
--- whenever the machine stops
+-- whenever the machine crashes
 pub kept_by_restarts : ((content : EntryIndex → List ℕ) (version : Version) (base : ℕ → Records) (asks : List Ask) (l : IsLastingAfter content version base asks)
     → IsFoundByRestarts content version base asks l.synced l.batches)
     → ((content : EntryIndex → List ℕ) (engine : KeptEngine) (l : IsLasting content engine) → AreFromBefore content engine.version engine.asks l.base)

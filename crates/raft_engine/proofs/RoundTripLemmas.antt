@@ -18,8 +18,8 @@ use Rattle.raft_files.specs.Disk.{MayStand, begun, cut_last, files_of}
 use Rattle.raft_replay.specs.Segments.{SegmentsHold}
 use Rattle.raft_recover.specs.Files.{FilesHold, bytes_of_files, whole_file}
 use Rattle.raft_recover.specs.Recovery.{AreBothRecovered, IsRecovered}
-use Rattle.raft_engine_fronts.specs.Fronts.{ArePut, HoldFrontWith}
-use Rattle.raft_engine_fronts.specs.TornTails.{FilesHoldTorn, StopsAt}
+use Rattle.raft_engine_prefixes.specs.Prefixes.{ArePut, HoldPrefixWith}
+use Rattle.raft_engine_prefixes.specs.TornTails.{FilesHoldTorn, StopsAt}
 use Rattle.raft_engine.specs.KeptEngine.{KeptEngine}
 use Rattle.raft_engine.specs.Opened.{IsOpened}
 use Rattle.raft_engine.specs.ReadBack.{IsReadBack, NothingMoved}
@@ -38,7 +38,7 @@ module _
     (same_tables : (q : LogQueue) (h : List Event) (m n : Tables) (a b : List ℕ) → IsOneReading q h m a → IsOneReading q h n b → m ≡ n)
     (same_cleaned : (q : LogQueue) (h : List Event) (m n : Tables) (a b : List ℕ) → IsOneReading q h m a → IsOneReading q h n b → a ≡ b)
     (front : (queue : LogQueue) (version : Version) (acts : List Act) (synced h : List Event) (files : List NumberedBytes)
-    → ArePut queue version acts synced h → MayStand acts files → HoldFrontWith queue version synced h files) where
+    → ArePut queue version acts synced h → MayStand acts files → HoldPrefixWith queue version synced h files) where
   -- ---- what segments hold
 
   -- segments hold what the files do, and that is little

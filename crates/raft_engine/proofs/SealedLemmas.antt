@@ -15,7 +15,7 @@ use Rattle.raft_files.specs.Disk.{IsLeftOf, begun, cut_last, put_behind}
 use Rattle.raft_files.proofs.LastLemmas.{last_of}
 use Rattle.raft_replay.specs.Segments.{HoldsFrom}
 use Rattle.raft_recover.specs.Files.{FilesHold, whole_file}
-use Rattle.raft_engine_fronts.proofs.TornLemmas.{items_of, stand_up_to}
+use Rattle.raft_engine_prefixes.proofs.TornLemmas.{items_of, stand_up_to}
 use Rattle.raft_engine.specs.SoundBlocks.{AreBlocksSound, IsFileSound, IsLastSound, NoneIsUnsound}
 use Rattle.raft_engine.specs.StoredAsks.{IsWritableBatch}
 use Rattle.raft_engine.proofs.BlockLemmas.{part_of_sound, put_sound}
@@ -38,8 +38,8 @@ prefix_of_sound Rewrite version seq bytes n all = elim (cases_lt n (length bytes
   | inr long ↦ subst (λ (bs : List ℕ). AreBlocksSound (whole_file Rewrite version (seq, bs))) (sym (take_all n bytes (omega (arith, long)))) all
 ]
 
-front_of_sound : (queue : LogQueue) (version : Version) (seq : ℕ) (front rest : List ℕ) → IsFileSound queue version (seq, front ++ rest) → IsFileSound queue version (seq, front)
-front_of_sound queue version seq front rest all =
+prefix_of_sound : (queue : LogQueue) (version : Version) (seq : ℕ) (front rest : List ℕ) → IsFileSound queue version (seq, front ++ rest) → IsFileSound queue version (seq, front)
+prefix_of_sound queue version seq front rest all =
     subst (λ (bs : List ℕ). IsFileSound queue version (seq, bs)) (take_at front rest (length front) refl) (prefix_of_sound queue version seq (front ++ rest) (length front) all)
 
 -- a written batch behind one
@@ -110,10 +110,10 @@ module _ (queue : LogQueue) (version : Version) where
           let g = last_held queue version closed last h (subst (λ (files : List NumberedBytes). FilesHold queue version files h) is held) in
           let all = written_behind queue version last handle batch g.0 w id place g.1 (none (begun acts) (whole_stands acts) closed last is) in
           last_is_sound standing closed (last.0, last.1 ++ f.front) (f.put ∙ ap (put_behind f.front) is ∙ last_of (λ old. old ++ f.front) closed last)
-          (front_of_sound queue version last.0 (last.1 ++ f.front) f.rest
+          (prefix_of_sound queue version last.0 (last.1 ++ f.front) f.rest
           (subst (λ (bs : List ℕ). IsFileSound queue version (last.0, bs)) (ap (λ (bs : List ℕ). last.1 ++ bs) f.split ∙ sym (append_assoc last.1 f.front f.rest)) all))
 
--- ---- a stop
+-- ---- a crash
 
 pub left_sound : (queue : LogQueue) (version : Version) (asked : List Ask) (files : List NumberedBytes) → NoneIsUnsound queue version (acts_on queue asked) → IsLeftOf queue asked files → IsLastSound queue version files
 left_sound queue version asked files none l closed last e =

@@ -26,11 +26,11 @@ use Rattle.raft_recover.specs.Files.{whole_file}
 use Rattle.raft_engine_laws.specs.DeletedFiles.{AreLeastFrom}
 use Rattle.raft_engine_laws.specs.Groups.{HasNoMarker}
 use Rattle.raft_engine_laws.specs.Records.{HaveRecords, Records, live, no_base}
-use Rattle.raft_engine_laws.specs.Stops as queue_deeds
-use Rattle.raft_engine_laws.specs.Stops.{Deed, Write, Delete, IsNextIn, IsSafe, IsSynced, LoseNothing, written}
+use Rattle.raft_engine_laws.specs.Crashes as queue_deeds
+use Rattle.raft_engine_laws.specs.Crashes.{Deed, Write, Delete, IsNextIn, IsSafe, IsSynced, LoseNothing, written}
 use Rattle.raft_engine_laws.specs.Telling.{AreRemovals, SayTheSame, TakeAway, taking_items, taking_steps, told_items}
-use Rattle.raft_engine_fronts.specs.Contents.{AreBothTold, KeepsBytes}
-use Rattle.raft_engine_fronts.specs.Done.{LastFileIsNext}
+use Rattle.raft_engine_prefixes.specs.Contents.{AreBothTold, KeepsBytes}
+use Rattle.raft_engine_prefixes.specs.Done.{LastFileIsNext}
 use Rattle.raft_engine.specs.BatchBytes.{bytes_for, place_at, placed_at}
 use Rattle.raft_engine.specs.KeptEngine.{KeptEngine}
 use Rattle.raft_engine.specs.Lasting.{AreSynced, IsBegunOrFound, IsLasting, IsLastingAfter}
@@ -38,7 +38,7 @@ use Rattle.raft_engine.specs.Stored.{AreAllDone, AreEverLasting, AreKeptStored, 
 use Rattle.raft_engine.specs.StoredAsks.{DeletionsAreStored, FirstFilesAreStored, IsWritableBatch, NewFilesAreStored, SyncsAreStored, ToldBatchesAreStored, WhatIsDoneLasts, WrittenBatchesAreStored}
 use Rattle.raft_engine.proofs.DoneLemmas.{deeds_synced}
 use Rattle.raft_engine_laws.proofs.InRows.{rows_alone}
-use Rattle.raft_engine_laws.proofs.OwnFronts.{own_joins}
+use Rattle.raft_engine_laws.proofs.OwnPrefixes.{own_joins}
 use Rattle.raft_engine.proofs.UntoldLemmas.{placed_away, placed_steps}
 use Rattle.raft_engine.proofs.WellPutLemmas.{both_well}
 

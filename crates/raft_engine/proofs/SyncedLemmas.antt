@@ -7,7 +7,7 @@ use Rattle.raft_history.specs.Batches.{Event}
 use Rattle.raft_files.specs.Asks.{Ask, NumberedBytes, acts_on}
 use Rattle.raft_files.specs.Disk.{begun}
 use Rattle.raft_recover.specs.Files.{FilesHold}
-use Rattle.raft_engine_fronts.specs.TornTails.{FilesHoldTorn}
+use Rattle.raft_engine_prefixes.specs.TornTails.{FilesHoldTorn}
 use Rattle.raft_engine.specs.BatchBytes.{event_at}
 use Rattle.raft_engine.specs.KeptEngine.{KeptEngine}
 use Rattle.raft_engine.specs.Lasting.{before_sync}

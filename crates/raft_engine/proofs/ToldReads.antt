@@ -4,7 +4,7 @@ use Rattle.std.specs.List.{AllZip}
 use Rattle.std.proofs.lemmas.List.Elements.{Contains-append_left}
 use Rattle.raft_base.specs.declared.entry_index.EntryIndex.{EntryIndex}
 use Rattle.raft_files.specs.Asks.{Ask}
-use Rattle.raft_engine_fronts.specs.Contents.{AreBothTold, HaveContents, ReadEntryIsTold}
+use Rattle.raft_engine_prefixes.specs.Contents.{AreBothTold, HaveContents, ReadEntryIsTold}
 use Rattle.raft_engine.specs.Reads.{IsReadAmong}
 
 module _ (is_told : ReadEntryIsTold) (reads old new : List Ask) (asked : new ≡ reads ++ old) (content : EntryIndex → List ℕ) (told : AreBothTold new content) where

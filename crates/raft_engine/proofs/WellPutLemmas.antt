@@ -8,9 +8,9 @@ use Rattle.raft_history.specs.Batches.{Event}
 use Rattle.raft_files.specs.Asks.{Act, Ask, Begin, Cut, Delete, Found, NumberedBytes, Put, Read, Sync, acts_on}
 use Rattle.raft_files.specs.Disk.{begun}
 use Rattle.raft_recover.specs.Files.{FilesHold}
-use Rattle.raft_engine_fronts.specs.EntryPlaces.{EntriesEndWithin}
-use Rattle.raft_engine_fronts.specs.TornTails.{FilesHoldTorn}
-use Rattle.raft_engine_fronts.proofs.EndLemmas.{begin_within, cut_within, found_within, none_within, put_within}
+use Rattle.raft_engine_prefixes.specs.EntryPlaces.{EntriesEndWithin}
+use Rattle.raft_engine_prefixes.specs.TornTails.{FilesHoldTorn}
+use Rattle.raft_engine_prefixes.proofs.EndLemmas.{begin_within, cut_within, found_within, none_within, put_within}
 use Rattle.raft_engine.specs.FoundFiles.{IsLastOfOther}
 use Rattle.raft_engine.specs.SoundBlocks.{IsLastSound, NoneIsUnsound}
 use Rattle.raft_engine.specs.WellPut.{AreWellPut}

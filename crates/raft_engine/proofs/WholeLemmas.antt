@@ -10,14 +10,14 @@ use Rattle.raft_files.specs.Asks.{Act, Ask, NumberedBytes, acts_on}
 use Rattle.raft_files.specs.Disk.{begun, deletions, files_of}
 use Rattle.raft_replay.specs.Segments.{AreHeldInTurn}
 use Rattle.raft_recover.specs.Files.{FilesHold}
-use Rattle.raft_engine_laws.specs.Stops.{Deed, IsLeft, deleted, in_files_from, synced, written}
-use Rattle.raft_engine_laws.proofs.StopLemmas.{all_gone, from_none, synced_low, whole_stands}
-use Rattle.raft_engine_fronts.specs.Done.{AreConsecutive, AreDone, AreRisingFrom, numbers}
-use Rattle.raft_engine_fronts.specs.TornTails.{FilesHoldTorn}
-use Rattle.raft_engine_fronts.proofs.EventLemmas.{files_high, files_low, from_both, from_twice}
-use Rattle.raft_engine_fronts.proofs.FrontLemmas.{all_held}
-use Rattle.raft_engine_fronts.proofs.NumberLemmas.{below_drop, below_take, consecutive_drop}
-use Rattle.raft_engine_fronts.proofs.TornLemmas.{more_torn}
+use Rattle.raft_engine_laws.specs.Crashes.{Deed, IsLeft, deleted, in_files_from, synced, written}
+use Rattle.raft_engine_laws.proofs.CrashLemmas.{all_gone, from_none, synced_low, whole_stands}
+use Rattle.raft_engine_prefixes.specs.Done.{AreConsecutive, AreDone, AreRisingFrom, numbers}
+use Rattle.raft_engine_prefixes.specs.TornTails.{FilesHoldTorn}
+use Rattle.raft_engine_prefixes.proofs.EventLemmas.{files_high, files_low, from_both, from_twice}
+use Rattle.raft_engine_prefixes.proofs.PrefixLemmas.{all_held}
+use Rattle.raft_engine_prefixes.proofs.NumberLemmas.{below_drop, below_take, consecutive_drop}
+use Rattle.raft_engine_prefixes.proofs.TornLemmas.{more_torn}
 
 -- the oldest files, and those behind them
 oldest_held : (queue : LogQueue) (version : Version) (n : ℕ) (files : List NumberedBytes) (h : List Event) → n < length files → FilesHoldTorn queue version files h

@@ -20,10 +20,10 @@ use Rattle.raft_accessor.specs.Writes.{Appending, AreWritten, after_items}
 use Rattle.raft_files.specs.Asks.{Ask, MayBeAsked, NumberedBytes, Put, Sync, acts_on, ask}
 use Rattle.raft_files.specs.Disk.{begun, deletions}
 use Rattle.raft_recover.specs.Files.{FilesHold}
-use Rattle.raft_engine_laws.specs.Stops as queue_deeds
+use Rattle.raft_engine_laws.specs.Crashes as queue_deeds
 use Rattle.raft_engine_laws.specs.Telling.{TakeAway, taking_items, told_items}
-use Rattle.raft_engine_fronts.specs.Fronts.{ArePutWhole, WrittenBatchIsPut}
-use Rattle.raft_engine_fronts.proofs.TornLemmas.{whole_torn}
+use Rattle.raft_engine_prefixes.specs.Prefixes.{ArePutWhole, WrittenBatchIsPut}
+use Rattle.raft_engine_prefixes.proofs.TornLemmas.{whole_torn}
 use Rattle.raft_engine.specs.BatchBytes.{bytes_for, event_at, place_at, placed_at}
 use Rattle.raft_engine.specs.KeptEngine.{IsLastFile, KeptEngine}
 use Rattle.raft_engine.specs.KeptEngineView.{AreFilesOf, IsKeptBy}
@@ -64,9 +64,9 @@ parts_if : (sync : Bool) (a : Ask) → synced_if sync (a ∷ []) ≡ synced_if s
 parts_if true a = refl
 parts_if false a = refl
 
-front_if : (sync : Bool) (a : Ask) (asks : List Ask) → synced_if sync (a ∷ asks) ≡ synced_if sync (a ∷ []) ++ asks
-front_if true a asks = refl
-front_if false a asks = refl
+prefix_if : (sync : Bool) (a : Ask) (asks : List Ask) → synced_if sync (a ∷ asks) ≡ synced_if sync (a ∷ []) ++ asks
+prefix_if true a asks = refl
+prefix_if false a asks = refl
 
 same_after : (a b : Tables) → Some a ≡ Some b → a ≡ b
 same_after a b e = cc
@@ -153,7 +153,7 @@ module _
         → IsHalfWritten sync batch engine (record { version = version; asks = new; untold = untold'; accessor = other; intact = false }) error
     whole_asked e items placed cut =
         let broken : KeptEngine = record { version = version; asks = new; untold = untold'; accessor = other; intact = false } in
-        half_by sync new untold' other error [] _ refl (e ∙ ap (synced_if sync) ask_made ∙ front_if sync its_ask asks) (inr (refl, placed_cut items broken error placed cut))
+        half_by sync new untold' other error [] _ refl (e ∙ ap (synced_if sync) ask_made ∙ prefix_if sync its_ask asks) (inr (refl, placed_cut items broken error placed cut))
 
   -- the bytes were put or not, and the engine isn't intact any more
   pub kept_half : (new : List Ask) (append' rewrite' : QueueFiles) (untold' : Batch) (other : Accessor) → MayBeAsked (ask file.id.queue (Put (bytes_for file made))) asks new → IsKeptBy version new append' rewrite' untold' other false

@@ -5,7 +5,7 @@ use Rattle.raft_base.specs.declared.pipe_log.Version.{Version}
 use Rattle.raft_files.specs.Asks.{NumberedBytes}
 use Rattle.raft_files.specs.Disk.{cut_last}
 use Rattle.raft_recover.specs.Files.{whole_file}
-use Rattle.raft_engine_fronts.specs.TornTails.{StopsAt}
+use Rattle.raft_engine_prefixes.specs.TornTails.{StopsAt}
 
 -- the last file of a queue is cut where a reader stops in it
 pub record IsLastCut (queue : LogQueue) (version : Version) (files cut : List NumberedBytes) : Type 0 where

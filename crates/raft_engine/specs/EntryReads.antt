@@ -6,7 +6,7 @@ use Rattle.raft_base.specs.declared.errors.Error.{Error}
 use Rattle.raft_table.specs.Fetches.{Empty, Fetches, IsFetchFault, RangeAnswer, range_answer}
 use Rattle.raft_table.specs.Table.{Table}
 use Rattle.raft_files.specs.Asks.{Ask}
-use Rattle.raft_engine_fronts.specs.Contents.{AreBothTold}
+use Rattle.raft_engine_prefixes.specs.Contents.{AreBothTold}
 use Rattle.raft_engine.specs.KeptEngine.{KeptEngine, table_in}
 use Rattle.raft_engine.specs.Reads.{AreReadByBlocks, AreUnread}
 

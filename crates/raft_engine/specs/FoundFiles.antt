@@ -13,8 +13,8 @@ use Rattle.raft_files.specs.Asks.{Ask, Begin, Cut, NumberedBytes, ask}
 use Rattle.raft_files.specs.Disk.{cut_last}
 use Rattle.raft_replay.specs.Stops.{IsUnreadableAt, place_text, queue_text}
 use Rattle.raft_recover.specs.Files.{whole_file}
-use Rattle.raft_engine_fronts.specs.Done.{AreConsecutive, numbers}
-use Rattle.raft_engine_fronts.specs.TornTails.{IsDamagedAt, StopsAt}
+use Rattle.raft_engine_prefixes.specs.Done.{AreConsecutive, numbers}
+use Rattle.raft_engine_prefixes.specs.TornTails.{IsDamagedAt, StopsAt}
 use Rattle.raft_tail.specs.Tails.{IsNextElsewhere, IsNextSound}
 use Rattle.raft_engine.specs.SoundBlocks.{IsLastSound, IsLastUnsoundAs}
 use Rattle.raft_engine.specs.declared.recovery_mode.RecoveryMode.{RecoveryMode}

@@ -6,7 +6,7 @@ use Rattle.raft_records.specs.FilePart.{Part}
 use Rattle.raft_files.specs.Asks.{NumberedBytes}
 use Rattle.raft_files.specs.Disk.{cut_last}
 use Rattle.raft_recover.specs.Files.{AreWholeFiles, whole_file}
-use Rattle.raft_engine_fronts.specs.Done.{AreConsecutive, numbers}
+use Rattle.raft_engine_prefixes.specs.Done.{AreConsecutive, numbers}
 use Rattle.raft_engine.specs.CutTails.{IsTailTold, tail_of}
 use Rattle.raft_engine.specs.FoundFiles.{AreAccepted, AreReadyBy}
 use Rattle.raft_engine.specs.OpeningAsks.{missing_asks}

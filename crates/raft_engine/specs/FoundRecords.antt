@@ -1,4 +1,4 @@
--- The records of found files, whenever the machine stops while they are opened.
+-- The records of found files, whenever the machine crashes while they are opened.
 use Rattle.std.specs.Prelude.{◌≡◌, ◌≢◌, ℕ, List, [], ◌∷◌, ◌++◌}
 use Rattle.raft_base.specs.declared.entry_index.EntryIndex.{EntryIndex}
 use Rattle.raft_base.specs.declared.pipe_log.LogQueue.TheVariants.{Append, Rewrite}
@@ -14,7 +14,7 @@ use Rattle.raft_engine.specs.Stored.{Bases}
 use Rattle.raft_engine.specs.StoredAsks.{IsWritableBatch}
 use Rattle.raft_engine.specs.StoredFound.{AreReady}
 
--- whatever is left of the files, if the machine stops now or stopped after an ask before, once files were begun or found in both queues, has these records, by the contents of entries
+-- whatever is left of the files, if the machine crashes now or stopped after an ask before, once files were begun or found in both queues, has these records, by the contents of entries
 abbrev pub HaveEverRecords : Version → List Ask → Bases → Type 0
 HaveEverRecords version asks records =
     (content : EntryIndex → List ℕ) (later earlier : List Ask) → asks ≡ later ++ earlier → HaveBothBegun earlier

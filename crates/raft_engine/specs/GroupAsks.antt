@@ -18,8 +18,8 @@ use Rattle.raft_accessor.specs.Writes.{Rewriting, after_items}
 use Rattle.raft_files.specs.Asks.{Ask, Put, acts_on, ask}
 use Rattle.raft_engine_laws.specs.Groups.{IsMarked}
 use Rattle.raft_engine_laws.specs.Moving.{MoveAgain}
-use Rattle.raft_engine_laws.specs.Stops.{AreInFileOf, written}
-use Rattle.raft_engine_fronts.specs.Contents.{AreBothTold}
+use Rattle.raft_engine_laws.specs.Crashes.{AreInFileOf, written}
+use Rattle.raft_engine_prefixes.specs.Contents.{AreBothTold}
 use Rattle.raft_engine.specs.BatchBytes.{bytes_for, placed_at}
 use Rattle.raft_engine.specs.GroupBatches.{IsGroupMoving, placed_from, puts_asks}
 use Rattle.raft_engine.specs.KeptEngine.{IsLastFile}

@@ -10,7 +10,7 @@ use Rattle.raft_history.specs.Effects.{steps_of}
 use Rattle.raft_history.specs.RegionSteps.{Tables}
 use Rattle.raft_files.specs.Asks.{Ask, Found, NumberedBytes, ask}
 use Rattle.raft_engine_laws.specs.MarksTold.{Joins}
-use Rattle.raft_engine_fronts.specs.TornTails.{FilesHoldTorn}
+use Rattle.raft_engine_prefixes.specs.TornTails.{FilesHoldTorn}
 
 -- of no region do rewritten entries that the append queue's batches leave lie in front of those that a reading of both queues finds
 abbrev pub BatchesJoin : List Event → List Event → Type 0

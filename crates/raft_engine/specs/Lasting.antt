@@ -1,4 +1,4 @@
--- What lasts of an engine, whenever the machine stops.
+-- What lasts of an engine, whenever the machine crashes.
 use Rattle.std.specs.Prelude.{◌≡◌, ◌≢◌, ◌⊎◌, ℕ, ◌-◌, ◌≤◌, length, true, List, [], ◌∷◌, ◌++◌}
 use Rattle.raft_base.specs.declared.entry_index.EntryIndex.{EntryIndex}
 use Rattle.raft_base.specs.declared.pipe_log.LogQueue.{LogQueue}
@@ -12,12 +12,12 @@ use Rattle.raft_files.specs.Asks.{Act, Ask, Begin, Cut, Delete, Found, NumberedB
 use Rattle.raft_files.specs.Disk.{IsLeftOf, begun, deletions, files_of}
 use Rattle.raft_engine_laws.specs.GroupsInRows.{AreGroupsInRows}
 use Rattle.raft_engine_laws.specs.Records.{Records, HaveRecords, live}
-use Rattle.raft_engine_fronts.specs.AnyTails.{IsUnforgedLeftOf}
-use Rattle.raft_engine_fronts.specs.Contents.{AreTold, AreToldByFiles}
-use Rattle.raft_engine_fronts.specs.Done.{AreConsecutive, numbers}
-use Rattle.raft_engine_fronts.specs.EntryPlaces.{FilesEndWithin, FoundEndWithin}
-use Rattle.raft_engine_fronts.specs.Fronts.{ArePut, IsFrontWith}
-use Rattle.raft_engine_fronts.specs.TornTails.{AreUndamaged, FilesHoldTorn, FoundUndamaged}
+use Rattle.raft_engine_prefixes.specs.AnyTails.{IsUnforgedLeftOf}
+use Rattle.raft_engine_prefixes.specs.Contents.{AreTold, AreToldByFiles}
+use Rattle.raft_engine_prefixes.specs.Done.{AreConsecutive, numbers}
+use Rattle.raft_engine_prefixes.specs.EntryPlaces.{FilesEndWithin, FoundEndWithin}
+use Rattle.raft_engine_prefixes.specs.Prefixes.{ArePut, IsPrefixWith}
+use Rattle.raft_engine_prefixes.specs.TornTails.{AreUndamaged, FilesHoldTorn, FoundUndamaged}
 use Rattle.raft_engine.specs.CutFiles.{AreCut}
 use Rattle.raft_engine.specs.FoundFiles.{IsLastOfOther}
 use Rattle.raft_engine.specs.JoinedFiles.{FilesJoin, FoundFilesJoin}
@@ -38,20 +38,20 @@ pub record AreFoundIn (content : EntryIndex → List ℕ) (version : Version) (a
   pub rows : AreGroupsInRows rewritten
   pub found : (tables : Tables) (cleaned : List ℕ) → IsReadingOfBoth rewritten appended tables cleaned → HaveRecords content tables records
 
--- whatever is left of the files holds the records of a front of these batches, with the synced ones at least, and of what there was before them
-abbrev pub IsFrontFound : (EntryIndex → List ℕ) → Version → (ℕ → Records) → List Ask → List Event → List Event → Type 0
-IsFrontFound content version base asks synced batches =
+-- whatever is left of the files holds the records of a prefix of these batches, with the synced ones at least, and of what there was before them
+abbrev pub IsPrefixFound : (EntryIndex → List ℕ) → Version → (ℕ → Records) → List Ask → List Event → List Event → Type 0
+IsPrefixFound content version base asks synced batches =
     (append rewrite : List NumberedBytes) → IsLeftOf Append asks append → IsLeftOf Rewrite asks rewrite
-    → (standing : List Event) × IsFrontWith synced batches standing × AreFoundIn content version append rewrite (live content base standing)
+    → (standing : List Event) × IsPrefixWith synced batches standing × AreFoundIn content version append rewrite (live content base standing)
 
 -- The same of a disk that writes in any order, so that any bytes stand behind the synced ones, but none that can be read and
--- weren't written: whatever is read of the files that are left has the records of a front of these batches, with the synced ones at
+-- weren't written: whatever is read of the files that are left has the records of a prefix of these batches, with the synced ones at
 -- least. Files of which nothing is read, as one that is damaged, tell nothing.
 abbrev pub IsPrefixReadOfAny : (EntryIndex → List ℕ) → Version → (ℕ → Records) → List Ask → List Event → List Event → Type 0
 IsPrefixReadOfAny content version base asks synced batches =
     (append rewrite : List NumberedBytes) → IsUnforgedLeftOf Append version asks append → IsUnforgedLeftOf Rewrite version asks rewrite
     → (appended rewritten : List Event) → FilesHoldTorn Append version append appended → FilesHoldTorn Rewrite version rewrite rewritten
-    → (standing : List Event) × IsFrontWith synced batches standing × AreFoundIn content version append rewrite (live content base standing)
+    → (standing : List Event) × IsPrefixWith synced batches standing × AreFoundIn content version append rewrite (live content base standing)
 
 -- what was asked of a queue before its last sync; a file is begun only where all is synced, and what is found is
 abbrev pub before_sync : List Act → List Act
@@ -75,8 +75,8 @@ AreSynced (Read place bytes ∷ earlier) = AreSynced earlier
 -- What lasts once all this was asked, where these records were there before the batches that are known. The batches that
 -- were written are those that the append files hold if nothing is lost, in deleted files too, and the synced ones those
 -- that they held at the last sync: all where nothing was put since. They are those that what was asked puts there, and the last
--- append file is never deleted. If the machine stops now, the files that are left
--- hold the records of a front of the batches, with the synced ones at least; and if nothing is lost, those of all batches.
+-- append file is never deleted. If the machine crashes now, the files that are left
+-- hold the records of a prefix of the batches, with the synced ones at least; and if nothing is lost, those of all batches.
 -- Contents that were told by what was asked of a queue are those that its files have, once they are cut where reading stops.
 -- The last file of those that are left isn't of the other version, and has sound entry blocks if it is a rewrite file; it isn't damaged,
 -- where the found files aren't; and the entries of their batches end within their blocks, where those of the found files do. Where of no
@@ -88,7 +88,7 @@ pub record IsLastingAfter (content : EntryIndex → List ℕ) (version : Version
   pub synced_held : FilesHoldTorn Append version (begun (before_sync (acts_on Append asks))) synced
   pub put : ArePut Append version (acts_on Append asks) synced batches
   pub stays : deletions (acts_on Append asks) ≤ length (begun (acts_on Append asks)) - 1
-  pub left : IsFrontFound content version base asks synced batches
+  pub left : IsPrefixFound content version base asks synced batches
   pub left_any : IsPrefixReadOfAny content version base asks synced batches
   pub told : (queue : LogQueue) → AreTold queue (acts_on queue asks) content → (files cut : List NumberedBytes) → IsLeftOf queue asks files → AreCut queue version files cut
       → AreToldByFiles queue cut content
@@ -110,7 +110,7 @@ IsBegunOrFound asks =
     ((since : List Ask) × (asks ≡ since ++ ask Rewrite (Begin 1) ∷ ask Append (Begin 1) ∷ []))
     ⊎ ((since : List Ask) × (append : List NumberedBytes) × (rewrite : List NumberedBytes) × (asks ≡ since ++ ask Rewrite (Found rewrite) ∷ ask Append (Found append) ∷ []))
 
--- what lasts of an engine, now, where an intact one's tables have the records of all batches, and whenever the machine stops: after each ask, once files were begun or found in both queues
+-- what lasts of an engine, now, where an intact one's tables have the records of all batches, and whenever the machine crashes: after each ask, once files were begun or found in both queues
 pub record IsLasting (content : EntryIndex → List ℕ) (engine : KeptEngine) : Type 0 where
   pub first : IsBegunOrFound engine.asks
   pub base : ℕ → Records

@@ -7,9 +7,9 @@ use Rattle.raft_base.specs.declared.pipe_log.Version.{Version}
 use Rattle.raft_files.specs.Asks.{Ask, Begin, NumberedBytes, acts_on, ask}
 use Rattle.raft_files.specs.Disk.{IsLeftOf, begun, deletions}
 use Rattle.raft_engine_laws.specs.Records.{Records}
-use Rattle.raft_engine_laws.specs.Stops.{in_files_from}
-use Rattle.raft_engine_fronts.specs.Contents.{AreBothTold}
-use Rattle.raft_engine_fronts.specs.Fronts.{AreFirstOf}
+use Rattle.raft_engine_laws.specs.Crashes.{in_files_from}
+use Rattle.raft_engine_prefixes.specs.Contents.{AreBothTold}
+use Rattle.raft_engine_prefixes.specs.Prefixes.{AreFirstOf}
 use Rattle.raft_engine.specs.FoundFiles.{AreReadyBy}
 use Rattle.raft_engine.specs.KeptEngine.{KeptEngine, table_in}
 use Rattle.raft_engine.specs.Lasting.{HaveBothBegun, IsLasting, IsLastingAfter}
@@ -17,7 +17,7 @@ use Rattle.raft_engine.specs.Moments.{FindNoFiles}
 use Rattle.raft_engine.specs.Opened.{IsOpened}
 use Rattle.raft_engine.specs.StoredFound.{found_asks}
 
--- a life of an engine: what was asked of its files when the machine stops, the contents of entries, which are told by that, and what lasts, then and at each moment before, once files were begun or found in both queues
+-- a life of an engine: what was asked of its files when the machine crashes, the contents of entries, which are told by that, and what lasts, then and at each moment before, once files were begun or found in both queues
 pub record Life (version : Version) : Type 0 where
   pub asks : List Ask
   pub content : EntryIndex → List ℕ
@@ -26,7 +26,7 @@ pub record Life (version : Version) : Type 0 where
   pub told : AreBothTold asks content
   pub ever : (later earlier : List Ask) → asks ≡ later ++ earlier → HaveBothBegun earlier → IsLastingAfter content version base earlier
 
--- what lasts of it when the machine stops
+-- what lasts of it when the machine crashes
 abbrev pub at_stop : {version : Version} → (life : Life version) → IsLastingAfter life.content version life.base life.asks
 at_stop life = life.ever [] life.asks refl life.both
 
@@ -64,7 +64,7 @@ SyncedStaysSynced =
     (version : Version) (n : ℕ) (life : Life version) (later : List (Life version)) → FollowEachOther version life later → DeleteBelow n version life later
     → AllByRecursion (λ (l : Life version). AreFirstOf (in_files_from n (at_stop life).synced) (in_files_from n (at_stop l).synced)) later
 
--- each engine that is opened over what a stop may leave of a life has the contents of this for each of its entries: so it reads the bytes that were written
+-- each engine that is opened over what a crash may leave of a life has the contents of this for each of its entries: so it reads the bytes that were written
 abbrev pub EntriesAreFound : (version : Version) → Life version → Type 0
 EntriesAreFound version life =
     (append rewrite : List NumberedBytes) → IsLeftOf Append life.asks append → IsLeftOf Rewrite life.asks rewrite → (engine : KeptEngine) → IsOpened version append rewrite engine

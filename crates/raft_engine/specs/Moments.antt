@@ -3,7 +3,7 @@ use Rattle.std.specs.Prelude.{◌≡◌, ℕ, List, ◌++◌}
 use Rattle.std.specs.List.{AllByRecursion}
 use Rattle.raft_base.specs.declared.entry_index.EntryIndex.{EntryIndex}
 use Rattle.raft_files.specs.Asks.{Ask}
-use Rattle.raft_engine_fronts.specs.Fronts.{AreFirstOf, GoesOn}
+use Rattle.raft_engine_prefixes.specs.Prefixes.{AreFirstOf, GoesOn}
 use Rattle.raft_engine.specs.KeptEngine.{KeptEngine}
 use Rattle.raft_engine.specs.Lasting.{HaveBothBegun, IsLasting, IsLastingAfter}
 

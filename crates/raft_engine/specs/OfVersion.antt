@@ -1,4 +1,4 @@
--- What a stop leaves is of the version in which it was written, and isn't of raft-engine.
+-- What a crash leaves is of the version in which it was written, and isn't of raft-engine.
 use Rattle.std.specs.Prelude.{ℕ, List, ◌∷◌, ◌++◌}
 use Rattle.raft_base.specs.declared.pipe_log.FileBlockHandle.{FileBlockHandle}
 use Rattle.raft_base.specs.declared.pipe_log.LogQueue.{LogQueue}
@@ -15,9 +15,9 @@ use Rattle.raft_engine.specs.FoundFiles.{IsLastOfOther, IsOfOther}
 abbrev pub NoneIsOther : LogQueue → Version → List Act → Type 0
 NoneIsOther queue version acts = (files : List NumberedBytes) → MayStand acts files → ¬ (IsLastOfOther queue version files)
 
--- a front of bytes that begin with a batch of their version isn't of the other version
-abbrev pub FrontsAreNotOther : Type 0
-FrontsAreNotOther = (part : Part) (more : List ℕ) (items : List Item) (next : ℕ) → IsBatchAt (record part { bytes = part.bytes ++ more }) 0 items next → ¬ (IsOfOther part)
+-- a prefix of bytes that begin with a batch of their version isn't of the other version
+abbrev pub PrefixesAreNotOther : Type 0
+PrefixesAreNotOther = (part : Part) (more : List ℕ) (items : List Item) (next : ℕ) → IsBatchAt (record part { bytes = part.bytes ++ more }) 0 items next → ¬ (IsOfOther part)
 
 -- so it is where files are found of which the last isn't of the other version, and stays so by each ask after which, where it puts or cuts bytes, the files hold batches of their version, and no torn tail
 pub record StaysOfVersion (queue : LogQueue) (version : Version) (acts : List Act) : Type 0 where
@@ -29,7 +29,7 @@ pub record StaysOfVersion (queue : LogQueue) (version : Version) (acts : List Ac
   pub deleted : NoneIsOther queue version acts → NoneIsOther queue version (Delete ∷ acts)
   pub read : (place : FileBlockHandle) (bytes : List ℕ) → NoneIsOther queue version acts → NoneIsOther queue version (Read place bytes ∷ acts)
 
--- so the last of the files that a stop leaves isn't of the other version
+-- so the last of the files that a crash leaves isn't of the other version
 abbrev pub WhatIsLeftIsNotOther : Type 0
 WhatIsLeftIsNotOther =
     (queue : LogQueue) (version : Version) (asks : List Ask) (files : List NumberedBytes) → NoneIsOther queue version (acts_on queue asks) → IsLeftOf queue asks files

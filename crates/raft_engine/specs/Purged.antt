@@ -13,7 +13,7 @@ use Rattle.raft_table.specs.Table.{Table}
 use Rattle.raft_history.specs.RegionSteps.{Tables}
 use Rattle.raft_files.specs.Asks.{Ask, Delete, Put, Sync, ask}
 use Rattle.raft_files.specs.Disk.{files_of}
-use Rattle.raft_engine_fronts.specs.Done.{numbers}
+use Rattle.raft_engine_prefixes.specs.Done.{numbers}
 use Rattle.raft_engine_laws.specs.DeletedFiles.{AreLeastFrom}
 use Rattle.raft_engine.specs.BatchBytes.{bytes_for}
 use Rattle.raft_engine.specs.KeptEngine.{IsLastFile, KeptEngine}

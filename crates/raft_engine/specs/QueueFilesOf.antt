@@ -3,7 +3,7 @@ use Rattle.std.specs.Prelude.{◌≡◌, ℕ, List, [], ◌∷◌, ◌++◌, dro
 use Rattle.raft_base.specs.declared.pipe_log.LogQueue.{LogQueue}
 use Rattle.raft_base.specs.declared.pipe_log.LogQueue.TheVariants.{Append, Rewrite}
 use Rattle.raft_files.specs.Asks.{NumberedBytes}
-use Rattle.raft_engine_fronts.specs.Done.{numbers}
+use Rattle.raft_engine_prefixes.specs.Done.{numbers}
 use Rattle.raft_engine.specs.declared.queue_files.QueueFiles.{QueueFiles}
 
 -- the numbers of these files, but for the last one, and that one's number and length

@@ -17,8 +17,8 @@ use Rattle.raft_files.specs.Asks.{Ask, Found, NumberedBytes, Put, acts_on, ask}
 use Rattle.raft_files.specs.Disk.{begun}
 use Rattle.raft_recover.specs.Files.{FilesHold}
 use Rattle.raft_engine_laws.specs.Telling.{TakeAway}
-use Rattle.raft_engine_fronts.specs.Done.{AreRisingFrom, numbers}
-use Rattle.raft_engine_fronts.specs.TornTails.{FilesHoldTorn}
+use Rattle.raft_engine_prefixes.specs.Done.{AreRisingFrom, numbers}
+use Rattle.raft_engine_prefixes.specs.TornTails.{FilesHoldTorn}
 use Rattle.raft_engine.specs.BatchBytes.{bytes_for, placed_at}
 use Rattle.raft_engine.specs.GroupBatches.{IsGroupMoving, placed_from, puts_asks}
 use Rattle.raft_engine.specs.KeptEngine.{IsLastFile}

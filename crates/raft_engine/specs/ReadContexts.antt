@@ -7,7 +7,7 @@ use Rattle.raft_history.specs.Histories.{Apart, IsOfQueue, IsSmall}
 use Rattle.raft_contexts.specs.RecoverContext.{HasRead, HasReadExactly, RecoverContext}
 use Rattle.raft_files.specs.Asks.{NumberedBytes}
 use Rattle.raft_recover.specs.Files.{FilesHold}
-use Rattle.raft_engine_fronts.specs.TornTails.{FilesHoldTorn}
+use Rattle.raft_engine_prefixes.specs.TornTails.{FilesHoldTorn}
 use Rattle.raft_engine_laws.specs.GroupsInRows.{AreGroupsInRows}
 
 -- a context has read these batches, where they name few records, and exactly where their effects are apart

@@ -11,7 +11,7 @@ use Rattle.raft_contexts.specs.RecoverContext.{HasRead, HasReadExactly, RecoverC
 use Rattle.raft_files.specs.Asks.{NumberedBytes}
 use Rattle.raft_replay.specs.Stops.{history_in}
 use Rattle.raft_recover.specs.Files.{bytes_of_files}
-use Rattle.raft_engine_fronts.specs.TornTails.{FilesHoldTorn, HoldsTornFrom}
+use Rattle.raft_engine_prefixes.specs.TornTails.{FilesHoldTorn, HoldsTornFrom}
 use Rattle.raft_engine_laws.specs.GroupsInRows.{AreGroupsInRows}
 use Rattle.raft_engine_laws.specs.RowSummaries.{IsSummaryOf}
 use Rattle.raft_engine.specs.CutTails.{IsTailTold, IsTornAs}

@@ -23,11 +23,11 @@ use Rattle.raft_replay.specs.Segments.{CannotBeRead, SegmentsHold}
 use Rattle.raft_recover.specs.Files.{FilesCannotBeRead, FilesHold, bytes_of_files, whole_file}
 use Rattle.raft_recover.specs.Recovery.{AreBothRecovered}
 use Rattle.raft_engine_laws.specs.Records.{Records, HaveRecords, live}
-use Rattle.raft_engine_fronts.specs.AnyTails.{IsUnforgedLeftOf}
-use Rattle.raft_engine_fronts.specs.Contents.{AreBothTold, AreTold, AreToldByFiles}
-use Rattle.raft_engine_fronts.specs.EntryPlaces.{FilesEndWithin}
-use Rattle.raft_engine_fronts.specs.Fronts.{IsFrontWith}
-use Rattle.raft_engine_fronts.specs.TornTails.{FilesHoldTorn, FoundUndamaged, StopsAt}
+use Rattle.raft_engine_prefixes.specs.AnyTails.{IsUnforgedLeftOf}
+use Rattle.raft_engine_prefixes.specs.Contents.{AreBothTold, AreTold, AreToldByFiles}
+use Rattle.raft_engine_prefixes.specs.EntryPlaces.{FilesEndWithin}
+use Rattle.raft_engine_prefixes.specs.Prefixes.{IsPrefixWith}
+use Rattle.raft_engine_prefixes.specs.TornTails.{FilesHoldTorn, FoundUndamaged, StopsAt}
 use Rattle.raft_engine.specs.BatchBytes.{event_at}
 use Rattle.raft_engine.specs.CutFiles.{AreCut}
 use Rattle.raft_engine.specs.FoundFiles.{AreAccepted, IsLastRefused, IsReady}
@@ -113,16 +113,16 @@ abbrev pub OpenedHaveSynced : (EntryIndex → List ℕ) → Version → (ℕ →
 OpenedHaveSynced content version base asks synced batches =
     (append rewrite : List NumberedBytes) → IsUnforgedLeftOf Append version asks append → IsUnforgedLeftOf Rewrite version asks rewrite
     → (engine : KeptEngine) → IsOpened version append rewrite engine
-    → (standing : List Event) × IsFrontWith synced batches standing × HaveRecords content engine.accessor.tables (live content base standing)
+    → (standing : List Event) × IsPrefixWith synced batches standing × HaveRecords content engine.accessor.tables (live content base standing)
 
 -- What restarts find in the files that the machine leaves if it stops once all this was asked: in whatever is left, all of them
--- the records of the same front of these batches, with the synced ones at least, and of what there was before them; and nothing
+-- the records of the same prefix of these batches, with the synced ones at least, and of what there was before them; and nothing
 -- that is refused, so that it can be opened in each mode that refuses no tail of it. The default mode refuses none where the files
 -- that were found aren't damaged. If nothing is lost, restarts find the records of all batches. Contents that were told by what was asked of a queue are those
 -- that its files have that are left, once they are cut where reading stops.
 pub record IsFoundByRestarts (content : EntryIndex → List ℕ) (version : Version) (base : ℕ → Records) (asks : List Ask) (synced batches : List Event) : Type 0 where
   pub left : (append rewrite : List NumberedBytes) → IsLeftOf Append asks append → IsLeftOf Rewrite asks rewrite
-      → (standing : List Event) × IsFrontWith synced batches standing × RestartsFind version append rewrite (λ tables. HaveRecords content tables (live content base standing))
+      → (standing : List Event) × IsPrefixWith synced batches standing × RestartsFind version append rewrite (λ tables. HaveRecords content tables (live content base standing))
   pub opened_any : OpenedHaveSynced content version base asks synced batches
   pub tolerated : BothFoundUndamaged version asks → (append rewrite : List NumberedBytes) → IsLeftOf Append asks append → IsLeftOf Rewrite asks rewrite
       → AreTailsTolerated TolerateTornTail version append rewrite
@@ -156,7 +156,7 @@ pub record StandsInCut (queue : LogQueue) (version : Version) (files : List Numb
   pub stands : bytes_at cut place.id.seq place.offset place.len ≡ Some block
   pub inside : e.entry_offset + e.entry_len ≤ length block
 
--- Contents that are told by what was asked of an engine once it was opened, in the same version, over what a stop left of another one are those of the other
+-- Contents that are told by what was asked of an engine once it was opened, in the same version, over what a crash left of another one are those of the other
 -- one, for each entry whose bytes stand in what was left.
 abbrev pub FoundContentsStay : Type 0
 FoundContentsStay =
@@ -188,7 +188,7 @@ pub record HaveSame (content : EntryIndex → List ℕ) (tables others : Tables)
 
 -- ---- of an engine
 
--- What restarts find of an engine, whenever the machine stops: now, and after each ask before, once files were begun or found in
+-- What restarts find of an engine, whenever the machine crashes: now, and after each ask before, once files were begun or found in
 -- both queues. Where it is intact they find its records: in whatever is left, if nothing was put in the append queue since its
 -- last sync, and in all of its files, if nothing is lost.
 pub record IsKeptByRestarts (content : EntryIndex → List ℕ) (engine : KeptEngine) : Type 0 where
@@ -202,7 +202,7 @@ pub record IsKeptByRestarts (content : EntryIndex → List ℕ) (engine : KeptEn
       → RestartsFind engine.version append rewrite (HaveSame content engine.accessor.tables)
   pub same_whole : engine.intact ≡ true → RestartsFind engine.version (files_of Append engine.asks) (files_of Rewrite engine.asks) (HaveSame content engine.accessor.tables)
 
--- What an engine that is opened has on a disk that writes in any order, whenever the machine stops: now, and after each ask before,
+-- What an engine that is opened has on a disk that writes in any order, whenever the machine crashes: now, and after each ask before,
 -- once files were begun or found in both queues.
 pub record IsKeptUnordered (content : EntryIndex → List ℕ) (engine : KeptEngine) : Type 0 where
   pub lasting : IsLasting content engine

@@ -15,8 +15,8 @@ use Rattle.raft_files.specs.Disk.{IsLeftOf, begun, deletions, files_of}
 use Rattle.raft_replay.specs.Segments.{CannotBeRead, SegmentsHold}
 use Rattle.raft_recover.specs.Files.{FilesHold, bytes_of_files}
 use Rattle.raft_recover.specs.Recovery.{AreBothRecovered, IsRecovered}
-use Rattle.raft_engine_fronts.specs.Fronts.{ArePutWhole, IsFrontWith}
-use Rattle.raft_engine_fronts.specs.TornTails.{FilesHoldTorn}
+use Rattle.raft_engine_prefixes.specs.Prefixes.{ArePutWhole, IsPrefixWith}
+use Rattle.raft_engine_prefixes.specs.TornTails.{FilesHoldTorn}
 use Rattle.raft_engine.specs.KeptEngine.{KeptEngine}
 use Rattle.raft_engine.specs.Lasting.{before_sync}
 use Rattle.raft_engine.specs.Opened.{IsOpened}
@@ -64,7 +64,7 @@ pub record HasAllAppended (engine : KeptEngine) : Type 0 where
   pub none_found : NoneFound Rewrite engine.version engine.asks
 
 -- What is found of an engine whose append files have all that it has: in its files, which can be read, what it keeps; and in those that
--- are left if the machine stops now, what one reading gives of a front of the batches that its append files hold, with the synced ones
+-- are left if the machine crashes now, what one reading gives of a prefix of the batches that its append files hold, with the synced ones
 -- at least.
 pub record IsRoundTrip (engine : KeptEngine) : Type 0 where
   pub batches : List Event
@@ -75,7 +75,7 @@ pub record IsRoundTrip (engine : KeptEngine) : Type 0 where
       → ¬ (CannotBeRead segments)
   pub whole : IsFoundIn engine.version (files_of Append engine.asks) (files_of Rewrite engine.asks) (IsRecoveredAs engine)
   pub left : (append rewrite : List NumberedBytes) → IsLeftOf Append engine.asks append → IsLeftOf Rewrite engine.asks rewrite
-      → (standing : List Event) × IsFrontWith synced batches standing × IsFoundIn engine.version append rewrite (IsReadingOf standing)
+      → (standing : List Event) × IsPrefixWith synced batches standing × IsFoundIn engine.version append rewrite (IsReadingOf standing)
 
 -- so it is of one whose tables are read back of the append files, where these batches were put
 abbrev pub ReadBackIsRoundTrip : Type 0

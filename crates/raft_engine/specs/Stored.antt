@@ -9,10 +9,10 @@ use Rattle.raft_history.specs.RegionSteps.{Tables, steps_of_items}
 use Rattle.raft_files.specs.Asks.{Act, Ask, acts_on}
 use Rattle.raft_engine_laws.specs.GroupsInRows.{AreGroupsInRows}
 use Rattle.raft_engine_laws.specs.Records.{Records}
-use Rattle.raft_engine_laws.specs.Stops.{Deed, written, synced, IsSafe}
-use Rattle.raft_engine_fronts.specs.Contents.{AreBothTold}
-use Rattle.raft_engine_fronts.specs.Done.{AreDoneWhole}
-use Rattle.raft_engine_fronts.specs.Fronts.{ArePutWhole}
+use Rattle.raft_engine_laws.specs.Crashes.{Deed, written, synced, IsSafe}
+use Rattle.raft_engine_prefixes.specs.Contents.{AreBothTold}
+use Rattle.raft_engine_prefixes.specs.Done.{AreDoneWhole}
+use Rattle.raft_engine_prefixes.specs.Prefixes.{ArePutWhole}
 use Rattle.raft_engine.specs.Lasting.{HaveBothBegun, IsBegunOrFound, IsLastingAfter}
 use Rattle.raft_engine.specs.WellPut.{AreWellPut}
 

@@ -16,10 +16,10 @@ use Rattle.raft_files.specs.Disk.{begun, deletions}
 use Rattle.raft_engine_laws.specs.DeletedFiles.{AreLeastFrom}
 use Rattle.raft_engine_laws.specs.Records.{Records, no_base}
 use Rattle.raft_engine_laws.specs.GroupsInRows.{AreGroupsInRows}
-use Rattle.raft_engine_laws.specs.Stops.{Deed, IsLeft, LoseNothing, synced, written}
+use Rattle.raft_engine_laws.specs.Crashes.{Deed, IsLeft, LoseNothing, synced, written}
 use Rattle.raft_engine_laws.specs.Telling.{TakeAway, taking_items, told_items}
-use Rattle.raft_engine_fronts.specs.Done.{AreDone}
-use Rattle.raft_engine_fronts.specs.Fronts.{ArePut}
+use Rattle.raft_engine_prefixes.specs.Done.{AreDone}
+use Rattle.raft_engine_prefixes.specs.Prefixes.{ArePut}
 use Rattle.raft_engine.specs.BatchBytes.{bytes_for, placed_at}
 use Rattle.raft_engine.specs.JoinedFiles.{BatchesJoin, FoundFilesJoin}
 use Rattle.raft_engine.specs.KeptEngine.{IsLastFile}
@@ -27,7 +27,7 @@ use Rattle.raft_engine.specs.Lasting.{AreSynced, IsLastingAfter}
 use Rattle.raft_engine.specs.Stored.{AreKeptStored, Bases}
 use Rattle.raft_engine.specs.WellPut.{AreWellPut}
 
--- where what is done to both queues loses nothing in a stop, each group of the rewrite queue stands in a row, all is well put, and of what is left no rewritten entries stay in front, where of the found files none do, the batches that were written last
+-- where what is done to both queues loses nothing in a crash, each group of the rewrite queue stands in a row, all is well put, and of what is left no rewritten entries stay in front, where of the found files none do, the batches that were written last
 abbrev pub WhatIsDoneLasts : Type 0
 WhatIsDoneLasts =
     (content : EntryIndex → List ℕ) (version : Version) (base : ℕ → Records) (asks : List Ask) (appended rewritten : List Deed)

@@ -4,7 +4,7 @@ ghost use Rattle.std.specs.Prelude.{◌≡◌, ◌≢◌, ℕ, List, IfErr, IfOk
 ghost use Rattle.raft_base.specs.Corruption.{IsCorruption};
 ghost use Rattle.raft_records.specs.FilePart.{IsBatchAt};
 ghost use Rattle.raft_records.specs.Item.{Item};
-ghost use Rattle.raft_engine_fronts.specs.TornTails.{StopsAt};
+ghost use Rattle.raft_engine_prefixes.specs.TornTails.{StopsAt};
 ghost use Rattle.raft_engine.specs.CutTails.{IsTornAs};
 ghost use Rattle.raft_engine.specs.SoundBlocks.{AreBlocksSound, HasSoundBlock, IsPartSound, IsUnsoundAs, damaged_entries_text};
 

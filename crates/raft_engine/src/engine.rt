@@ -11,7 +11,7 @@ ghost use Rattle.raft_files.specs.Asks.{Begin, NumberedBytes, Sync, ask};
 ghost use Rattle.raft_table.specs.KeyValues.{value_at};
 ghost use Rattle.raft_base.specs.Runs.{end_of};
 ghost use Rattle.raft_table.specs.TableEntries.{start_of};
-ghost use Rattle.raft_engine_fronts.specs.Contents.{AreBothTold};
+ghost use Rattle.raft_engine_prefixes.specs.Contents.{AreBothTold};
 ghost use Rattle.raft_engine.specs.KeptEngine.{table_in};
 ghost use Rattle.raft_engine.specs.CutTails.{IsRecoveredOf};
 ghost use Rattle.raft_engine.specs.Faults.{Breaks, IsFirstFault, IsPurgeFault, IsRotationFault, IsSyncFault, IsWritingFault};
@@ -40,10 +40,10 @@ use crate::untold::taken_away;
 use raft_accessor::MemTableAccessor;
 use raft_accessor::accessor::accepted_items_lack_room_alone;
 use raft_base::{Error, FileId, FileSeq, LogFileContext, LogQueue, Result, Version};
-use raft_engine_fronts::contents::told_contents_last;
-use raft_engine_fronts::fronts::asks_put_batches;
-use raft_engine_laws::stops::nothing_is_lost;
+use raft_engine_laws::crashes::nothing_is_lost;
 use raft_engine_laws::telling::told_items_take_away_the_same;
+use raft_engine_prefixes::contents::told_contents_last;
+use raft_engine_prefixes::prefixes::asks_put_batches;
 use raft_files::EngineFiles;
 use raft_records::LogBatch;
 use std::alloc::Global;
@@ -61,7 +61,7 @@ mod round_trip;
 
 /// The logs of many regions: files that the machine keeps, and the tables of all batches that were written to them.
 ///
-/// Whenever the machine stops, the files that are left hold what was synced, and a front of the batches that were written
+/// Whenever the machine crashes, the files that are left hold what was synced, and a prefix of the batches that were written
 /// since ([`Engine::nothing_synced_is_lost`]); what a disk has to do for it stands at [`EngineFiles`]. After an `Err` of a call
 /// that writes, the files may hold a batch that the tables don't: such an engine isn't intact, and takes no further one. Its
 /// files must be opened again ([`Engine::open`]).
@@ -267,8 +267,8 @@ impl<F: EngineFiles> Engine<F> {
         }
     }
 
-    /// States what lasts, whenever the machine stops or stopped, in the midst of a call too: the records of all batches that
-    /// were synced by then, and of a front of those since, each of them whole or not at all. The contents of entries are any
+    /// States what lasts, whenever the machine crashes or crashed, in the midst of a call too: the records of all batches that
+    /// were synced by then, and of a prefix of those since, each of them whole or not at all. The contents of entries are any
     /// that are told by what was asked; a read of a damaged block, which is refused, tells none and costs nothing. This is a
     /// law: it computes nothing.
     pub fn nothing_synced_is_lost(&self)

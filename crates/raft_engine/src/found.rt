@@ -3,14 +3,14 @@
 ghost use Rattle.std.specs.Prelude.{◌≡◌, ◌≢◌, suc, ◌∷◌, ◌++◌, ◌⊎◌, ◌↔◌, ◌≤◌, ◌<◌, [], codes, length, map, IfOk, IfErr, IsTrue, OnOk};
 ghost use Rattle.raft_files.specs.HeldFiles.{file_shown};
 ghost use Rattle.raft_base.specs.Corruption.{IsArgumentRefusal, IsCorruption};
-ghost use Rattle.raft_engine_fronts.specs.Done.{AreConsecutive, numbers};
+ghost use Rattle.raft_engine_prefixes.specs.Done.{AreConsecutive, numbers};
 ghost use Rattle.raft_files.specs.Disk.{cut_last};
 ghost use Rattle.raft_recover.specs.Files.{whole_file};
 ghost use Rattle.raft_replay.specs.Stops.{place_text};
 ghost use Rattle.raft_engine.specs.CutTails.{IsTailTold, IsTornAs, tail_of};
 ghost use Rattle.raft_engine.specs.FoundFiles.{AreAccepted, AreApartAs, AreReadyBy, BeginsInOther, IsApartAs, IsDamageText, IsFoundFault, IsOfEngine, IsOfOther, IsOtherAs, IsOtherText, IsRefusalText, IsRefusedAt, IsTailRefused, IsTailRefusedAs, elsewhere_text, followed_text, missing_text, other_version, uncut_text};
 ghost use Rattle.raft_engine.specs.OpeningAsks.{missing_asks};
-ghost use Rattle.raft_engine_fronts.specs.TornTails.{IsDamagedAt};
+ghost use Rattle.raft_engine_prefixes.specs.TornTails.{IsDamagedAt};
 
 use crate::recovered::CutTail;
 use crate::recovery_mode::RecoveryMode;

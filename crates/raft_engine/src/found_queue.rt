@@ -9,7 +9,7 @@ ghost use Rattle.raft_engine.specs.CutTails.{IsTailTold};
 ghost use Rattle.raft_engine.specs.FoundFiles.{AreApartAs, IsFoundFault};
 ghost use Rattle.raft_engine.specs.FoundQueues.{IsFoundQueue, IsLastOf, IsMissingOf, IsReadyQueue, begun_or_first, known_with, left_by};
 ghost use Rattle.raft_engine.specs.QueueFilesOf.{AreOf};
-ghost use Rattle.raft_engine_fronts.specs.Done.{AreConsecutive, numbers};
+ghost use Rattle.raft_engine_prefixes.specs.Done.{AreConsecutive, numbers};
 
 use crate::blocks::check_blocks;
 use crate::found::{check_numbers, check_tail, tail_of};

@@ -24,7 +24,7 @@ pub fn written_entries_are_found()
     found_entries_stay();
 }
 
-/// States that over any number of restarts, whenever the machine stops, the rewrite queue is told nothing at an opening: what is missing
+/// States that over any number of restarts, whenever the machine crashes, the rewrite queue is told nothing at an opening: what is missing
 /// of each queue is asked, and nothing else, where engines of its version alone wrote the files.
 pub fn own_files_are_told_nothing()
     ensures { OwnFilesAreToldNothing }

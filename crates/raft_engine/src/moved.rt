@@ -3,10 +3,10 @@
 ghost use Rattle.raft_engine.specs.MovedAsks.{MovedBatchesAreStored, PutBatchesAreStored, ReadsAreStored};
 
 use crate::stored::what_is_done_lasts;
-use raft_engine_fronts::contents::{told_contents_are_those_that_were_added, told_contents_last};
-use raft_engine_fronts::done::asks_do_deeds;
-use raft_engine_fronts::fronts::asks_put_batches;
-use raft_engine_laws::stops::{moving_is_safe, nothing_is_lost};
+use raft_engine_laws::crashes::{moving_is_safe, nothing_is_lost};
+use raft_engine_prefixes::contents::{told_contents_are_those_that_were_added, told_contents_last};
+use raft_engine_prefixes::done::asks_do_deeds;
+use raft_engine_prefixes::prefixes::asks_put_batches;
 use raft_history::histories::placed_items_are_in_their_file;
 
 /// States that a read leaves what is stored; and that once the append queue is synced and the rewrite queue is told, records of

@@ -6,8 +6,8 @@ ghost use Rattle.raft_engine.specs.RoundTrip.{ReadBackIsRoundTrip};
 use raft_contexts::reading::{
     appended_items_are_read_as_steps, items_are_read_as_steps, rewriting_changes_places_alone,
 };
-use raft_engine_fronts::fronts::files_that_stand_hold_a_front;
-use raft_engine_fronts::torn_tails::torn_tails_are_found;
+use raft_engine_prefixes::prefixes::files_that_stand_hold_a_prefix;
+use raft_engine_prefixes::torn_tails::torn_tails_are_found;
 use raft_history::histories::{
     histories_of_the_append_queue_are_apart, placed_items_are_in_their_file, readings_agree,
     readings_go_on,
@@ -29,12 +29,12 @@ pub fn batches_are_read_back()
 }
 
 /// States that tables which are read back of the append files are those that a recovery gives of these files, and that a
-/// stop leaves those of a front of the batches in them. This is a law: it computes nothing.
+/// stop leaves those of a prefix of the batches in them. This is a law: it computes nothing.
 pub fn what_is_read_back_is_recovered()
     ensures { ReadBackIsRoundTrip }
 {
     torn_tails_are_found();
-    files_that_stand_hold_a_front();
+    files_that_stand_hold_a_prefix();
     files_hold_few_records();
     histories_of_the_append_queue_are_apart();
     readings_agree();

@@ -6,20 +6,20 @@ ghost use Rattle.raft_base.specs.declared.pipe_log.LogQueue.{LogQueue};
 ghost use Rattle.raft_base.specs.declared.pipe_log.Version.{Version};
 ghost use Rattle.raft_files.specs.Asks.{Ask, NumberedBytes};
 ghost use Rattle.raft_engine_laws.specs.Records.{Records};
-ghost use Rattle.raft_engine_fronts.specs.Contents.{AreBothTold};
+ghost use Rattle.raft_engine_prefixes.specs.Contents.{AreBothTold};
 ghost use Rattle.raft_engine.specs.KeptEngine.{KeptEngine};
 ghost use Rattle.raft_engine.specs.Lasting.{IsLasting, IsLastingAfter};
 ghost use Rattle.raft_engine.specs.Restarts.{AreFromBefore, FoundContentsStay, FoundEntriesStay, IsFoundByRestarts, IsKeptByRestarts, IsKeptUnordered, ModesAcceptMore, OpenedFoundUndamaged, SyncedBatchesLast};
 
 use crate::engine::Engine;
 use crate::stored_found::found_files_are_stored;
-use raft_engine_fronts::contents::told_contents_last;
-use raft_engine_fronts::torn_tails::torn_tails_are_found;
+use raft_engine_prefixes::contents::told_contents_last;
+use raft_engine_prefixes::torn_tails::torn_tails_are_found;
 use raft_files::EngineFiles;
 use raft_recover::files_hold_few_records;
 
 /// States that restarts find what lasts, whatever files the machine leaves if it stops: every engine that is opened over them
-/// and every recovery of both queues has the records of a front of the batches that were written, with the synced ones at
+/// and every recovery of both queues has the records of a prefix of the batches that were written, with the synced ones at
 /// least, and of what there was before them; where the files that were found aren't damaged, these aren't either; they are
 /// neither unreadable nor of the other version, each group stands in a row, and a mode that refuses no tail of them opens them;
 /// `recover_both` refuses them for want of memory alone; and where nothing is lost, what is found has the records of all batches.
@@ -55,7 +55,7 @@ pub fn records_before_are_those_found()
 }
 
 /// States that the contents of the entries that an engine finds stay: those that are told by what was asked of an engine which was
-/// opened over what a stop left of another one are those of the other one, for each entry whose bytes stand in what was left.
+/// opened over what a crash left of another one are those of the other one, for each entry whose bytes stand in what was left.
 pub fn found_contents_stay()
     ensures { FoundContentsStay }
 {
@@ -71,7 +71,7 @@ pub fn found_entries_stay()
     found_contents_stay();
 }
 
-/// States that a batch that was written with a sync is synced once that returns: of the batches that a stop leaves at least it
+/// States that a batch that was written with a sync is synced once that returns: of the batches that a crash leaves at least it
 /// is then the last one, behind all that were written before it. This is a law: it computes nothing.
 pub fn synced_batches_last()
     ensures { SyncedBatchesLast }
@@ -80,9 +80,9 @@ pub fn synced_batches_last()
 }
 
 impl<F: EngineFiles> Engine<F> {
-    /// States what is found again, whenever the machine stops or stopped, in the midst of a call too. An engine that is opened
+    /// States what is found again, whenever the machine crashes or crashed, in the midst of a call too. An engine that is opened
     /// over the files that are left, and a recovery of both queues of them, has the records of all batches that were synced
-    /// by then, and of a front of those since, and no others. It has those of an intact engine if all was synced, or if
+    /// by then, and of a prefix of those since, and no others. It has those of an intact engine if all was synced, or if
     /// nothing is lost. The files can be read, where those of a queue have fewer than 2^63 bytes, and aren't damaged, where those
     /// that the engine was opened over weren't, as `open` makes sure: `recover_both` refuses them for want of memory alone, `open`
     /// and `open_over` for this, for want of room, or once the files fail. Where the engine was opened over damaged files, so it is of
@@ -99,7 +99,7 @@ impl<F: EngineFiles> Engine<F> {
     }
 
     /// States what is found again on a disk that writes pages and the lengths of files in any order, so that any bytes may stand
-    /// behind the synced ones when the machine stops or stopped: an engine that is opened over the files that are left, of which
+    /// behind the synced ones when the machine crashes or crashed: an engine that is opened over the files that are left, of which
     /// nothing can be read that wasn't written, has the records of all batches that were synced by then, and of a prefix of
     /// those since, and no others. On such a disk `open` may refuse what is left, as damaged. This is a law: it computes nothing.
     pub fn what_is_left_unordered_is_opened(&self)

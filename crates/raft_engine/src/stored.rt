@@ -3,11 +3,7 @@
 ghost use Rattle.raft_base.specs.declared.pipe_log.LogQueue.TheVariants.{Append, Rewrite};
 ghost use Rattle.raft_engine.specs.StoredAsks.{DeletionsAreStored, FirstFilesAreStored, NewFilesAreStored, SyncsAreStored, ToldBatchesAreStored, WhatIsDoneLasts, WrittenBatchesAreStored};
 
-use raft_engine_fronts::any_tails::unforged_files_hold_what_may_be_left;
-use raft_engine_fronts::contents::told_contents_last;
-use raft_engine_fronts::done::{asks_do_deeds, files_that_are_left_hold_what_may_be_left};
-use raft_engine_fronts::fronts::{asks_put_batches, files_that_stand_hold_a_front};
-use raft_engine_laws::stops::{
+use raft_engine_laws::crashes::{
     deleting_is_safe, empty_queues_are_safe, nothing_is_lost, syncing_is_safe, telling_is_safe,
     writing_is_safe,
 };
@@ -15,16 +11,20 @@ use raft_engine_laws::telling::{
     items_that_take_nothing_away_need_no_telling, told_items_take_away_the_same,
     what_says_the_same_is_as_untold,
 };
+use raft_engine_prefixes::any_tails::unforged_files_hold_what_may_be_left;
+use raft_engine_prefixes::contents::told_contents_last;
+use raft_engine_prefixes::done::{asks_do_deeds, files_that_are_left_hold_what_may_be_left};
+use raft_engine_prefixes::prefixes::{asks_put_batches, files_that_stand_hold_a_prefix};
 use raft_history::histories::placed_items_are_in_their_file;
 
-/// States that where no stop loses anything of what was done to both queues, the batches that were put last: whatever is
-/// left of the files has the records of a front of them, with the synced ones at least.
+/// States that where no crash loses anything of what was done to both queues, the batches that were put last: whatever is
+/// left of the files has the records of a prefix of them, with the synced ones at least.
 pub fn what_is_done_lasts()
     ensures { WhatIsDoneLasts }
 {
     files_that_are_left_hold_what_may_be_left();
     unforged_files_hold_what_may_be_left();
-    files_that_stand_hold_a_front();
+    files_that_stand_hold_a_prefix();
 }
 
 /// States what each ask makes of what is stored: the first files are stored as no tables; a sync and a new file change

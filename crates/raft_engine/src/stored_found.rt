@@ -4,15 +4,15 @@ ghost use Rattle.raft_engine.specs.FoundRecords.{FoundRecordsLast};
 ghost use Rattle.raft_engine.specs.StoredFound.{FoundFilesAreReady, FoundFilesAreStored};
 
 use crate::stored::what_is_done_lasts;
-use raft_engine_fronts::contents::told_contents_last;
-use raft_engine_fronts::done::{asks_do_deeds, files_that_are_left_hold_what_may_be_left};
-use raft_engine_fronts::fronts::asks_put_batches;
-use raft_engine_laws::stops::{nothing_is_lost, opening_is_safe};
+use raft_engine_laws::crashes::{nothing_is_lost, opening_is_safe};
 use raft_engine_laws::telling::told_items_take_away_the_same;
+use raft_engine_prefixes::contents::told_contents_last;
+use raft_engine_prefixes::done::{asks_do_deeds, files_that_are_left_hold_what_may_be_left};
+use raft_engine_prefixes::prefixes::asks_put_batches;
 
 /// States that found files which are made ready hold the same batches still, and that the tables which a recovery gives of
 /// them are stored by these, once the rewrite queue is told what it is to be told, whoever wrote the files. The records that
-/// there were before are those found ones that no batch of the append files makes. Whenever the machine stops meanwhile, the
+/// there were before are those found ones that no batch of the append files makes. Whenever the machine crashes meanwhile, the
 /// files that are left have the records that were found.
 pub fn found_files_are_stored()
     ensures ready { FoundFilesAreReady }

@@ -62,7 +62,7 @@ module _ (content : EntryIndex → List ℕ) where
   copies-append (g ∷ gs) hs [] fs h k = absurd h
   copies-append (g ∷ gs) hs (e ∷ es) fs h k = (h.0, copies-append gs hs es fs h.1 k)
 
-  -- copies in front of others are copies of a front
+  -- copies in front of others are copies of a prefix
   pub copies_split : (gs hs es : List EntryIndex) → AreCopies content (gs ++ hs) es → (a : List EntryIndex) × (b : List EntryIndex) × (es ≡ a ++ b) × AreCopies content gs a × AreCopies content hs b
   copies_split [] hs es h = ([], es, refl, tt, h)
   copies_split (g ∷ gs) hs [] h = absurd h
@@ -163,16 +163,16 @@ module _ (content : EntryIndex → List ℕ) (seq id : ℕ) (t w : Table) (sound
         go [] e =
             let none : h.done ≡ [] = none_copied content h.done (subst (λ l. AreCopies content l h.done) e h.copied) in
             let all : rew ≡ m ∷ ms ++ (todo' ++ h.rest) = rew_is ∙ ap (λ l. l ++ (m ∷ ms ++ (todo' ++ h.rest))) none in
-            ap (λ l. entries_after_replay Rewrite l (g ∷ gs)) all ∙ read_over m (ms ++ (todo' ++ h.rest)) g gs (front_run all) copies.0.0
+            ap (λ l. entries_after_replay Rewrite l (g ∷ gs)) all ∙ read_over m (ms ++ (todo' ++ h.rest)) g gs (prefix_run all) copies.0.0
           where
-            front_run : rew ≡ m ∷ ms ++ (todo' ++ h.rest) → IsRun (m ∷ ms ++ (todo' ++ h.rest))
-            front_run all = run_is (start_of t.entries) (m ∷ ms ++ (todo' ++ h.rest))
-                (rises_front (start_of t.entries) (m ∷ ms ++ (todo' ++ h.rest)) apps
+            prefix_run : rew ≡ m ∷ ms ++ (todo' ++ h.rest) → IsRun (m ∷ ms ++ (todo' ++ h.rest))
+            prefix_run all = run_is (start_of t.entries) (m ∷ ms ++ (todo' ++ h.rest))
+                (rises_prefix (start_of t.entries) (m ∷ ms ++ (todo' ++ h.rest)) apps
                 (subst (RisesFrom (start_of t.entries)) (sound.in_front ∙ ap (λ l. l ++ apps) all) (rises t.entries sound.consecutive.run)))
               where
-                rises_front : (s : ℕ) (a b : List EntryIndex) → RisesFrom s (a ++ b) → RisesFrom s a
-                rises_front s [] b h = tt
-                rises_front s (e ∷ a) b h = (h.0, rises_front (suc s) a b h.1)
+                rises_prefix : (s : ℕ) (a b : List EntryIndex) → RisesFrom s (a ++ b) → RisesFrom s a
+                rises_prefix s [] b h = tt
+                rises_prefix s (e ∷ a) b h = (h.0, rises_prefix (suc s) a b h.1)
         go (c ∷ cs) e = subst (λ l. entries_after_replay Rewrite l (g ∷ gs) ≡ Some (l ++ g ∷ gs)) e (copies_read_behind content None h.copies m ms back g gs run copies in_place move)
 
     shown_more : (c : List EntryIndex) → c ++ g ∷ gs ≡ shown (c ++ g ∷ gs)

@@ -17,7 +17,7 @@ use Rattle.raft_table.specs.TableEntries.{start_of}
 use Rattle.raft_table.proofs.LastWordLemmas.{last_pair_stands}
 use Rattle.raft_engine_laws.specs.Records.{Records, entries_told, after_change, after_changes, HasRecords}
 use Rattle.raft_engine_laws.specs.Speaking.{unspoken, is_key_spoken}
-use Rattle.raft_engine_laws.proofs.KeyLemmas.{pair_later, pair_front}
+use Rattle.raft_engine_laws.proofs.KeyLemmas.{pair_later, pair_prefix}
 use Rattle.raft_engine_laws.proofs.OpenedEntries.{LeavesOf, leaves}
 use Rattle.raft_engine_laws.proofs.OverLemmas.{entries_after, unspoken-other}
 use Rattle.raft_engine_laws.proofs.OverlaidPairs.{overlaid_pair_is}
@@ -27,8 +27,8 @@ use Rattle.raft_engine_laws.proofs.WriteWords.{put_by}
 
 -- ---- what steps leave as it is, some of them leave so
 
-left_by_front : (a b : List Step) (es : List EntryIndex) → unspoken (a ++ b) es ≡ es → unspoken a es ≡ es
-left_by_front a b es h =
+left_by_prefix : (a b : List Step) (es : List EntryIndex) → unspoken (a ++ b) es ≡ es → unspoken a es ≡ es
+left_by_prefix a b es h =
     ap (unspoken a) (sym h ∙ sym (unspoken-steps a b es)) ∙ unspoken-swap b a (unspoken a es) ∙ ap (unspoken b) (unspoken-twice a es) ∙ unspoken-steps a b es ∙ h
 
 left_by_rest : (a b : List Step) (es : List EntryIndex) → unspoken (a ++ b) es ≡ es → unspoken b es ≡ es
@@ -87,7 +87,7 @@ module _ (content : EntryIndex → List ℕ) where
       one : (u : Option Table) → after_step Append (table_of id o) s ≡ Some u → (after_change content rs s).entries ≡ entries_told content (left ++ (table_of id u).entries)
       one u e =
           step_entries s rs (left ++ (table_of id o).entries) h
-          ∙ ap (λ l. entries_told content (l ++ put_by s)) (unspoken-append (s ∷ []) left (table_of id o).entries ∙ ap (λ l. l ++ unspoken (s ∷ []) (table_of id o).entries) (left_by_front (s ∷ []) ss left still))
+          ∙ ap (λ l. entries_told content (l ++ put_by s)) (unspoken-append (s ∷ []) left (table_of id o).entries ∙ ap (λ l. l ++ unspoken (s ∷ []) (table_of id o).entries) (left_by_prefix (s ∷ []) ss left still))
           ∙ ap (entries_told content) (append_assoc left (unspoken (s ∷ []) (table_of id o).entries) (put_by s) ∙ ap (λ l. left ++ l) (sym (entries_after id (table_of id o) u s e)))
 
       go : ((u : Option Table) → after_step Append (table_of id o) s ≡ Some u → after Append id u ss ≡ Some v → (after_changes content (after_change content rs s) ss).entries ≡ entries_told content (left ++ (table_of id v).entries))
@@ -123,7 +123,7 @@ module _ (content : EntryIndex → List ℕ) where
       go : (a : Bool) → is_key_spoken ss key ≡ a → (b : Bool) → speaks_of_key key s ≡ b
           → cond a (option_map value_of (last_pair key ss)) (cond b (option_map value_of (said_of_key s)) (finite.get rs.values key)) ≡ cond (b || a) (option_map value_of (last_pair key (s ∷ ss))) (finite.get rs.values key)
       go true k b l = ap (option_map value_of) (sym (pair_later key (s ∷ []) ss k)) ∙ ap (λ c. cond c (option_map value_of (last_pair key (s ∷ ss))) (finite.get rs.values key)) (sym (either b))
-      go false k true l = ap (option_map value_of) (sym (pair_front key (s ∷ []) ss k ∙ ap (λ c. option_and_then said_of_key (cond c (Some s) None)) l))
+      go false k true l = ap (option_map value_of) (sym (pair_prefix key (s ∷ []) ss k ∙ ap (λ c. option_and_then said_of_key (cond c (Some s) None)) l))
       go false k false l = refl
 
   -- ---- a region that a recovery found
@@ -140,7 +140,7 @@ module _ (content : EntryIndex → List ℕ) where
     base = record { entries = entries_told content l.left; values = values_of old.keys }
 
     left_unspoken : unspoken kept l.left ≡ l.left
-    left_unspoken = left_by_front kept (Compact (start_of (overlay kept (table_of id own) old).entries) ∷ []) l.left
+    left_unspoken = left_by_prefix kept (Compact (start_of (overlay kept (table_of id own) old).entries) ∷ []) l.left
         (ap (unspoken (kept ++ Compact (start_of (overlay kept (table_of id own) old).entries) ∷ [])) (sym l.told) ∙ unspoken-twice (kept ++ Compact (start_of (overlay kept (table_of id own) old).entries) ∷ []) old.entries ∙ l.told)
 
     -- what was found has the records that the kept steps make of them

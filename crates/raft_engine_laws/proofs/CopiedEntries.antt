@@ -27,19 +27,19 @@ drop_front : (a b : List EntryIndex) → drop (length a) (a ++ b) ≡ b
 drop_front [] b = refl
 drop_front (e ∷ a) b = drop_front a b
 
-below_front : (s i : ℕ) (a b : List EntryIndex) → RisesFrom s (a ++ b) → i ≡ s + length a → below i (a ++ b) ≡ a
-below_front s i a b h e = below_take i (length a) s (a ++ b) e h ∙ take_front a b
+below_prefix : (s i : ℕ) (a b : List EntryIndex) → RisesFrom s (a ++ b) → i ≡ s + length a → below i (a ++ b) ≡ a
+below_prefix s i a b h e = below_take i (length a) s (a ++ b) e h ∙ take_front a b
 
-from_front : (s i : ℕ) (a b : List EntryIndex) → RisesFrom s (a ++ b) → i ≡ s + length a → from i (a ++ b) ≡ b
-from_front s i a b h e = from_drop i (length a) s (a ++ b) e h ∙ drop_front a b
+from_prefix : (s i : ℕ) (a b : List EntryIndex) → RisesFrom s (a ++ b) → i ≡ s + length a → from i (a ++ b) ≡ b
+from_prefix s i a b h e = from_drop i (length a) s (a ++ b) e h ∙ drop_front a b
 
 rises_back : (s : ℕ) (a b : List EntryIndex) → RisesFrom s (a ++ b) → RisesFrom (s + length a) b
 rises_back s [] b h = subst (λ n. RisesFrom n b) (let e : s ≡ s + 0 = omega arith in e) h
 rises_back s (e ∷ a) b h = subst (λ n. RisesFrom n b) (let e : suc s + length a ≡ s + suc (length a) = omega arith in e) (rises_back (suc s) a b h.1)
 
-rises_front : (s : ℕ) (a b : List EntryIndex) → RisesFrom s (a ++ b) → RisesFrom s a
-rises_front s [] b h = tt
-rises_front s (e ∷ a) b h = (h.0, rises_front (suc s) a b h.1)
+rises_prefix : (s : ℕ) (a b : List EntryIndex) → RisesFrom s (a ++ b) → RisesFrom s a
+rises_prefix s [] b h = tt
+rises_prefix s (e ∷ a) b h = (h.0, rises_prefix (suc s) a b h.1)
 
 all_pass : {X : Type 0} (p : X → Bool) (xs : List X) → AllByRecursion (λ x. p x ≡ true) xs → prefix_len p xs ≡ length xs
 all_pass p [] h = refl
@@ -76,7 +76,7 @@ module _ (content : EntryIndex → List ℕ) where
     starts = copies.0.0
 
     run_rises : RisesFrom g.index (g ∷ gs)
-    run_rises = copies_rise g.index (g ∷ gs) (m ∷ ms) copies (subst (λ n. RisesFrom n (m ∷ ms)) (sym (starts ∙ at)) (rises_front (s + length front) (m ∷ ms) back (rises_back s front (m ∷ ms ++ back) rising)))
+    run_rises = copies_rise g.index (g ∷ gs) (m ∷ ms) copies (subst (λ n. RisesFrom n (m ∷ ms)) (sym (starts ∙ at)) (rises_prefix (s + length front) (m ∷ ms) back (rises_back s front (m ∷ ms ++ back) rising)))
 
     ends : end_of (g ∷ gs) ≡ s + length (front ++ m ∷ ms)
     ends =
@@ -91,8 +91,8 @@ module _ (content : EntryIndex → List ℕ) where
 
     meets : overlap (g ∷ gs) es ≡ m ∷ ms
     meets =
-        ap (from g.index) (ap (below (end_of (g ∷ gs))) whole ∙ below_front s (end_of (g ∷ gs)) (front ++ m ∷ ms) back (subst (RisesFrom s) whole rising) ends)
-        ∙ from_front s g.index front (m ∷ ms) (rises_front s (front ++ m ∷ ms) back (subst (RisesFrom s) whole rising)) (starts ∙ at)
+        ap (from g.index) (ap (below (end_of (g ∷ gs))) whole ∙ below_prefix s (end_of (g ∷ gs)) (front ++ m ∷ ms) back (subst (RisesFrom s) whole rising) ends)
+        ∙ from_prefix s g.index front (m ∷ ms) (rises_prefix s (front ++ m ∷ ms) back (subst (RisesFrom s) whole rising)) (starts ∙ at)
 
     count : moved_count gate (g ∷ gs) es ≡ length (m ∷ ms)
     count = ap (prefix_len (may_move gate)) meets ∙ all_pass (may_move gate) (m ∷ ms) move
@@ -106,10 +106,10 @@ module _ (content : EntryIndex → List ℕ) where
     places : with_places (g ∷ gs) m.index (moved_count gate (g ∷ gs) es) es ≡ front ++ (g ∷ gs ++ back)
     places =
         ap (λ n. with_places (g ∷ gs) m.index n es) count
-        ∙ ap (λ l. l ++ take (length (m ∷ ms)) (from m.index (g ∷ gs)) ++ from (m.index + length (m ∷ ms)) es) (below_front s m.index front (m ∷ ms ++ back) rising at)
+        ∙ ap (λ l. l ++ take (length (m ∷ ms)) (from m.index (g ∷ gs)) ++ from (m.index + length (m ∷ ms)) es) (below_prefix s m.index front (m ∷ ms ++ back) rising at)
         ∙ ap (λ l. front ++ l ++ from (m.index + length (m ∷ ms)) es) (takes (length (m ∷ ms)) refl)
         ∙ ap (λ l. front ++ (g ∷ gs) ++ l)
-        (ap (from (m.index + length (m ∷ ms))) whole ∙ from_front s (m.index + length (m ∷ ms)) (front ++ m ∷ ms) back
+        (ap (from (m.index + length (m ∷ ms))) whole ∙ from_prefix s (m.index + length (m ∷ ms)) (front ++ m ∷ ms) back
         (subst (RisesFrom s) whole rising) (let a = at in let c = length-append front (m ∷ ms) in omega (arith, a, c)))
         ∙ append_assoc front (g ∷ gs) back
 
@@ -117,25 +117,25 @@ module _ (content : EntryIndex → List ℕ) where
     pub copies_take_places : entries_after_rewrite gate (g ∷ gs) es ≡ Some (front ++ (g ∷ gs ++ back))
     copies_take_places =
         ap (rewritten_from gate (g ∷ gs) es) meets
-        ∙ ap (λ (l : List EntryIndex). cond (is_misplaced gate (length l) (entry_count Rewrite es)) None (Some (with_places (g ∷ gs) m.index (moved_count gate (g ∷ gs) es) es))) (below_front s m.index front (m ∷ ms ++ back) rising at)
+        ∙ ap (λ (l : List EntryIndex). cond (is_misplaced gate (length l) (entry_count Rewrite es)) None (Some (with_places (g ∷ gs) m.index (moved_count gate (g ∷ gs) es) es))) (below_prefix s m.index front (m ∷ ms ++ back) rising at)
         ∙ ap (λ b. cond b None (Some (with_places (g ∷ gs) m.index (moved_count gate (g ∷ gs) es) es))) placed
         ∙ ap (λ l. Some l) places
 
-    -- and are read behind the front
+    -- and are read behind the prefix
     pub copies_read_behind : entries_after_replay Rewrite front (g ∷ gs) ≡ Some (front ++ g ∷ gs)
     copies_read_behind = ap (λ b. Some (cond b (g ∷ gs) (below g.index front ++ g ∷ gs))) (no_hole front refl) ∙ ap (λ l. Some (l ++ g ∷ gs)) front_below
       where
-        front_rises : RisesFrom s front
-        front_rises = rises_front s front (m ∷ ms ++ back) rising
+        prefix_rises : RisesFrom s front
+        prefix_rises = rises_prefix s front (m ∷ ms ++ back) rising
 
         front_below : below g.index front ≡ front
-        front_below = ap (below g.index) (sym (append-nil front)) ∙ below_front s g.index front [] (subst (RisesFrom s) (sym (append-nil front)) front_rises) (starts ∙ at)
+        front_below = ap (below g.index) (sym (append-nil front)) ∙ below_prefix s g.index front [] (subst (RisesFrom s) (sym (append-nil front)) prefix_rises) (starts ∙ at)
 
         no_hole : (f : List EntryIndex) → front ≡ f → leaves_hole front g.index ≡ false
         no_hole [] e = ap (λ l. leaves_hole l g.index) e
         no_hole (x ∷ f) e =
             hole_end front g.index
-            ∙ ap (misses (Some g.index)) (end_of-run s front front_rises (let k = ap length e in omega (arith, k)))
+            ∙ ap (misses (Some g.index)) (end_of-run s front prefix_rises (let k = ap length e in omega (arith, k)))
             ∙ ap (λ n. misses (Some n) (s + length front)) (starts ∙ at)
             ∙ same (s + length front)
 
@@ -144,7 +144,7 @@ module _ (content : EntryIndex → List ℕ) where
     copies_read_over none = ap (λ b. Some (cond b (g ∷ gs) (below g.index (m ∷ ms) ++ g ∷ gs))) no_hole ∙ ap (λ l. Some (l ++ g ∷ gs)) none_below
       where
         middle_rises : RisesFrom m.index (m ∷ ms)
-        middle_rises = subst (λ n. RisesFrom n (m ∷ ms)) (sym at) (rises_front (s + length front) (m ∷ ms) back (rises_back s front (m ∷ ms ++ back) rising))
+        middle_rises = subst (λ n. RisesFrom n (m ∷ ms)) (sym at) (rises_prefix (s + length front) (m ∷ ms) back (rises_back s front (m ∷ ms ++ back) rising))
 
         none_below : below g.index (m ∷ ms) ≡ []
         none_below = below_start g.index m.index (m ∷ ms) middle_rises (let k = starts in omega (arith, k))

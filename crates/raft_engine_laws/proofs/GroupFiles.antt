@@ -3,9 +3,9 @@ use Rattle.std.proofs.Common.{◌≡◌, ℕ, Bool, true, false, cond, List, [],
 use Rattle.std.specs.Prelude.{filter, nat_le}
 use Rattle.raft_history.specs.Batches.{Event}
 use Rattle.raft_engine_laws.specs.Groups.{EndNoOlderGroup}
-use Rattle.raft_engine_laws.specs.Stops.{in_files_from, AreInFileOf, FilesEndNoOlderGroup}
+use Rattle.raft_engine_laws.specs.Crashes.{in_files_from, AreInFileOf, FilesEndNoOlderGroup}
 use Rattle.raft_engine_laws.proofs.GroupFronts.{ends_none-none, ends_none-append}
-use Rattle.raft_engine_laws.proofs.StopLemmas.{keeps, from-append, from_none}
+use Rattle.raft_engine_laws.proofs.CrashLemmas.{keeps, from-append, from_none}
 
 -- the batches of one file stay or go together
 pub of_file : (n seq : ℕ) (b : Bool) (k : List Event) → nat_le n seq ≡ b → AreInFileOf seq k → in_files_from n k ≡ cond b k []

@@ -43,8 +43,8 @@ none_across h k none = none_with (groups_in (batches h)) (finite.entries (groups
 
 -- ---- more batches
 
-joined_front : (older newer : WaitingGroup) → IsNotEnded older.front → IsNotEnded newer.front → IsNotEnded (joined_group older newer).front
-joined_front older newer h k = go older.front newer.front h k
+joined_prefix : (older newer : WaitingGroup) → IsNotEnded older.front → IsNotEnded newer.front → IsNotEnded (joined_group older newer).front
+joined_prefix older newer h k = go older.front newer.front h k
   where
     led : (is : List RegionStep) (f : GroupFront) → IsNotEnded f → IsNotEnded (led_by is f)
     led is (Open js) k = tt
@@ -61,18 +61,18 @@ joined_front older newer h k = go older.front newer.front h k
 pub ends_none-append : (h k : List Event) → EndNoOlderGroup h → EndNoOlderGroup k → EndNoOlderGroup (h ++ k)
 ends_none-append h k a b g = subst (λ (x : WaitingGroup). IsNotEnded x.front)
     (sym (ap (group_in g) (batches-append h k) ∙ group_in-append g (batches h) (batches k)))
-    (joined_front (group_in g (batches h)) (group_in g (batches k)) (a g) (b g))
+    (joined_prefix (group_in g (batches h)) (group_in g (batches k)) (a g) (b g))
 
--- the front of a group in one batch
-abbrev front_in_one : ℕ → BatchSteps → Bool → GroupFront
-front_in_one g b true = front_behind b.marker b.steps b.seq (Open [])
-front_in_one g b false = Open []
+-- the prefix of a group in one batch
+abbrev prefix_in_one : ℕ → BatchSteps → Bool → GroupFront
+prefix_in_one g b true = front_behind b.marker b.steps b.seq (Open [])
+prefix_in_one g b false = Open []
 
-front_is : (g : ℕ) (b : BatchSteps) → (group_in g (b ∷ [])).front ≡ front_in_one g b (is_of g b.marker)
+front_is : (g : ℕ) (b : BatchSteps) → (group_in g (b ∷ [])).front ≡ prefix_in_one g b (is_of g b.marker)
 unfolding front_of markers_of
 front_is g b = go (is_of g b.marker)
   where
-    go : (t : Bool) → front_of (cond t (record { number = 0; batch = b } ∷ []) []) ≡ front_in_one g b t
+    go : (t : Bool) → front_of (cond t (record { number = 0; batch = b } ∷ []) []) ≡ prefix_in_one g b t
     go true = refl
     go false = refl
 
@@ -81,7 +81,7 @@ unfolding front_of markers_of
 ends_none-none g = tt
 
 pub ends_none-alone : (e : Event) → HasNoMarker e → EndNoOlderGroup (e ∷ [])
-ends_none-alone e plain g = subst IsNotEnded (sym (front_is g (batch_of e) ∙ ap (λ m. front_in_one g (batch_of e) (is_of g m)) plain)) tt
+ends_none-alone e plain g = subst IsNotEnded (sym (front_is g (batch_of e) ∙ ap (λ m. prefix_in_one g (batch_of e) (is_of g m)) plain)) tt
 
 pub ends_none-open : (e : Event) → LeavesOpen e → EndNoOlderGroup (e ∷ [])
 ends_none-open e held g = subst IsNotEnded (sym (front_is g (batch_of e))) (go (is_of g (batch_of e).marker) refl (batch_of e).marker refl held)
@@ -91,7 +91,7 @@ ends_none-open e held g = subst IsNotEnded (sym (front_is g (batch_of e))) (go (
     by Middle n = tt
     by End n = absurd (n refl)
 
-    go : (t : Bool) → is_of g (batch_of e).marker ≡ t → (m : Option GroupMarker) → (batch_of e).marker ≡ m → IsBeforeEnd m → IsNotEnded (front_in_one g (batch_of e) t)
+    go : (t : Bool) → is_of g (batch_of e).marker ≡ t → (m : Option GroupMarker) → (batch_of e).marker ≡ m → IsBeforeEnd m → IsNotEnded (prefix_in_one g (batch_of e) t)
     go false t m k n = tt
     go true t None k n = absurd n
     go true t (Some m) k n = subst (λ (o : Option GroupMarker). IsNotEnded (front_behind o (batch_of e).steps (batch_of e).seq (Open []))) (sym k) (by m.status n)
@@ -118,9 +118,9 @@ ends_none-group g begin ms end group l = go (eqb l g) refl
     front = ends_none-append (begin ∷ []) ms (ends_none-open begin (subst IsBeforeEnd (sym group.begins) (λ k. absurd cc))) (middles_open g ms group.goes_on)
 
     other : eqb l g ≡ false → IsNotEnded (group_in l (batches (end ∷ []))).front
-    other k = subst IsNotEnded (sym (front_is l (batch_of end) ∙ ap (λ m. front_in_one l (batch_of end) (is_of l m)) group.ends ∙ ap (front_in_one l (batch_of end)) k)) tt
+    other k = subst IsNotEnded (sym (front_is l (batch_of end) ∙ ap (λ m. prefix_in_one l (batch_of end) (is_of l m)) group.ends ∙ ap (prefix_in_one l (batch_of end)) k)) tt
 
     go : (b : Bool) → eqb l g ≡ b → IsNotEnded (group_in l (batches (begin ∷ (ms ++ end ∷ [])))).front
     go true k = subst (λ n. IsNotEnded (group_in n (batches (begin ∷ (ms ++ end ∷ [])))).front) (sym (eqb-true l g k)) (subst IsNotEnded (sym (begun_first g begin (ms ++ end ∷ []) group.begins)) tt)
     go false k = subst (λ (x : WaitingGroup). IsNotEnded x.front) (sym (ap (group_in l) (batches-append (begin ∷ ms) (end ∷ [])) ∙ group_in-append l (batches (begin ∷ ms)) (batches (end ∷ []))))
-        (joined_front (group_in l (batches (begin ∷ ms))) (group_in l (batches (end ∷ []))) (front l) (other k))
+        (joined_prefix (group_in l (batches (begin ∷ ms))) (group_in l (batches (end ∷ []))) (front l) (other k))

@@ -12,17 +12,17 @@ use Rattle.raft_history.specs.Histories.{Apart}
 use Rattle.raft_accessor.proofs.MapLemmas.{some_is}
 use Rattle.raft_engine_laws.specs.Groups.{HasNoMarker, LeavesOpen, IsBeforeEnd, IsMarked, IsWholeGroup}
 use Rattle.raft_engine_laws.specs.GroupsInRows.{open_as, open_behind, open_by, left_open, MayStandAs, MayStandBy, StandBehind, AreGroupsInRows}
-use Rattle.raft_engine_laws.specs.Stops.{Deed, written, in_files_from, AreInFileOf, FilesEndNoOlderGroup, IsLeft}
+use Rattle.raft_engine_laws.specs.Crashes.{Deed, written, in_files_from, AreInFileOf, FilesEndNoOlderGroup, IsLeft}
 use Rattle.raft_engine_laws.proofs.GroupFiles.{no_files_end, more_files_end}
 use Rattle.raft_engine_laws.proofs.GroupFronts.{ends_none-alone, ends_none-group, ends_none-open}
 use Rattle.raft_engine_laws.proofs.GroupRows.{alone_apart, open_apart, group_apart}
-use Rattle.raft_engine_laws.proofs.StopLemmas.{keeps, stands_in_front}
+use Rattle.raft_engine_laws.proofs.CrashLemmas.{keeps, stands_in_front}
 
 -- ---- more, and fewer
 
-pub rows_front : (left : Option (ℕ × ℕ)) (h k : List Event) → StandBehind left (h ++ k) → StandBehind left h
-rows_front left [] k a = tt
-rows_front left (e ∷ h) k a = (a.0, rows_front (left_open e) h k a.1)
+pub rows_prefix : (left : Option (ℕ × ℕ)) (h k : List Event) → StandBehind left (h ++ k) → StandBehind left h
+rows_prefix left [] k a = tt
+rows_prefix left (e ∷ h) k a = (a.0, rows_prefix (left_open e) h k a.1)
 
 pub rows_back : (left : Option (ℕ × ℕ)) (h k : List Event) → StandBehind left (h ++ k) → StandBehind (open_behind left h) k
 rows_back left [] k a = a
@@ -107,7 +107,7 @@ in_rows_from n h a = rows_from n None None h (λ group seq kept is. is) a
 pub rows_left : (deeds : List Deed) (standing h : List Event) → AreGroupsInRows (written deeds) → IsLeft deeds standing h → AreGroupsInRows h
 rows_left deeds standing h a l =
     let f = stands_in_front deeds standing l.stands in
-    subst AreGroupsInRows (sym l.left) (in_rows_from l.gone standing (rows_front None standing f.0 (subst AreGroupsInRows f.1 a)))
+    subst AreGroupsInRows (sym l.left) (in_rows_from l.gone standing (rows_prefix None standing f.0 (subst AreGroupsInRows f.1 a)))
 
 -- ---- what is known of batches in rows
 

@@ -47,8 +47,8 @@ last-front p (s ∷ ss) tt h = ap (λ o. option_or o (cond (p s) (Some s) None))
 pub pair_later : (key : List ℕ) (ss tt : List Step) → is_key_spoken tt key ≡ true → last_pair key (ss ++ tt) ≡ last_pair key tt
 pair_later key ss tt h = ap (option_and_then said_of_key) (last-later (speaks_of_key key) ss tt h)
 
-pub pair_front : (key : List ℕ) (ss tt : List Step) → is_key_spoken tt key ≡ false → last_pair key (ss ++ tt) ≡ last_pair key ss
-pair_front key ss tt h = ap (option_and_then said_of_key) (last-front (speaks_of_key key) ss tt h)
+pub pair_prefix : (key : List ℕ) (ss tt : List Step) → is_key_spoken tt key ≡ false → last_pair key (ss ++ tt) ≡ last_pair key ss
+pair_prefix key ss tt h = ap (option_and_then said_of_key) (last-front (speaks_of_key key) ss tt h)
 
 -- the last step is one of the steps, so it is such as they all are
 last_such : (P : Step → Type 0) (p : Step → Bool) (ss : List Step) → AllByRecursion P ss → (s : Step) → last_that p ss ≡ Some s → P s

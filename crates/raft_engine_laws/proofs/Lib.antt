@@ -52,14 +52,14 @@ pub mod SafeDeletions
 pub mod SafeGroups
 pub mod SafeOpenings
 pub mod SafeRewrites
-pub mod SafeStops
+pub mod SafeCrashes
 pub mod SafeWrites
 pub mod SameRecords
 pub mod ShorterRegion
 pub mod SoundEntries
 pub mod SpokenWords
-pub mod StandingFronts
-pub mod StopLemmas
+pub mod StandingPrefixes
+pub mod CrashLemmas
 pub mod TakenAgain
 pub mod TakingItems
 pub mod TestLemmas
@@ -75,7 +75,7 @@ pub mod TakenTables
 pub mod ToldTables
 pub mod BackLemmas
 pub mod RowJoins
-pub mod OwnFronts
+pub mod OwnPrefixes
 pub mod OwnTold
 pub mod StepEntries
 pub mod ToldNow

@@ -69,9 +69,9 @@ some_in_order content low high (k ∷ ks) (e ∷ es) m h = go (is_placed_in Appe
       | inr moved ↦ absurd (false≢true (sym (placed_apart Append Rewrite refl k p) ∙ moved))
     ]
 
-no_front : (a b : List EntryIndex) → a ++ b ≡ [] → a ≡ []
-no_front [] b e = refl
-no_front (x ∷ a) b e = absurd cc
+no_prefix : (a b : List EntryIndex) → a ++ b ≡ [] → a ≡ []
+no_prefix [] b e = refl
+no_prefix (x ∷ a) b e = absurd cc
 
 module _ (content : EntryIndex → List ℕ) (append rewrite : List Event) (untold : List RegionStep) (tables : Tables) (h : AreKept content append rewrite untold tables) (r : ℕ) where
   abbrev kept : List Step
@@ -89,7 +89,7 @@ module _ (content : EntryIndex → List ℕ) (append rewrite : List Event) (unto
   front_none : placed_in Append parts.0 ≡ []
   front_none =
       sym (left_each kept (placed_in Append parts.0) (placed_such (λ i. is_index_spoken kept i ≡ false) parts.0 (moved_each content (λ i. is_index_spoken kept i ≡ false) parts.0 _ parts.3 (each_left kept k.seen))))
-      ∙ no_front (unspoken kept (placed_in Append parts.0)) _ (sym (unspoken-append kept (placed_in Append parts.0) (placed_in Append parts.1))
+      ∙ no_prefix (unspoken kept (placed_in Append parts.0)) _ (sym (unspoken-append kept (placed_in Append parts.0) (placed_in Append parts.1))
       ∙ ap (unspoken kept) (sym (ap (placed_in Append) parts.2 ∙ placed_in-append Append parts.0 parts.1)) ∙ k.spoken)
 
   own_order : (high : ℕ) × InOrder Append 0 high (table_of r k.own).entries

@@ -110,14 +110,14 @@ module _ (content : EntryIndex → List ℕ) (id : ℕ) (kept : List Step) (own 
     again_nothing again same = record {
       entries = unspoken-none (table_of id put).entries
           ∙ sym (ap (λ i. unspoken (kept ++ Compact i ∷ []) (table_of id put).entries) same
-          ∙ ap (unspoken (kept ++ Compact (start_of found.entries) ∷ [])) by_front
+          ∙ ap (unspoken (kept ++ Compact (start_of found.entries) ∷ [])) by_prefix
           ∙ unspoken-twice (kept ++ Compact (start_of found.entries) ∷ []) old.entries
-          ∙ sym by_front);
+          ∙ sym by_prefix);
       pairs = λ key. put_pair key ∙ sym (ap (pair_left kept key) (put_pair key) ∙ twice (is_key_dropped kept key) (finite.get old.keys key));
     }
       where
-        by_front : (table_of id put).entries ≡ unspoken (kept ++ Compact (start_of found.entries) ∷ []) old.entries
-        by_front = put_entries ∙ sym l.told
+        by_prefix : (table_of id put).entries ≡ unspoken (kept ++ Compact (start_of found.entries) ∷ []) old.entries
+        by_prefix = put_entries ∙ sym l.told
 
         twice : (b : Bool) (o : Option Stored) → cond b None (cond b None o) ≡ cond b None o
         twice true o = refl

@@ -55,8 +55,8 @@ module _ (content : EntryIndex → List ℕ) (kept untold : List Step) (own seen
   parts : (a : List EntryIndex) × (b : List EntryIndex) × (es ≡ a ++ b) × AreMoved content a (unspoken kept seen) × AreMoved content b own
   parts = moved_parts content es (unspoken kept seen) own (subst (AreMoved content es) over.split moved)
 
-  front_left : unspoken kept parts.0 ≡ parts.0
-  front_left = left_each kept parts.0 (moved_each content (λ i. is_index_spoken kept i ≡ false) parts.0 (unspoken kept seen) parts.3 (each_left kept seen))
+  prefix_left : unspoken kept parts.0 ≡ parts.0
+  prefix_left = left_each kept parts.0 (moved_each content (λ i. is_index_spoken kept i ≡ false) parts.0 (unspoken kept seen) parts.3 (each_left kept seen))
 
   back_gone : unspoken kept parts.1 ≡ []
   back_gone = gone_each kept parts.1 (moved_each content (λ i. is_index_spoken kept i ≡ true) parts.1 own parts.4 (each_gone kept own over.spoken))
@@ -65,7 +65,7 @@ module _ (content : EntryIndex → List ℕ) (kept untold : List Step) (own seen
   front_is : parts.0 ≡ unspoken kept rewritten
   front_is =
       sym (append-nil parts.0)
-      ∙ ap (λ l. l ++ []) (sym front_left)
+      ∙ ap (λ l. l ++ []) (sym prefix_left)
       ∙ ap (λ l. unspoken kept parts.0 ++ l) (sym back_gone)
       ∙ sym (unspoken-append kept parts.0 parts.1)
       ∙ ap (unspoken kept) (sym parts.2)

@@ -22,11 +22,11 @@ use Rattle.raft_accessor.specs.Writes.{Appending, after_items}
 use Rattle.raft_engine_laws.specs.KeptTables.{AreKept}
 use Rattle.raft_engine_laws.specs.Records.{Records}
 use Rattle.raft_engine_laws.specs.Speaking.{is_index_spoken, unspoken, drops_key, is_key_dropped}
-use Rattle.raft_engine_laws.specs.Stops.{Deed, Write, written, deleted, MayBeGone, in_files_from, IsNextIn, IsSafe}
+use Rattle.raft_engine_laws.specs.Crashes.{Deed, Write, written, deleted, MayBeGone, in_files_from, IsNextIn, IsSafe}
 use Rattle.raft_engine_laws.specs.Telling.{SayEnough, takes_away, takes_from, taking_steps}
 use Rattle.raft_engine_laws.proofs.EachLemmas.{Each}
 use Rattle.raft_engine_laws.proofs.SafeWrites.{written_safe, untold_fewer}
-use Rattle.raft_engine_laws.proofs.StopLemmas.{all_gone}
+use Rattle.raft_engine_laws.proofs.CrashLemmas.{all_gone}
 use Rattle.raft_engine_laws.proofs.TestLemmas.{or_first, or_later, any-append}
 use Rattle.raft_engine_laws.proofs.UnspokenLemmas.{spoken-append, unspoken-steps}
 

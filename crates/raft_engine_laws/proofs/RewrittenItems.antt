@@ -43,8 +43,8 @@ module _ (content : EntryIndex → List ℕ) (gate seq id : ℕ) (tables new : T
   abbrev front : List EntryIndex
   front = placed_in Rewrite t.entries
 
-  front_placed : placed_in Rewrite front ≡ front
-  front_placed = placed_twice Rewrite t.entries
+  prefix_placed : placed_in Rewrite front ≡ front
+  prefix_placed = placed_twice Rewrite t.entries
 
   none_behind : (middle back : List EntryIndex) → placed_in Append t.entries ≡ middle ++ back → placed_in Rewrite back ≡ []
   none_behind middle back e = no_tail (placed_in Rewrite middle) (placed_in Rewrite back) (sym (placed_in-append Rewrite middle back) ∙ ap (placed_in Rewrite) (sym e) ∙ placed_in_other Append Rewrite refl t.entries)
@@ -75,7 +75,7 @@ module _ (content : EntryIndex → List ℕ) (gate seq id : ℕ) (tables new : T
       middle = [];
       back = placed_in Append t.entries;
       split = sound.in_front;
-      in_front = front_placed;
+      in_front = prefix_placed;
       behind = placed_in_other Append Rewrite refl t.entries;
       copies = [];
       copied = tt;
@@ -149,7 +149,7 @@ module _ (content : EntryIndex → List ℕ) (gate seq id : ℕ) (tables new : T
       middle = m ∷ ms;
       back = back;
       split = whole;
-      in_front = front_placed;
+      in_front = prefix_placed;
       behind = none_behind (m ∷ ms) back split;
       copies = x ∷ gs;
       copied = copies;

@@ -10,12 +10,12 @@ use Rattle.raft_engine_laws.specs.DeletedFiles.{AreLeastFrom}
 use Rattle.raft_engine_laws.specs.Groups.{EndNoOlderGroup}
 use Rattle.raft_engine_laws.specs.KeptTables.{AreKept}
 use Rattle.raft_engine_laws.specs.Records.{Records, live, HaveRecords}
-use Rattle.raft_engine_laws.specs.Stops.{Deed, Delete, written, deleted, IsSynced, MayBeGone, in_files_from, IsSafe}
+use Rattle.raft_engine_laws.specs.Crashes.{Deed, Delete, written, deleted, IsSynced, MayBeGone, in_files_from, IsSafe}
 use Rattle.raft_engine_laws.proofs.AppendDeletions.{shorter}
 use Rattle.raft_engine_laws.proofs.GroupFronts.{none_across}
 use Rattle.raft_engine_laws.proofs.NeededFiles.{append_needs, rewrite_needs}
 use Rattle.raft_engine_laws.proofs.RewriteDeletions.{purged}
-use Rattle.raft_engine_laws.proofs.StopLemmas.{IsSplitAt, split_at, IsDeletedOrNot, deleted_or_not, synced_left, all_gone}
+use Rattle.raft_engine_laws.proofs.CrashLemmas.{IsSplitAt, split_at, IsDeletedOrNot, deleted_or_not, synced_left, all_gone}
 
 lower_least : (queue : LogQueue) (m n : ℕ) (tables : Tables) → m ≤ n → AreLeastFrom queue n tables → AreLeastFrom queue m tables
 lower_least queue m n tables l low r seq e = let k : n ≤ seq = low r seq e in omega (arith, l, k)

@@ -29,14 +29,14 @@ use Rattle.raft_engine_laws.specs.KeptTables.{AreKept}
 use Rattle.raft_engine_laws.specs.Moving.{IsPairMoved, AreRecordsMoved, MoveAgain}
 use Rattle.raft_engine_laws.specs.Records.{Records}
 use Rattle.raft_engine_laws.specs.Speaking.{unspoken}
-use Rattle.raft_engine_laws.specs.Stops.{Deed, Write, written, deleted, IsSynced, MayBeGone, in_files_from, AreInFileOf, IsNextIn, IsSafe}
+use Rattle.raft_engine_laws.specs.Crashes.{Deed, Write, written, deleted, IsSynced, MayBeGone, in_files_from, AreInFileOf, IsNextIn, IsSafe}
 use Rattle.raft_engine_laws.proofs.AgainItems.{region_again}
 use Rattle.raft_engine_laws.proofs.ApartLemmas.{effects_held}
 use Rattle.raft_engine_laws.proofs.GroupFiles.{of_file}
 use Rattle.raft_engine_laws.proofs.GroupRows.{alone_apart, group_apart, group_steps}
 use Rattle.raft_engine_laws.proofs.RewriteReadings.{plain_more}
 use Rattle.raft_engine_laws.proofs.SafeRewrites.{moved_safe}
-use Rattle.raft_engine_laws.proofs.StopLemmas.{from-append, test_le, all_gone}
+use Rattle.raft_engine_laws.proofs.CrashLemmas.{from-append, test_le, all_gone}
 use Rattle.raft_engine_laws.proofs.ToldItems.{steps-append}
 use Rattle.raft_engine_laws.proofs.UnspokenLemmas.{unspoken-none}
 

@@ -15,14 +15,14 @@ use Rattle.raft_engine_laws.specs.KeptTables.{AreKept}
 use Rattle.raft_engine_laws.specs.Moving.{AreRecordsMoved, IsMovingBatch}
 use Rattle.raft_engine_laws.specs.NextBatches.{IsRewrittenNext}
 use Rattle.raft_engine_laws.specs.Records.{Records, live, HaveRecords}
-use Rattle.raft_engine_laws.specs.Stops.{Deed, Write, written, deleted, IsSynced, MayStand, MayBeGone, in_files_from, IsLeft, IsNextIn, IsKeptWith, IsSafe}
+use Rattle.raft_engine_laws.specs.Crashes.{Deed, Write, written, deleted, IsSynced, MayStand, MayBeGone, in_files_from, IsLeft, IsNextIn, IsKeptWith, IsSafe}
 use Rattle.raft_engine_laws.specs.Telling.{AreRemovals, SayTheSame}
 use Rattle.raft_engine_laws.proofs.GroupRows.{alone_apart, open_apart}
 use Rattle.raft_engine_laws.proofs.KeptRewrites.{telling_kept, held_kept, moved_kept}
 use Rattle.raft_engine_laws.proofs.MovingBatches.{moves, moving_kept}
 use Rattle.raft_engine_laws.proofs.RecordLemmas.{moved_have}
 use Rattle.raft_engine_laws.proofs.RewriteReadings.{reading_there}
-use Rattle.raft_engine_laws.proofs.StopLemmas.{from_more, last_low, whole_stands, gone_unwritten, synced_left, all_gone}
+use Rattle.raft_engine_laws.proofs.CrashLemmas.{from_more, last_low, whole_stands, gone_unwritten, synced_left, all_gone}
 
 module _ (content : EntryIndex → List ℕ) (base : ℕ → Records) (appended rewritten : List Deed) (untold : List RegionStep) (tables : Tables)
     (e : Event) (h : IsSafe content base appended rewritten untold tables) (next : IsNextIn Rewrite rewritten e) where

@@ -12,7 +12,7 @@ use Rattle.raft_accessor.specs.Writes.{Appending, after_items}
 use Rattle.raft_engine_laws.specs.KeptTables.{AreKept}
 use Rattle.raft_engine_laws.specs.NextBatches.{IsWrittenNext}
 use Rattle.raft_engine_laws.specs.Records.{Records, no_base, live, HaveRecords}
-use Rattle.raft_engine_laws.specs.Stops.{Deed, Write, Sync, written, deleted, MayStand, MayBeGone, in_files_from, IsLeft, IsNextIn, IsKeptWith, IsSafe}
+use Rattle.raft_engine_laws.specs.Crashes.{Deed, Write, Sync, written, deleted, MayStand, MayBeGone, in_files_from, IsLeft, IsNextIn, IsKeptWith, IsSafe}
 use Rattle.raft_engine_laws.specs.Telling.{SayEnough, SayTheSame}
 use Rattle.raft_engine_laws.proofs.AlikeTables.{alike_taken}
 use Rattle.raft_engine_laws.proofs.KeptWrites.{written_kept}
@@ -20,7 +20,7 @@ use Rattle.raft_engine_laws.proofs.NoFiles.{none_kept}
 use Rattle.raft_engine_laws.proofs.QuietLemmas.{fewer_kept, same_kept}
 use Rattle.raft_engine_laws.proofs.RecordLemmas.{empty_have, taken_have}
 use Rattle.raft_engine_laws.proofs.RewriteReadings.{reading_there}
-use Rattle.raft_engine_laws.proofs.StopLemmas.{from_more, from_none, last_low, whole_stands, gone_unwritten, gone_unsynced, left_unsynced}
+use Rattle.raft_engine_laws.proofs.CrashLemmas.{from_more, from_none, last_low, whole_stands, gone_unwritten, gone_unsynced, left_unsynced}
 
 -- nothing is done
 pub none_safe : (content : EntryIndex → List ℕ) → IsSafe content no_base [] [] [] finite.empty

@@ -22,7 +22,7 @@ use Rattle.raft_engine_laws.specs.MovedRecords.{AreMoved}
 use Rattle.raft_engine_laws.specs.Speaking.{is_key_spoken, is_index_spoken, unspoken, IsOver}
 use Rattle.raft_engine_laws.proofs.EachLemmas.{each_left, left_each, each_gone, gone_each}
 use Rattle.raft_engine_laws.proofs.FileWords.{IsSeqBelow, AreBelow, IsStepBelow}
-use Rattle.raft_engine_laws.proofs.KeyLemmas.{pair_later, pair_front}
+use Rattle.raft_engine_laws.proofs.KeyLemmas.{pair_later, pair_prefix}
 use Rattle.raft_engine_laws.proofs.LowEntries.{pair_below, below_after, left_after, placed_such, none_placed}
 use Rattle.raft_engine_laws.proofs.MovedLemmas.{moved_parts, moved_each}
 use Rattle.raft_engine_laws.proofs.OverLemmas.{steps_over, over_later}
@@ -31,9 +31,9 @@ use Rattle.raft_engine_laws.proofs.UnspokenLemmas.{unspoken-append, unspoken-non
 
 module _ (content : EntryIndex → List ℕ) (id n : ℕ) (dropped later : List Step) (rewritten t : Table) (h : IsRegionKept content id (dropped ++ later) [] rewritten t)
     (below : AllByRecursion (IsStepBelow n) dropped) (needs : NeedsNoneBelow Append n t) where
-  steps_front : (ss : List Step) → AreSteps (ss ++ later) → AreSteps ss
-  steps_front [] k = tt
-  steps_front (s ∷ ss) k = (k.0, steps_front ss k.1)
+  steps_prefix : (ss : List Step) → AreSteps (ss ++ later) → AreSteps ss
+  steps_prefix [] k = tt
+  steps_prefix (s ∷ ss) k = (k.0, steps_prefix ss k.1)
 
   steps_back : (ss : List Step) → AreSteps (ss ++ later) → AreSteps later
   steps_back [] k = k
@@ -51,7 +51,7 @@ module _ (content : EntryIndex → List ℕ) (id n : ℕ) (dropped later : List 
   alone : (w : Option Table) × (after Append id None later ≡ Some w) × IsOver ([] ++ later) (table_of id w).entries (table_of id h.own).entries
   alone = steps_over id [] None split.0 h.own later (steps_back dropped h.steps)
       (record { split = sym (append-nil _ ∙ unspoken-none (table_of id split.0).entries); spoken = unspoken-nil [] })
-      (table_after Append id None split.0 dropped (steps_front dropped h.steps) (no_table id) split.1) split.2
+      (table_after Append id None split.0 dropped (steps_prefix dropped h.steps) (no_table id) split.1) split.2
 
   -- what later steps leave of the own table is in files below the number
   left_below : AreBelow n (unspoken later (table_of id h.own).entries)
@@ -77,11 +77,11 @@ module _ (content : EntryIndex → List ℕ) (id n : ℕ) (dropped later : List 
       sym (left_each (dropped ++ later) (placed_in Append front.0)
       (placed_such (λ i. is_index_spoken (dropped ++ later) i ≡ false) front.0
       (moved_each content (λ i. is_index_spoken (dropped ++ later) i ≡ false) front.0 _ front.3 (each_left (dropped ++ later) h.seen))))
-      ∙ no_front (unspoken (dropped ++ later) (placed_in Append front.0)) _ (sym (unspoken-append (dropped ++ later) (placed_in Append front.0) _) ∙ ap (unspoken (dropped ++ later)) (sym appended) ∙ h.spoken)
+      ∙ no_prefix (unspoken (dropped ++ later) (placed_in Append front.0)) _ (sym (unspoken-append (dropped ++ later) (placed_in Append front.0) _) ∙ ap (unspoken (dropped ++ later)) (sym appended) ∙ h.spoken)
     where
-      no_front : (a b : List EntryIndex) → a ++ b ≡ [] → a ≡ []
-      no_front [] b e = refl
-      no_front (x ∷ a) b e = absurd cc
+      no_prefix : (a b : List EntryIndex) → a ++ b ≡ [] → a ≡ []
+      no_prefix [] b e = refl
+      no_prefix (x ∷ a) b e = absurd cc
 
   -- nor one of the second, since its file would be below the number
   second_none : placed_in Append back.0 ≡ []
@@ -115,7 +115,7 @@ module _ (content : EntryIndex → List ℕ) (id n : ℕ) (dropped later : List 
       low None k none m = absurd m
       low (Some x) k none m =
           let high : n ≤ s.file.seq = needs.pairs key s e q in
-          let lows : x.file.seq < n = pair_below n key dropped x below (sym (pair_front key dropped later none) ∙ k) in
+          let lows : x.file.seq < n = pair_below n key dropped x below (sym (pair_prefix key dropped later none) ∙ k) in
           elim m.1 [
             | inl same ↦ (let eq : s.file.seq ≡ x.file.seq = ap (λ f. f.seq) same in omega (arith, high, lows, eq))
             | inr moved ↦ apart (sym q ∙ moved)

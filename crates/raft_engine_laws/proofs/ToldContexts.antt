@@ -149,15 +149,15 @@ module _ (m : Mark) (old : Table) where
     mark_tells : AreTellable (told_by_mark m old)
     mark_tells = tell-append (filter (takes_of old) (bounds_told m)) (map Del (keys_deleted m old)) (fewer_tell (takes_of old) (bounds_told m) bounds_tell) (dels_tell (finite.keys old.keys))
 
-    front_tells : (first : Option ℕ) → AreTellable (front_told first old)
-    front_tells None = tt
-    front_tells (Some first) = fewer_tell (takes_of old) (Compact first ∷ []) (tt, tt)
+    prefix_tells : (first : Option ℕ) → AreTellable (front_told first old)
+    prefix_tells None = tt
+    prefix_tells (Some first) = fewer_tell (takes_of old) (Compact first ∷ []) (tt, tt)
 
     at_once_tells : (first : Option ℕ) → AreTellable (steps_at_once m first old)
     at_once_tells first = go (is_front_dropped m first old)
       where
         go : (b : Bool) → AreTellable (cond b (told_by_mark m old ++ front_told first old) [])
-        go true = tell-append (told_by_mark m old) (front_told first old) mark_tells (front_tells first)
+        go true = tell-append (told_by_mark m old) (front_told first old) mark_tells (prefix_tells first)
         go false = tt
 
     later_tells : (first : Option ℕ) → AreTellable (steps_later m first old)
@@ -218,8 +218,8 @@ module _ (m : Mark) (r : ℕ) where
 -- ---- contexts
 
 -- appended entries have no rewritten one in front
-front_alone : (es : List EntryIndex) → placed_in Append es ≡ es → RewrittenInFront es
-front_alone es h =
+prefix_alone : (es : List EntryIndex) → placed_in Append es ≡ es → RewrittenInFront es
+prefix_alone es h =
     sym h ∙ ap (λ (l : List EntryIndex). l ++ placed_in Append es) (sym (ap (placed_in Rewrite) (sym h) ∙ placed_in_other Append Rewrite refl es))
 
 module _ (appended rewritten : RecoverContext) (append rewrite : List Event) (read : AreBothRead appended rewritten append rewrite)
@@ -284,8 +284,8 @@ module _ (appended rewritten : RecoverContext) (append rewrite : List Event) (re
   own_bounded : AllByRecursion IsBounded (table_of r appended_table).entries
   own_bounded = read_bounded Append r append appended_table sound (both.append_read.tables_read r)
 
-  own_front : RewrittenInFront (table_of r appended_table).entries
-  own_front = front_alone (table_of r appended_table).entries (read_places Append r append appended_table sound (both.append_read.tables_read r))
+  own_prefix : RewrittenInFront (table_of r appended_table).entries
+  own_prefix = prefix_alone (table_of r appended_table).entries (read_places Append r append appended_table sound (both.append_read.tables_read r))
 
   within_bounded : (floor : ℕ) (cut : Option ℕ) → AllByRecursion IsBounded (entries_within floor cut old.entries)
   unfolding entries_within
@@ -304,15 +304,15 @@ module _ (appended rewritten : RecoverContext) (append rewrite : List Event) (re
   over_entries = go (has_clean kept) (is_unjoined (least_cut kept) (end_of old.entries) (table_of r appended_table).entries)
     where
       go : (a b : Bool) → IsRun (over_by a b) → AreTableEntries (over_by a b)
-      go true b run = record { consecutive = record { run = run; bounded = own_bounded }; in_front = own_front }
-      go false true run = record { consecutive = record { run = run; bounded = own_bounded }; in_front = own_front }
+      go true b run = record { consecutive = record { run = run; bounded = own_bounded }; in_front = own_prefix }
+      go false true run = record { consecutive = record { run = run; bounded = own_bounded }; in_front = own_prefix }
       go false false run = record {
         consecutive = record {
           run = run;
           bounded = each-append IsBounded (entries_within (greatest_compaction kept) (least_cut kept) old.entries) (table_of r appended_table).entries
               (within_bounded (greatest_compaction kept) (least_cut kept)) own_bounded;
         };
-        in_front = in_front_of (entries_within (greatest_compaction kept) (least_cut kept) old.entries) (table_of r appended_table).entries (within_placed (greatest_compaction kept) (least_cut kept)) own_front;
+        in_front = in_front_of (entries_within (greatest_compaction kept) (least_cut kept) old.entries) (table_of r appended_table).entries (within_placed (greatest_compaction kept) (least_cut kept)) own_prefix;
       }
 
   pub found_entries : AreTableEntries (table_of r (finite.get found r)).entries

@@ -125,7 +125,7 @@ module _ (id : ℕ) (kept : List Step) (own : Option Table) (old found : Table) 
         go true c = joins_cleaned c own_entries
         go false c = by_join c (is_unjoined (least_cut kept) (end_of old.entries) own_entries) refl
 
-  -- where the front is dropped, what is found are the appended entries
+  -- where the prefix is dropped, what is found are the appended entries
   module _ (dropped : is_front_dropped m (first_of own_entries) old ≡ true) where
     not_cleaned : m.cleaned ≡ false
     not_cleaned = go (first_of own_entries) m.cleaned refl dropped

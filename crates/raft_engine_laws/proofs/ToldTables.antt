@@ -144,8 +144,8 @@ module _ (m : Mark) (old : Table) where
       abbrev front : List Step
       front = Compact (start_of found.entries) ∷ []
 
-      front_drops : (key : List ℕ) → is_key_dropped (filter (takes_of old) front) key ≡ false
-      front_drops key = go (takes_of old (Compact (start_of found.entries)))
+      prefix_drops : (key : List ℕ) → is_key_dropped (filter (takes_of old) front) key ≡ false
+      prefix_drops key = go (takes_of old (Compact (start_of found.entries)))
         where
           go : (b : Bool) → is_key_dropped (cond b front []) key ≡ false
           go true = refl
@@ -163,7 +163,7 @@ module _ (m : Mark) (old : Table) where
         pairs = λ key.
             ap (λ b. cond b None (finite.get old.keys key))
             (any-append (drops_key key) (told_by_mark m old) (filter (takes_of old) front)
-            ∙ ap (λ b. is_key_dropped (told_by_mark m old) key || b) (front_drops key) ∙ or_none (is_key_dropped (told_by_mark m old) key))
+            ∙ ap (λ b. is_key_dropped (told_by_mark m old) key || b) (prefix_drops key) ∙ or_none (is_key_dropped (told_by_mark m old) key))
             ∙ told_pairs key;
       }
 

@@ -20,7 +20,7 @@ pub mod DeletedFiles
 pub mod Contents
 -- records, and what an engine does
 pub mod Records
-pub mod Stops
+pub mod Crashes
 -- what region marks tell
 pub mod MarksTold
 pub mod RowSummaries

@@ -29,7 +29,7 @@ IsPairMoved file keys moved rewritten put key =
     ((finite.get moved key ≡ finite.get keys key) × (finite.get put key ≡ finite.get rewritten key))
     ⊎ ((s : Stored) × (finite.get keys key ≡ Some s) × (finite.get moved key ≡ Some (record s { file = file })) × (finite.get put key ≡ Some (record s { file = file })))
 
--- records of a table move to a file: of its entries some in the middle, with rewritten ones alone in front and none behind, become copies, which the rewrite files give behind the front; and pairs move
+-- records of a table move to a file: of its entries some in the middle, with rewritten ones alone in front and none behind, become copies, which the rewrite files give behind the prefix; and pairs move
 pub record AreRecordsMoved (content : EntryIndex → List ℕ) (file : FileId) (t moved rewritten put : Table) : Type 0 where
   pub of_queue : file.queue ≡ Rewrite
   pub front : List EntryIndex

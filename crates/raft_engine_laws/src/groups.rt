@@ -12,7 +12,7 @@ ghost use Rattle.raft_engine_laws.specs.Groups.{HasNoMarker, LeavesOpen, IsMarke
 ghost use Rattle.raft_engine_laws.specs.GroupsInRows.{AreGroupsInRows};
 ghost use Rattle.raft_engine_laws.specs.KeptTables.{AreKept};
 ghost use Rattle.raft_engine_laws.specs.NextBatches.{IsRewrittenNext};
-ghost use Rattle.raft_engine_laws.specs.Stops.{Deed, written, AreInFileOf, FilesEndNoOlderGroup, IsLeft};
+ghost use Rattle.raft_engine_laws.specs.Crashes.{Deed, written, AreInFileOf, FilesEndNoOlderGroup, IsLeft};
 
 /// States that a batch which begins a group or goes on with one changes nothing.
 pub fn open_groups_change_nothing()
@@ -52,7 +52,7 @@ pub fn groups_in_one_file_end_no_older_group()
 {}
 
 /// States of batches of which each group stands in a row, in one file: their effects are apart, and wherever deleted
-/// files end, those that stay end no group of those. What a stop leaves of them is so again; and so are they with a
+/// files end, those that stay end no group of those. What a crash leaves of them is so again; and so are they with a
 /// batch more that has no group marker, that begins a group, or that goes on with the group of the last row, or ends it.
 pub fn groups_stay_in_rows()
     ensures none { AreGroupsInRows [] }

@@ -2,6 +2,7 @@
 #![tactic(auto)]
 
 pub mod contents;
+pub mod crashes;
 pub mod deletions;
 pub mod groups;
 pub mod kept;
@@ -9,6 +10,5 @@ pub mod moving;
 pub mod openings;
 pub mod records;
 pub mod restarts;
-pub mod stops;
 pub mod telling;
 pub mod writes;

@@ -241,12 +241,12 @@ fn finds_batches<R: Threads + Sync>(rt: &R, alloc: Global, bytes: &mut Vec<u8>) 
 }
 
 /// Tests whether an engine finds what the batches leave at each number of bytes.
-fn finds_fronts<R: Threads + Sync>(rt: &R, alloc: Global) -> Result<bool> {
+fn finds_prefixes<R: Threads + Sync>(rt: &R, alloc: Global) -> Result<bool> {
     let mut bytes = Vec::new(alloc);
     finds_batches(rt, alloc, &mut bytes)
 }
 
 #[test]
 fn fronts_of_groups_are_found(rt: HostRuntime) {
-    assert!(rt; holds!(finds_fronts(&rt, rt.alloc())));
+    assert!(rt; holds!(finds_prefixes(&rt, rt.alloc())));
 }

@@ -1,4 +1,4 @@
-//! An engine that is opened over what a stop left: what it cuts, tells, moves and deletes, with ample memory.
+//! An engine that is opened over what a crash left: what it cuts, tells, moves and deletes, with ample memory.
 
 use crate::batches::Part::{Clean, Compact, Delete, Entries, Put, Truncate};
 use crate::batches::{Part, REGION};
@@ -197,15 +197,15 @@ static WRITES: [&[Part]; 4] = [
 
 /// An engine that wrote these batches to its first append file, and how many bytes this had after each.
 #[derive(Drop)]
-struct Fronts {
+struct Prefixes {
     engine: Engine<MemoryFiles>,
     ends: Vec<usize>,
 }
 
-fn made(alloc: Global) -> Result<Fronts> {
+fn made(alloc: Global) -> Result<Prefixes> {
     let mut engine = new_engine(alloc)?;
     let ends = write_all(alloc, &mut engine)?;
-    Ok(Fronts { engine, ends })
+    Ok(Prefixes { engine, ends })
 }
 
 /// Writes these batches, and returns how many bytes the file has after each.
@@ -226,7 +226,7 @@ fn last_len(files: &LogFiles) -> usize {
 }
 
 /// Returns how many batches are whole in so many bytes.
-fn whole_in(fronts: &Fronts, len: usize) -> usize {
+fn whole_in(fronts: &Prefixes, len: usize) -> usize {
     let mut count = 0usize;
     for end in &fronts.ends {
         if *end <= len {
@@ -251,7 +251,7 @@ fn left_by(count: usize) -> &'static str {
 fn opened_at<R: Threads + Sync>(
     rt: &R,
     alloc: Global,
-    fronts: &Fronts,
+    fronts: &Prefixes,
     len: usize,
 ) -> Result<Engine<MemoryFiles>> {
     let append = front_of(&fronts.engine, len)?;
@@ -281,10 +281,10 @@ fn replace(alloc: Global, engine: &mut Engine<MemoryFiles>) -> Result<usize> {
 }
 
 /// Tests whether an engine finds the batches that are whole where the append file has so many bytes, and goes on.
-fn finds_front<R: Threads + Sync>(
+fn finds_prefix<R: Threads + Sync>(
     rt: &R,
     alloc: Global,
-    fronts: &Fronts,
+    fronts: &Prefixes,
     len: usize,
 ) -> Result<bool> {
     let mut engine = opened_at(rt, alloc, fronts, len)?;
@@ -304,39 +304,39 @@ fn goes_on<R: Threads + Sync>(
 }
 
 /// Tests whether an engine finds the batches that are whole at each number of bytes.
-fn finds_all<R: Threads + Sync>(rt: &R, alloc: Global, fronts: &Fronts) -> Result<bool> {
+fn finds_all<R: Threads + Sync>(rt: &R, alloc: Global, fronts: &Prefixes) -> Result<bool> {
     for len in 0..last_len(fronts.engine.files().files(LogQueue::Append)).saturating_add(1) {
-        if !finds_front(rt, alloc, fronts, len)? {
+        if !finds_prefix(rt, alloc, fronts, len)? {
             return Ok(false);
         }
     }
     Ok(true)
 }
 
-fn finds_fronts<R: Threads + Sync>(rt: &R, alloc: Global) -> Result<bool> {
+fn finds_prefixes<R: Threads + Sync>(rt: &R, alloc: Global) -> Result<bool> {
     let fronts = made(alloc)?;
     finds_all(rt, alloc, &fronts)
 }
 
 #[test]
-fn fronts_are_found(rt: HostRuntime) {
-    assert!(rt; holds!(finds_fronts(&rt, rt.alloc())));
+fn prefixes_are_found(rt: HostRuntime) {
+    assert!(rt; holds!(finds_prefixes(&rt, rt.alloc())));
 }
 
 /// Tests whether a file is refused whose first batch is damaged.
-fn refuses_damage<R: Threads + Sync>(rt: &R, alloc: Global, fronts: &Fronts) -> Result<bool> {
+fn refuses_damage<R: Threads + Sync>(rt: &R, alloc: Global, fronts: &Prefixes) -> Result<bool> {
     let append = with_flipped(copies(&fronts.engine, LogQueue::Append)?, 24);
     finds_damage(open(rt, alloc, append, Vec::new(alloc)))
 }
 
 /// Tests whether files are refused whose numbers don't rise.
-fn refuses_numbers<R: Threads + Sync>(rt: &R, alloc: Global, fronts: &Fronts) -> Result<bool> {
+fn refuses_numbers<R: Threads + Sync>(rt: &R, alloc: Global, fronts: &Prefixes) -> Result<bool> {
     let mut append = copies(&fronts.engine, LogQueue::Append)?;
     append.push((1, Vec::new(alloc)))?;
     finds_damage(open(rt, alloc, append, Vec::new(alloc)))
 }
 
-fn refuses_both<R: Threads + Sync>(rt: &R, alloc: Global, fronts: &Fronts) -> Result<bool> {
+fn refuses_both<R: Threads + Sync>(rt: &R, alloc: Global, fronts: &Prefixes) -> Result<bool> {
     Ok(refuses_damage(rt, alloc, fronts)? && refuses_numbers(rt, alloc, fronts)?)
 }
 
@@ -346,6 +346,6 @@ fn refuses<R: Threads + Sync>(rt: &R, alloc: Global) -> Result<bool> {
 }
 
 #[test]
-fn what_no_stop_leaves_is_refused(rt: HostRuntime) {
+fn what_no_crash_leaves_is_refused(rt: HostRuntime) {
     assert!(rt; holds!(refuses(&rt, rt.alloc())));
 }

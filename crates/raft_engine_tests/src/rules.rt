@@ -119,12 +119,12 @@ fn refuses_again_in(engine: &mut Engine) -> Result<bool> {
 }
 
 /// Tests whether a torn tail is refused, and what is before it is found once it is cut off.
-fn finds_front(alloc: Global) -> Result<bool> {
+fn finds_prefix(alloc: Global) -> Result<bool> {
     let mut engine = written(alloc)?;
-    finds_front_in(&mut engine)
+    finds_prefix_in(&mut engine)
 }
 
-fn finds_front_in(engine: &mut Engine) -> Result<bool> {
+fn finds_prefix_in(engine: &mut Engine) -> Result<bool> {
     engine.take(&Append(1, &[Entries(3, 4)]))?;
     engine.tear();
     let torn = finds_damage(engine.recovered())?;
@@ -196,7 +196,7 @@ fn write_unsynced(engine: &mut Engine) -> Result<(usize, usize)> {
 }
 
 /// Tests whether nothing is cut where a failure of power takes a page of the first of two unsynced batches, and leaves the
-/// second: that is no front.
+/// second: that is no prefix.
 fn keeps_hole(alloc: Global) -> Result<bool> {
     let (mut engine, first, second) = unsynced(alloc)?;
     engine.lose_page(first.saturating_add(HEADER), second);
@@ -230,7 +230,7 @@ fn cuts_and_finds(engine: &mut Engine, text: &str) -> Result<bool> {
 }
 
 /// Tests whether each front of two unsynced batches is opened, and gives the batches that are whole in it.
-fn opens_fronts(alloc: Global) -> Result<bool> {
+fn opens_prefixes(alloc: Global) -> Result<bool> {
     let (first, second, len) = unsynced_places(alloc)?;
     for end in first..=len {
         let found = if end < second {
@@ -240,7 +240,7 @@ fn opens_fronts(alloc: Global) -> Result<bool> {
         } else {
             "[1,5)"
         };
-        if !opens_front(alloc, end, found)? {
+        if !opens_prefix(alloc, end, found)? {
             return Ok(false);
         }
     }
@@ -253,7 +253,7 @@ fn unsynced_places(alloc: Global) -> Result<(usize, usize, usize)> {
     Ok((first, second, engine.len()))
 }
 
-fn opens_front(alloc: Global, end: usize, found: &str) -> Result<bool> {
+fn opens_prefix(alloc: Global, end: usize, found: &str) -> Result<bool> {
     let (mut engine, _, _) = unsynced(alloc)?;
     engine.lose_from(end);
     cuts_and_finds(&mut engine, found)
@@ -271,7 +271,7 @@ fn finds_synced(alloc: Global) -> Result<bool> {
 fn damage_is_found(rt: HostRuntime) {
     let alloc = rt.alloc();
     assert!(rt; holds!(refuses_again(alloc)));
-    assert!(rt; holds!(finds_front(alloc)));
+    assert!(rt; holds!(finds_prefix(alloc)));
     assert!(rt; holds!(finds_byte(alloc)));
 }
 
@@ -283,10 +283,10 @@ fn torn_tails_are_told_from_damage(rt: HostRuntime) {
 }
 
 #[test]
-fn fronts_are_opened_and_holes_refused(rt: HostRuntime) {
+fn prefixes_are_opened_and_holes_refused(rt: HostRuntime) {
     let alloc = rt.alloc();
     assert!(rt; holds!(keeps_hole(alloc)));
     assert!(rt; holds!(cuts_lost_header(alloc)));
-    assert!(rt; holds!(opens_fronts(alloc)));
+    assert!(rt; holds!(opens_prefixes(alloc)));
     assert!(rt; holds!(finds_synced(alloc)));
 }

@@ -181,7 +181,7 @@ fn an_empty_rewrite_queue_is_told_nothing(rt: HostRuntime) {
 }
 
 /// Tests whether it is told at once, and only once, that appended entries leave rewritten ones behind a hole in front of them.
-fn front_is_told<R: Threads + Sync>(rt: &R, alloc: Global) -> Result<bool> {
+fn prefix_is_told<R: Threads + Sync>(rt: &R, alloc: Global) -> Result<bool> {
     let rewritten = moved_parts(alloc, &[Entries(1, 5)])?;
     let rewrite = copies(&rewritten, LogQueue::Rewrite)?;
     let mut appended = new_engine(alloc)?;
@@ -210,5 +210,5 @@ fn is_told_of_a_hole<R: Threads + Sync>(
 
 #[test]
 fn a_dropped_front_is_told_at_once(rt: HostRuntime) {
-    assert!(rt; holds!(front_is_told(&rt, rt.alloc())));
+    assert!(rt; holds!(prefix_is_told(&rt, rt.alloc())));
 }

@@ -7,7 +7,7 @@ use Rattle.raft_base.specs.declared.pipe_log.Version.{Version}
 use Rattle.raft_contexts.specs.RecoverContext.{RecoverContext}
 use Rattle.raft_files.specs.Asks.{Act, Ask, Begin, Cut, Delete, Put, Sync, ask}
 use Rattle.raft_records.specs.LogBatch.{Batch}
-use Rattle.raft_engine_fronts.specs.Contents.{AreBothTold}
+use Rattle.raft_engine_prefixes.specs.Contents.{AreBothTold}
 use Rattle.raft_engine.specs.CutTails.{IsRecoveredOf}
 use Rattle.raft_engine.specs.KeptEngine.{KeptEngine}
 use Rattle.raft_engine.specs.Lasting.{IsLasting}
@@ -86,6 +86,6 @@ IsStopped old new = new ≡ record old { intact = false }
 abbrev pub IsWrittenOrNone : Bool → Batch → KeptEngine → KeptEngine → Type 0
 IsWrittenOrNone sync batch old new = ((batch.items ≡ []) × IsOnlySynced sync old new) ⊎ IsOneMore sync batch old new
 
--- whichever contents are told by what was asked of an engine, what was synced lasts, whenever the machine stops or stopped
+-- whichever contents are told by what was asked of an engine, what was synced lasts, whenever the machine crashes or crashed
 abbrev pub Lasts : KeptEngine → Type 0
 Lasts engine = (content : EntryIndex → List ℕ) → AreBothTold engine.asks content → IsLasting content engine

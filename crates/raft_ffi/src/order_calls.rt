@@ -26,7 +26,7 @@ pub struct OrderHead {
 
 /// Takes the oldest order that waits, if there is one, and copies its bytes, where there is room for them; `is_taken` says whether.
 /// Where there isn't it says how many they are. Orders have numbers from 0 on: what was asked of the files, in turn. Where none
-/// waits `at` is a number behind those of all orders. Whatever front of the orders was carried out when the machine stops, what was
+/// waits `at` is a number behind those of all orders. Whatever front of the orders was carried out when the machine crashes, what was
 /// synced in it is found again.
 #[unsafe(no_mangle)]
 pub extern "C" fn raft_ffi_engine_take_order(

@@ -1,4 +1,4 @@
--- What is left of an engine's files when the machine stops: all that a reader has to believe of a disk. Two disks are said. One
+-- What is left of an engine's files when the machine crashes: all that a reader has to believe of a disk. Two disks are said. One
 -- writes in order: of what wasn't synced a prefix stands (`MayStand`, `IsLeftOf`). The other writes pages, and the lengths of
 -- files, in any order: behind the synced bytes any bytes may stand, and so they may behind a cut that wasn't synced
 -- (`MayStandUnordered`, `IsLeftUnordered`). On both what was synced stands. On the first a cut that wasn't synced may be undone,
@@ -53,14 +53,14 @@ files_of queue asked = drop (deletions (acts_on queue asked)) (begun (acts_on qu
 
 -- ---- a disk that writes in order
 
--- a front of these bytes stands behind those of the last file
+-- a prefix of these bytes stands behind those of the last file
 pub record IsFrontPut (bytes : List ℕ) (old new : List NumberedBytes) : Type 0 where
   pub front : List ℕ
   pub rest : List ℕ
   pub split : bytes ≡ front ++ rest
   pub put : new ≡ put_behind front old
 
--- what may stand of the files that were found and begun, none of them deleted: what was found or synced, and of what was asked since then a front; of bytes a front, and a new file or not
+-- what may stand of the files that were found and begun, none of them deleted: what was found or synced, and of what was asked since then a prefix; of bytes a prefix, and a new file or not
 abbrev pub MayStand : List Act → List NumberedBytes → Type 0
 MayStand [] files = files ≡ []
 MayStand (Put bytes ∷ earlier) files = MayStand earlier files ⊎ IsFrontPut bytes (begun earlier) files
@@ -71,7 +71,7 @@ MayStand (Cut len ∷ earlier) files = MayStand earlier files ⊎ (files ≡ cut
 MayStand (Found found ∷ earlier) files = files ≡ found
 MayStand (Read place bytes ∷ earlier) files = MayStand earlier files
 
--- the files of a queue that may be left when the machine stops after all this was asked: what may stand, without the oldest files; at least those are gone whose deletion was synced, at most those whose deletion was asked. What is left of one queue says nothing of the other
+-- the files of a queue that may be left when the machine crashes after all this was asked: what may stand, without the oldest files; at least those are gone whose deletion was synced, at most those whose deletion was asked. What is left of one queue says nothing of the other
 pub record IsLeftOf (queue : LogQueue) (asked : List Ask) (files : List NumberedBytes) : Type 0 where
   pub standing : List NumberedBytes
   pub stands : MayStand (acts_on queue asked) standing

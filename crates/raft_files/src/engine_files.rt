@@ -8,17 +8,17 @@ use raft_base::{FileBlockHandle, FileSeq, LogQueue, Result};
 
 /// The files of both queues, by what is asked of them.
 ///
-/// What a disk makes of it, and what it may leave when the machine stops, is said of the asks alone. An implementor
+/// What a disk makes of it, and what it may leave when the machine crashes, is said of the asks alone. An implementor
 /// over real files notes each ask ([`Asked`](crate::Asked)), also one that fails once it has begun (bytes written in part,
 /// a file that may be there or gone), and answers for the disk:
 ///
-/// - Of bytes that weren't synced a prefix stands when the machine stops: no hole, and no page of zeros in front of others. So
+/// - Of bytes that weren't synced a prefix stands when the machine crashes: no hole, and no page of zeros in front of others. So
 ///   files are neither made longer beforehand nor used again. Bytes that were synced aren't harmed by those behind them. Where
 ///   unsynced pages are written in any order, less is promised.
 /// - `sync` makes the names of new files and deletions last too, as a sync of the folder does. `rotate` first syncs the file that
 ///   it closes. A cut that wasn't synced may be undone, but not where bytes stand that were put after it: a sync of the file in
 ///   `truncate` is enough.
-/// - Files that are deleted go in the order in which that was asked, so that no stop leaves an older file where a younger one
+/// - Files that are deleted go in the order in which that was asked, so that no crash leaves an older file where a younger one
 ///   is gone.
 /// - After a call that failed half way either the bytes are as before, or every later call but `read` fails. After a sync that
 ///   failed no later one can be believed: a system may take bytes for synced that it has dropped. So the machine is started

@@ -1,4 +1,4 @@
-//! The files of an engine: what is asked of them, and what may be left of that when the machine stops.
+//! The files of an engine: what is asked of them, and what may be left of that when the machine crashes.
 #![tactic(auto)]
 
 pub mod asked;

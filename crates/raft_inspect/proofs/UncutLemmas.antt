@@ -12,9 +12,9 @@ use Rattle.raft_replay.specs.Segments.{HoldsFrom}
 use Rattle.raft_replay.proofs.SegmentLemmas.{batch_none}
 use Rattle.raft_reading.specs.QueueRead.{AreAllRead, FilesHold, NumberedBytes, whole_file}
 use Rattle.raft_reading.specs.declared.queue_files.FileSize.{FileSize}
-use Rattle.raft_engine_fronts.specs.Done.{AreConsecutive, numbers}
-use Rattle.raft_engine_fronts.proofs.TornLemmas.{one_file}
-use Rattle.raft_engine_fronts.proofs.UndamagedLemmas.{whole_undamaged}
+use Rattle.raft_engine_prefixes.specs.Done.{AreConsecutive, numbers}
+use Rattle.raft_engine_prefixes.proofs.TornLemmas.{one_file}
+use Rattle.raft_engine_prefixes.proofs.UndamagedLemmas.{whole_undamaged}
 use Rattle.raft_engine.specs.CutTails.{IsTailTold}
 use Rattle.raft_engine.specs.FoundFiles.{AreAccepted, BeginsInOther, IsOfEngine, IsOfOther, engine_header, in_other}
 use Rattle.raft_engine.specs.SoundBlocks.{IsLastSound}

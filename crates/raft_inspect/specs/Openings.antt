@@ -6,7 +6,7 @@ use Rattle.raft_base.specs.declared.pipe_log.Version.{Version}
 use Rattle.raft_accessor.specs.Accessor.{Accessor}
 use Rattle.raft_reading.specs.QueueRead.{NumberedBytes}
 use Rattle.raft_survey.specs.QueuesRead.{AreRecoveredOf}
-use Rattle.raft_engine_fronts.specs.Done.{AreConsecutive, numbers}
+use Rattle.raft_engine_prefixes.specs.Done.{AreConsecutive, numbers}
 use Rattle.raft_engine.specs.CutTails.{IsRecoveredOf}
 use Rattle.raft_engine.specs.KeptEngine.{KeptEngine}
 use Rattle.raft_engine.specs.Opened.{IsOpened}

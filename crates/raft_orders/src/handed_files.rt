@@ -19,9 +19,9 @@ use std::marker::Model;
 /// before.
 ///
 /// Whoever keeps the files takes the orders in turn and carries each of them out, as [`EngineFiles`] says of the call of its
-/// name, before the next one. So what was carried out is at any time a front of what was asked, and what is left of it when the machine
-/// stops is what may be left of that front. What is said of an engine's asks for every moment, in the midst of a call too, holds
-/// of it: at no other moment a machine stops. A call of the engine that must last has lasted only once its orders were carried out.
+/// name, before the next one. So what was carried out is at any time a prefix of what was asked, and what is left of it when the machine
+/// stops is what may be left of that prefix. What is said of an engine's asks for every moment, in the midst of a call too, holds
+/// of it: at no other moment a machine crashes. A call of the engine that must last has lasted only once its orders were carried out.
 /// Where one fails, neither it nor any later one may be carried out, until the files are found again.
 #[derive(Drop)]
 pub struct HandedFiles {

@@ -6,7 +6,7 @@ ghost use Rattle.std.specs.Option.{option_copied};
 ghost use Rattle.raft_base.specs.declared.entry_index.EntryIndex.{EntryIndex};
 ghost use Rattle.raft_table.specs.Scan.{VisitsUntilFalse, pairs_between};
 ghost use Rattle.raft_table.specs.TableEntries.{entry_at};
-ghost use Rattle.raft_engine_fronts.specs.Contents.{AreBothTold};
+ghost use Rattle.raft_engine_prefixes.specs.Contents.{AreBothTold};
 ghost use Rattle.raft_engine.specs.EntryReads.{AreFetched, AreUnfetched, IsEntryGot, IsEntryUnread};
 ghost use Rattle.raft_engine.specs.KeptEngine.{table_in};
 ghost use Rattle.raft_engine.specs.Moved.{IsOnlyRead};
@@ -15,7 +15,7 @@ use super::Engine;
 use crate::block_reads::{read_alone, read_by_blocks};
 use crate::moved::moves_are_stored;
 use raft_base::{EntryIndex, Result};
-use raft_engine_fronts::contents::told_contents_are_those_that_were_added;
+use raft_engine_prefixes::contents::told_contents_are_those_that_were_added;
 use raft_files::EngineFiles;
 
 impl<F: EngineFiles> Engine<F> {

@@ -18,7 +18,7 @@ impl<F: EngineFiles> Engine<F> {
     /// over append files alone. `recover` gives of its append files, cut into segments anyhow, its tables, but for the places
     /// of records that moved to the rewrite queue, and its cleaned regions; its very tables, places too, and its live counts, if
     /// none moved. So does `recover_both`, and an engine that is opened, where the rewrite files hold no batch. Of what a stop
-    /// leaves they give exactly what one reading gives of a front of the batches, with the synced ones at least. This is a law:
+    /// leaves they give exactly what one reading gives of a prefix of the batches, with the synced ones at least. This is a law:
     /// it computes nothing.
     pub fn what_was_written_is_recovered(&self)
         ensures { HasAllAppended self.now → IsRoundTrip self.now }

@@ -11,7 +11,7 @@ pub fn cases() -> &'static [Case] {
 }
 
 static CASES: [Case; 17] = [
-    // Rewritten entries of which a front is rewritten again: the rest is lost.
+    // Rewritten entries of which a prefix is rewritten again: the rest is lost.
     Case {
         steps: &[
             Append(1, &[Entries(1, 5)]),

@@ -1,5 +1,5 @@
 use Rattle.std.proofs.Common.{length, ap, subst, sym}
-use Rattle.raft_engine_fronts.specs.TornTails.{StopsAt}
+use Rattle.raft_engine_prefixes.specs.TornTails.{StopsAt}
 use Rattle.raft_engine.specs.CutTails.{IsTailOf}
 use Rattle.raft_engine.proofs.blocks.batches_end.Goals as goal
 

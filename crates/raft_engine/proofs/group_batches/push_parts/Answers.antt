@@ -3,14 +3,14 @@ use Rattle.std.proofs.Common.{rules, ◌≡◌, ◌≢◌, ℕ, List, [], sym, �
 use Rattle.raft_base.specs.Runs.{IsConsecutive}
 use Rattle.raft_base.specs.declared.entry_index.EntryIndex.{EntryIndex}
 use Rattle.raft_engine.specs.GroupParts.{IsPartRead, IsPartRefused}
-use Rattle.raft_engine.proofs.PartLemmas.{ArePartsSoFar, both_read, front_consecutive, part_more, parts_added, parts_refused, so_far_only}
+use Rattle.raft_engine.proofs.PartLemmas.{ArePartsSoFar, both_read, prefix_consecutive, part_more, parts_added, parts_refused, so_far_only}
 use Rattle.raft_engine.proofs.ReadKept.{read_only}
 use Rattle.raft_engine.proofs.RewrittenRegions.{on_any}
 use Rattle.raft_engine.proofs.group_batches.push_parts.Goals as goal
 
 pub part_batch-requires-clause-consecutive : goal.part_batch-requires-clause-consecutive
 part_batch-requires-clause-consecutive g c =
-    subst IsConsecutive (sym c.split_at.ensures.front) (front_consecutive c.part_len.result c.loop-rest.rest.now c.loop-rest.invariant.0.consecutive)
+    subst IsConsecutive (sym c.split_at.ensures.front) (prefix_consecutive c.part_len.result c.loop-rest.rest.now c.loop-rest.invariant.0.consecutive)
 
 pub loop-rest-preserved : goal.loop-rest-preserved
 loop-rest-preserved g c =

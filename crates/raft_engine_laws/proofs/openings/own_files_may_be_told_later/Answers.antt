@@ -1,4 +1,4 @@
-use Rattle.raft_engine_laws.proofs.OwnFronts.{own_joins}
+use Rattle.raft_engine_laws.proofs.OwnPrefixes.{own_joins}
 use Rattle.raft_engine_laws.proofs.OwnTold.{nothing_told}
 use Rattle.raft_engine_laws.proofs.openings.own_files_may_be_told_later.Goals as goal
 

@@ -1,5 +1,5 @@
 use Rattle.std.proofs.Common.{subst}
-use Rattle.raft_engine_fronts.specs.Contents.{AreBothTold}
+use Rattle.raft_engine_prefixes.specs.Contents.{AreBothTold}
 use Rattle.raft_engine.specs.KeptEngine.{KeptEngine}
 use Rattle.raft_engine.specs.KeptEngineView.{engine_shown}
 use Rattle.raft_engine.specs.Lasting.{IsLasting}

@@ -1,5 +1,5 @@
 use Rattle.std.proofs.Common.{subst}
-use Rattle.raft_engine_laws.specs.Stops.{synced, written}
+use Rattle.raft_engine_laws.specs.Crashes.{synced, written}
 use Rattle.raft_engine.specs.KeptEngine.{KeptEngine}
 use Rattle.raft_engine.specs.KeptEngineView.{engine_shown}
 use Rattle.raft_engine.specs.RoundTrip.{HasAllAppended, IsRoundTrip}

@@ -1,5 +1,0 @@
-use Rattle.raft_engine_fronts.proofs.UnforgedLemmas.{prefixes_unforged}
-use Rattle.raft_engine_fronts.proofs.any_tails.prefixes_are_unforged.Goals as goal
-
-pub returns : goal.returns
-returns c = prefixes_unforged

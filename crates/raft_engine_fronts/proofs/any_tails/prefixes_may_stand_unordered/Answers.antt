@@ -1,5 +1,0 @@
-use Rattle.raft_engine_fronts.proofs.AnyTailLemmas.{may_stand}
-use Rattle.raft_engine_fronts.proofs.any_tails.prefixes_may_stand_unordered.Goals as goal
-
-pub returns : goal.returns
-returns c = may_stand

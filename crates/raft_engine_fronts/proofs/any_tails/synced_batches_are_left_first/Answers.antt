@@ -1,5 +1,0 @@
-use Rattle.raft_engine_fronts.proofs.AnyRestLemmas.{begins_left}
-use Rattle.raft_engine_fronts.proofs.any_tails.synced_batches_are_left_first.Goals as goal
-
-pub returns : goal.returns
-returns c = begins_left

@@ -1,5 +1,0 @@
-use Rattle.raft_engine_fronts.proofs.AnyDoneLemmas.{any_left_of_done}
-use Rattle.raft_engine_fronts.proofs.any_tails.unforged_files_hold_what_may_be_left.Goals as goal
-
-pub returns : goal.returns
-returns c = any_left_of_done

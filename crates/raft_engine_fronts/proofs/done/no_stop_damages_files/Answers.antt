@@ -1,6 +1,0 @@
-use Rattle.std.proofs.Common.{[], ◌∷◌, ◌++◌, refl}
-use Rattle.raft_engine_fronts.proofs.UndamagedLemmas.{left_undamaged}
-use Rattle.raft_engine_fronts.proofs.done.no_stop_damages_files.Goals as goal
-
-pub returns : goal.returns
-returns c = λ queue version asked deeds closed last at done found left stops. left_undamaged queue version asked (closed ++ last ∷ []) done.undamaged found left closed last at refl stops

@@ -1,8 +1,0 @@
-use Rattle.raft_engine_fronts.proofs.RecordLemmas.{records_held, safe_records_held}
-use Rattle.raft_engine_fronts.proofs.done.no_stop_loses_records.Goals as goal
-
-pub returns-clause-safe : goal.returns-clause-safe
-returns-clause-safe c = safe_records_held
-
-pub returns-clause-nothing_lost : goal.returns-clause-nothing_lost
-returns-clause-nothing_lost c = records_held

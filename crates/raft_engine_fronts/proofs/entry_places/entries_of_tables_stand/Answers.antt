@@ -1,5 +1,0 @@
-use Rattle.raft_engine_fronts.proofs.TableEntryLemmas.{stand}
-use Rattle.raft_engine_fronts.proofs.entry_places.entries_of_tables_stand.Goals as goal
-
-pub returns : goal.returns
-returns c = stand

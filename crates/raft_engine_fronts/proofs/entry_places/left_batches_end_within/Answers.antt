@@ -1,5 +1,0 @@
-use Rattle.raft_engine_fronts.proofs.EndLemmas.{left_within}
-use Rattle.raft_engine_fronts.proofs.entry_places.left_batches_end_within.Goals as goal
-
-pub returns : goal.returns
-returns c = left_within

@@ -1,5 +1,0 @@
-use Rattle.raft_engine_fronts.proofs.EntryPlaceLemmas.{written_within}
-use Rattle.raft_engine_fronts.proofs.entry_places.written_entries_end_within.Goals as goal
-
-pub returns : goal.returns
-returns c = written_within

@@ -1,8 +1,0 @@
-use Rattle.raft_engine_fronts.proofs.RestLemmas.{rest_left, whole_rest}
-use Rattle.raft_engine_fronts.proofs.fronts.files_that_are_left_hold_the_rest.Goals as goal
-
-pub returns-clause-whole : goal.returns-clause-whole
-returns-clause-whole c = whole_rest
-
-pub returns-clause-left : goal.returns-clause-left
-returns-clause-left c = rest_left

@@ -1,5 +1,0 @@
-use Rattle.raft_engine_fronts.proofs.GoingOnLemmas.{puts_go_on}
-use Rattle.raft_engine_fronts.proofs.fronts.puts_go_on.Goals as goal
-
-pub returns : goal.returns
-returns c = puts_go_on

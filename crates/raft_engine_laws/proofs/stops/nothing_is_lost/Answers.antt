@@ -1,5 +1,0 @@
-use Rattle.raft_engine_laws.proofs.SafeStops.{lose_nothing}
-use Rattle.raft_engine_laws.proofs.stops.nothing_is_lost.Goals as goal
-
-pub returns : goal.returns
-returns c = lose_nothing

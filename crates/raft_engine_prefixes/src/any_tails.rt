@@ -1,0 +1,53 @@
+//! Laws of disks that write pages out of order.
+
+ghost use Rattle.std.specs.Prelude.{◌<◌, List, length};
+ghost use Rattle.raft_base.specs.declared.pipe_log.LogQueue.{LogQueue};
+ghost use Rattle.raft_base.specs.declared.pipe_log.Version.{Version};
+ghost use Rattle.raft_history.specs.Batches.{Event};
+ghost use Rattle.raft_files.specs.Asks.{Act, Ask, acts_on};
+ghost use Rattle.raft_files.specs.Disk.{IsLeftUnordered, MayStand, MayStandUnordered, NumberedBytes, begun, deletions};
+ghost use Rattle.raft_engine_laws.specs.Crashes.{Deed};
+ghost use Rattle.raft_engine_prefixes.specs.Done.{AreDone, HoldLeft};
+ghost use Rattle.raft_engine_prefixes.specs.TornTails.{FilesHoldTorn};
+ghost use Rattle.raft_engine_prefixes.specs.Prefixes.{AreFirstOf, ArePut};
+ghost use Rattle.raft_engine_prefixes.specs.AnyTails.{BeginWithSynced, FilesBeginWith, FilesHoldPrefix, IsUnforgedLeftOf, PrefixesAreUnforged};
+
+/// States that what a disk may leave that writes in order, one may leave that writes in any order.
+pub fn prefixes_may_stand_unordered()
+    ensures { (acts : List Act) (files : List NumberedBytes) → MayStand acts files → MayStandUnordered acts files }
+{}
+
+/// States that whatever is read of files begins with the batches that stand first in them; and that whatever may stand of the
+/// files of a queue, with any bytes behind the synced ones, begins with the synced batches, and so does whatever is read of it.
+pub fn synced_batches_are_read_first()
+    ensures first { (queue : LogQueue) (version : Version) (files : List NumberedBytes) (a g : List Event)
+        → FilesHoldPrefix queue version files a → FilesHoldTorn queue version files g → AreFirstOf a g }
+    ensures begin { (queue : LogQueue) (version : Version) (acts : List Act) (synced h : List Event) (files : List NumberedBytes)
+        → ArePut queue version acts synced h → MayStandUnordered acts files → FilesBeginWith queue version files synced }
+    ensures read { (queue : LogQueue) (version : Version) (acts : List Act) (synced h : List Event) (files : List NumberedBytes)
+        (read : List Event) → ArePut queue version acts synced h → MayStandUnordered acts files
+        → FilesHoldTorn queue version files read → AreFirstOf synced read }
+{}
+
+/// States that of what is left of a queue, of which the last file is never deleted, with any bytes behind the synced ones, the
+/// synced batches stand first, behind those of the deleted files.
+pub fn synced_batches_are_left_first()
+    ensures { (queue : LogQueue) (version : Version) (asked : List Ask) (synced h : List Event) (files : List NumberedBytes)
+        → ArePut queue version (acts_on queue asked) synced h
+        → deletions (acts_on queue asked) < length (begun (acts_on queue asked))
+        → IsLeftUnordered queue asked files → BeginWithSynced queue version asked synced files }
+{}
+
+/// States that whatever such a disk leaves of a queue's files, if it can be read, and nothing of it was never written, holds
+/// batches that may be left of what is done to the queue.
+pub fn unforged_files_hold_what_may_be_left()
+    ensures { (queue : LogQueue) (version : Version) (asked : List Ask) (deeds : List Deed) (files : List NumberedBytes)
+        (read : List Event) → AreDone queue version (acts_on queue asked) deeds
+        → IsUnforgedLeftOf queue version asked files → FilesHoldTorn queue version files read
+        → HoldLeft queue version deeds files }
+{}
+
+/// States that nothing is forged of what a disk leaves that writes in order.
+pub fn prefixes_are_unforged()
+    ensures { PrefixesAreUnforged }
+{}

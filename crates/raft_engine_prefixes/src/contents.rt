@@ -1,0 +1,35 @@
+//! Laws of the contents of entries, as what was asked of files tells them.
+
+ghost use Rattle.std.specs.Prelude.{◌≡◌, ℕ, List, ◌∷◌, Some};
+ghost use Rattle.raft_base.specs.declared.entry_index.EntryIndex.{EntryIndex};
+ghost use Rattle.raft_base.specs.declared.pipe_log.LogQueue.{LogQueue};
+ghost use Rattle.raft_files.specs.Asks.{Act, Ask};
+ghost use Rattle.raft_files.specs.Disk.{begun};
+ghost use Rattle.raft_files.specs.Places.{bytes_at};
+ghost use Rattle.raft_engine_prefixes.specs.Contents.{AddedEntriesAreTold, AreBothTold, AreBothTrueReads, AreTold, KeepsBytes, ReadEntryIsTold, WrittenEntryIsTold, content_of};
+
+/// States that where the sound blocks that were read stand in the files, the contents that the files tell are told: no two
+/// places say different things.
+pub fn files_tell_contents()
+    ensures { (asks : List Ask) → AreBothTrueReads asks → AreBothTold asks (content_of asks) }
+{}
+
+/// States that bytes stay where they are, unless some are cut off or files are found; so contents that are told by what
+/// was asked were told by what was asked before.
+pub fn told_contents_last()
+    ensures bytes { (acts : List Act) (act : Act) (seq offset len : ℕ) (block : List ℕ) → KeepsBytes act
+        → bytes_at (begun acts) seq offset len ≡ Some block
+        → bytes_at (begun (act ∷ acts)) seq offset len ≡ Some block }
+    ensures queue { (queue : LogQueue) (acts : List Act) (act : Act) (content : EntryIndex → List ℕ) → KeepsBytes act
+        → AreTold queue (act ∷ acts) content → AreTold queue acts content }
+    ensures both { (asks : List Ask) (a : Ask) (content : EntryIndex → List ℕ) → KeepsBytes a.act
+        → AreBothTold (a ∷ asks) content → AreBothTold asks content }
+{}
+
+/// States what contents are that are told: of a written batch the byte strings that were added for its entries, and of an
+/// entry whose block was read, and is sound, the bytes that were found in it.
+pub fn told_contents_are_those_that_were_added()
+    ensures entry { WrittenEntryIsTold }
+    ensures added { AddedEntriesAreTold }
+    ensures read { ReadEntryIsTold }
+{}

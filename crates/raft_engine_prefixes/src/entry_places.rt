@@ -1,0 +1,38 @@
+//! Laws of the places of entries, and of where their bytes end.
+
+ghost use Rattle.std.specs.Prelude.{ℕ, List, ◌∷◌, []};
+ghost use Rattle.raft_base.specs.declared.pipe_log.FileBlockHandle.{FileBlockHandle};
+ghost use Rattle.raft_base.specs.declared.pipe_log.LogQueue.{LogQueue};
+ghost use Rattle.raft_base.specs.declared.pipe_log.Version.{Version};
+ghost use Rattle.raft_records.specs.FilePart.{Part};
+ghost use Rattle.raft_records.specs.Item.{Item};
+ghost use Rattle.raft_records.specs.LogBatch.{IsBatchOf};
+ghost use Rattle.raft_history.specs.Batches.{Event};
+ghost use Rattle.raft_files.specs.Disk.{NumberedBytes};
+ghost use Rattle.raft_replay.specs.WrittenParts.{written_event};
+ghost use Rattle.raft_recover.specs.Files.{FilesHold};
+ghost use Rattle.raft_engine_prefixes.specs.Done.{AreRisingFrom, numbers};
+ghost use Rattle.raft_engine_prefixes.specs.EntryPlaces.{EntriesEndWithin, EntriesOfTablesStand, LeftFilesEndWithin, PlacesStand};
+
+/// States that the entries of a batch that an engine writes end within their block.
+pub fn written_entries_end_within()
+    ensures { (part : Part) (handle : FileBlockHandle) (items : List Item) (entry_bytes : List ℕ) → IsBatchOf items entry_bytes
+        → EntriesEndWithin (written_event part handle items entry_bytes ∷ []) }
+{}
+
+/// States that at the place of each entry of the batches which files of rising numbers hold, bytes stand in these files.
+pub fn places_stand()
+    ensures { (queue : LogQueue) (version : Version) (n : ℕ) (files : List NumberedBytes) (h : List Event)
+        → AreRisingFrom n (numbers files) → FilesHold queue version files h → PlacesStand queue files h }
+{}
+
+/// States that each entry of the tables that both queues are read as stands in their files, where the entries of all batches
+/// end within their blocks.
+pub fn entries_of_tables_stand()
+    ensures { EntriesOfTablesStand }
+{}
+
+/// States that where the entries of all batches of a queue end within their blocks, those do that are read of what a crash leaves.
+pub fn left_batches_end_within()
+    ensures { LeftFilesEndWithin }
+{}

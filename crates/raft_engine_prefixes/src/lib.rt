@@ -1,0 +1,10 @@
+//! Laws of an engine's files after a crash: what is left holds a prefix of the batches that were put, and a torn
+//! tail at most.
+#![tactic(auto)]
+
+pub mod any_tails;
+pub mod contents;
+pub mod done;
+pub mod entry_places;
+pub mod prefixes;
+pub mod torn_tails;

@@ -174,6 +174,24 @@ impl<'a, R: FolderHost> Folder<'a, R> {
         Ok(())
     }
 
+    /// Refuses files of a queue that begin with a header of their own, of which the first bytes are read: no batch can be read in
+    /// them, so that they would be taken for torn, and cut.
+    ///
+    /// # Errors
+    ///
+    /// `Foreign` for such a file, `System`, `Memory`.
+    pub(crate) fn check_headers(&self, queue: LogQueue) -> FolderResult<()> {
+        for (seq, file) in self.files(queue) {
+            let id = FileId::new(queue, *seq);
+            let len = self.len_of(id, file)?.min(FOREIGN_HEADER.len() as u64);
+            let begin = self.about_file(id, self.bytes_at(file, 0, len as usize))?;
+            if begin.as_slice() == FOREIGN_HEADER {
+                return Err(FolderError::Foreign(self.path_of(id)?));
+            }
+        }
+        Ok(())
+    }
+
     /// Returns the files of a queue with their bytes, oldest first. Refuses files that begin with a
     /// header of their own: no batch can be read in them, so that they would be taken for torn, and
     /// cut.

@@ -1,5 +1,5 @@
 use Rattle.raft_engine_laws.proofs.SafeDeletions.{append_deleted, rewrite_deleted}
-use Rattle.raft_engine_laws.proofs.stops.deleting_is_safe.Goals as goal
+use Rattle.raft_engine_laws.proofs.crashes.deleting_is_safe.Goals as goal
 
 pub returns-clause-append : goal.returns-clause-append
 returns-clause-append c = append_deleted

@@ -1,6 +1,6 @@
 use Rattle.raft_engine_laws.proofs.SafeGroups.{again_safe, group_safe}
 use Rattle.raft_engine_laws.proofs.SafeRewrites.{moved_safe, moving_safe}
-use Rattle.raft_engine_laws.proofs.stops.moving_is_safe.Goals as goal
+use Rattle.raft_engine_laws.proofs.crashes.moving_is_safe.Goals as goal
 
 pub returns-clause-records : goal.returns-clause-records
 returns-clause-records c = moved_safe

@@ -1,5 +1,5 @@
 use Rattle.raft_engine_laws.proofs.SafeRewrites.{held_safe}
-use Rattle.raft_engine_laws.proofs.stops.open_groups_are_safe.Goals as goal
+use Rattle.raft_engine_laws.proofs.crashes.open_groups_are_safe.Goals as goal
 
 pub returns : goal.returns
 returns c = held_safe

@@ -5,7 +5,7 @@ use Rattle.raft_history.specs.Batches.{batches}
 use Rattle.raft_history.specs.Effects.{steps_of}
 use Rattle.raft_history.specs.RegionSteps.{steps_on, steps_of_items}
 use Rattle.raft_engine_laws.proofs.SafeOpenings.{base, safe_told, while_told, at_first, safe_at_once, safe_later, safe_mixed, while_mixed}
-use Rattle.raft_engine_laws.proofs.stops.opening_is_safe.Goals as goal
+use Rattle.raft_engine_laws.proofs.crashes.opening_is_safe.Goals as goal
 
 pub returns-clause-told : goal.returns-clause-told
 returns-clause-told c = λ append rewrite found cleaned e sound_append sound_rewrite apart both sound next plain removals told. (

@@ -1,5 +1,5 @@
 use Rattle.raft_engine_laws.proofs.SafeWrites.{append_synced, rewrite_synced}
-use Rattle.raft_engine_laws.proofs.stops.syncing_is_safe.Goals as goal
+use Rattle.raft_engine_laws.proofs.crashes.syncing_is_safe.Goals as goal
 
 pub returns-clause-append : goal.returns-clause-append
 returns-clause-append c = append_synced

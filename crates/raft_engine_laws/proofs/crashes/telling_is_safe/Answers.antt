@@ -1,6 +1,6 @@
 use Rattle.raft_engine_laws.proofs.SafeRewrites.{told_safe}
 use Rattle.raft_engine_laws.proofs.SafeWrites.{untold_same, untold_fewer}
-use Rattle.raft_engine_laws.proofs.stops.telling_is_safe.Goals as goal
+use Rattle.raft_engine_laws.proofs.crashes.telling_is_safe.Goals as goal
 
 pub returns-clause-told : goal.returns-clause-told
 returns-clause-told c = told_safe

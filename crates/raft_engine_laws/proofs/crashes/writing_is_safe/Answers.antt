@@ -1,6 +1,6 @@
 use Rattle.raft_engine_laws.proofs.QuietWrites.{taking_safe}
 use Rattle.raft_engine_laws.proofs.SafeWrites.{written_safe}
-use Rattle.raft_engine_laws.proofs.stops.writing_is_safe.Goals as goal
+use Rattle.raft_engine_laws.proofs.crashes.writing_is_safe.Goals as goal
 
 pub returns-clause-all : goal.returns-clause-all
 returns-clause-all c = λ content base appended rewritten untold tables new e h next taken. written_safe content base appended rewritten untold tables h new e next taken

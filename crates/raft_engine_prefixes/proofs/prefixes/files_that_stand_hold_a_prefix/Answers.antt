@@ -1,5 +1,5 @@
 use Rattle.raft_engine_prefixes.proofs.PrefixLemmas.{all_held, prefix_left, synced_left}
-use Rattle.raft_engine_prefixes.proofs.fronts.files_that_stand_hold_a_prefix.Goals as goal
+use Rattle.raft_engine_prefixes.proofs.prefixes.files_that_stand_hold_a_prefix.Goals as goal
 
 pub returns-clause-all : goal.returns-clause-all
 returns-clause-all c = all_held

@@ -1,7 +1,7 @@
 use Rattle.std.proofs.Common.{◌<◌, ◌≤◌}
 use Rattle.raft_base.specs.declared.pipe_log.FileId.{FileId}
 use Rattle.raft_engine_prefixes.proofs.FileLemmas.{files_fine}
-use Rattle.raft_engine_prefixes.proofs.fronts.batches_lie_in_their_files.Goals as goal
+use Rattle.raft_engine_prefixes.proofs.prefixes.batches_lie_in_their_files.Goals as goal
 
 pub returns-clause-below : goal.returns-clause-below
 returns-clause-below c = λ queue version n files h held below. files_fine (λ (id : FileId). id.seq < n) queue version files h held below

@@ -1,6 +1,6 @@
 use Rattle.std.proofs.Common.{refl}
 use Rattle.raft_engine_prefixes.proofs.StepLemmas.{written, began, synced_all, cut_off, deleted_one, read_one, one_history}
-use Rattle.raft_engine_prefixes.proofs.fronts.asks_put_batches.Goals as goal
+use Rattle.raft_engine_prefixes.proofs.prefixes.asks_put_batches.Goals as goal
 
 pub returns-clause-nothing : goal.returns-clause-nothing
 returns-clause-nothing c = λ queue version. record { put = (refl, refl); whole = refl }

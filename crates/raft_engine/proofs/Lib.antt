@@ -14,7 +14,7 @@ pub mod RecoveredLemmas
 mod FoundDoneLemmas
 mod JoinedLemmas
 mod FoundStoredLemmas
-mod OpenedLemmas
+pub mod OpenedLemmas
 mod DrainLemmas
 mod LastingLemmas
 mod WholeLemmas

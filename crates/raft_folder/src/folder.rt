@@ -162,6 +162,19 @@ impl<'a, R: FolderHost> Folder<'a, R> {
         Ok(files)
     }
 
+    /// Returns the number and the path of each file of a queue, oldest first.
+    ///
+    /// # Errors
+    ///
+    /// `Memory`.
+    pub(crate) fn paths(&self, queue: LogQueue) -> FolderResult<Vec<(FileSeq, String)>> {
+        let mut paths = Vec::new(self.rt.alloc());
+        for seq in self.files(queue).keys() {
+            paths.push((*seq, self.path_of(FileId::new(queue, *seq))?))?;
+        }
+        Ok(paths)
+    }
+
     /// Syncs the files of a queue, one after another.
     ///
     /// # Errors

@@ -96,6 +96,15 @@ impl<'a, R: FolderHost> FolderFiles<'a, R> {
         self.folder.list(queue)
     }
 
+    /// Returns the number and the path of each file of a queue, oldest first.
+    ///
+    /// # Errors
+    ///
+    /// `Memory`.
+    pub fn paths(&self, queue: LogQueue) -> FolderResult<Vec<(FileSeq, String)>> {
+        self.folder.paths(queue)
+    }
+
     /// Returns the path of a log file, whether it is there or not.
     ///
     /// # Errors

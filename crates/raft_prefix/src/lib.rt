@@ -4,7 +4,8 @@
 #[doc(hidden)]
 pub mod entry_blocks;
 pub mod file_prefix;
-mod pieces;
+#[doc(hidden)]
+pub mod pieces;
 #[doc(hidden)]
 pub mod readable;
 

@@ -50,7 +50,7 @@ pub use Rattle.raft_history.specs.Batches.{Event}
 pub use Rattle.raft_history.specs.Histories.{Sound}
 pub use Rattle.raft_history.specs.Kept.{kept_of}
 pub use Rattle.raft_orders.specs.Orders.{act_of, ask_of, length_put, next_to_do}
-pub use Rattle.raft_orders.specs.Refusals.{IsUnordered}
+pub use Rattle.raft_orders.specs.Refusals.{HandedFails}
 pub use Rattle.raft_records.specs.Entries.{entry_with_index}
 pub use Rattle.raft_records.specs.Faults.{IsAnyCorruption}
 pub use Rattle.raft_records.specs.FilePart.{AreBatchesUpTo, IsNext, IsNextFault, part_of}

@@ -13,6 +13,7 @@ use Rattle.raft_engine.specs.StoredFound.{told_asks}
 use Rattle.raft_engine.specs.declared.missing.Missing.{Missing}
 use Rattle.raft_engine.specs.declared.missing.Missing.TheVariants as missings
 use Rattle.raft_engine.specs.declared.recovered.CutTail.{CutTail}
+use Rattle.raft_engine.specs.WrittenBatch.{AreMissing}
 
 -- of what is wanted, newest first, some, none or all was asked, the oldest first, and it may be noted that a sync failed behind it
 pub record AreAskedInPart (wanted old new : List Ask) : Type 0 where
@@ -72,7 +73,6 @@ more_missing more missing between new (inr u) = inr (record {
   next = ap (λ (l : List Ask). more ++ l) u.next ∙ sym (append_assoc more u.later (ask u.queue Sync ∷ []));
   noted = u.noted;
 })
-use Rattle.raft_engine.specs.WrittenBatch.{AreMissing}
 
 -- a sync is missing, and may have failed
 pub sync_missing : (queue : LogQueue) (later between new : List Ask) → MayBeAsked (ask queue Unsynced) between new → AreMissing (later ++ ask queue Sync ∷ []) between new

@@ -46,7 +46,6 @@ module _ (version : Version) (asks : List Ask) (append rewrite : QueueFiles) (un
   abbrev engine : KeptEngine
   engine = record { version = version; asks = asks; untold = untold; accessor = accessor; intact = intact }
 
-
   -- one of which a sync failed
   pub kept_unsynced : FailedSyncsAreStored → intact ≡ true → (queue : LogQueue) (new : List Ask) (append' rewrite' : QueueFiles) (untold' : Batch) (accessor' : Accessor) → MayBeAsked (ask queue Unsynced) asks new
       → IsKeptBy version new append' rewrite' untold' accessor' false

@@ -230,14 +230,14 @@ module _ (ready : FoundFilesAreReady) (stored : FoundFilesAreStored) (lasting : 
       half : AreAskedInPart (reading_asks version r) first later
       half = asked_part MayFail (reading_asks version r) first later e failed
 
+      all : (records : Bases) × HaveEverRecords version (asks_that_tell version r.rewrite.seq f.told f.told.items ++ asked) records
+      all = lasting version asked append rewrite f.append_left f.rewrite_left r.accessor f.told r.untold are_ready f.recovered f.rewrite_of.closed r.rewrite.seq f.rewrite_of.bytes f.rewrite_of.split f.writable
+
       ever_made : HaveEverRecords version (half.made ++ first) all.0
       ever_made content more earlier e begun =
           all.1 content (half.missing ++ more) earlier
           (sym all_asked ∙ ap (λ (l : List Ask). l ++ first) half.split ∙ append_assoc half.missing half.made first ∙ ap (λ (l : List Ask). half.missing ++ l) e
           ∙ sym (append_assoc half.missing more earlier)) begun
-
-      all : (records : Bases) × HaveEverRecords version (asks_that_tell version r.rewrite.seq f.told f.told.items ++ asked) records
-      all = lasting version asked append rewrite f.append_left f.rewrite_left r.accessor f.told r.untold are_ready f.recovered f.rewrite_of.closed r.rewrite.seq f.rewrite_of.bytes f.rewrite_of.split f.writable
 
 -- an engine that was opened
 pub kept_opened : (version : Version) (append rewrite : List NumberedBytes) (asks : List Ask) (append_known rewrite_known : QueueFiles) (untold : Batch) (accessor : Accessor)

@@ -16,6 +16,7 @@ TOP = Path(__file__).resolve().parent.parent
 PAGE = TOP / "docs/BELIEVE.md"
 CALL = ("raft_recover", "src/recovery.rt", "recover")
 WIDTH = 150
+SHARED_WIDTH = 130
 
 NAME = r"[A-Za-z_][A-Za-z0-9_']*"
 WORD = re.compile(rf"(?<![A-Za-z0-9_'.])({NAME})((?:\.{NAME})*)")
@@ -289,8 +290,8 @@ def page():
         "```",
         "",
         f"It says what it says by **{count} definitions, {total} lines in {len(files)} files**, found by following names from these clauses. They are shown below as they",
-        "stand in `specs/`, each file after those that it uses, with line numbers; each definition has its comment above it or, where both are short, behind its",
-        "first line. No proof can tell whether they say what is meant. That is what a reader has to believe, and then has to believe no code.",
+        "stand in `specs/`, each file after those that it uses, with line numbers; a short comment stands behind the first line of its definition, and short",
+        "lines are joined. No proof can tell whether they say what is meant. That is what a reader has to believe, and then has to believe no code.",
         "",
         "In the clauses, `result` and `segments` stand for plain values: what the call returns is seen as an `Accessor` (the map from",
         "region to table, the cleaned regions in order, the counts), a part of a file as a `Part` (its file, version, offset and bytes).",
@@ -323,12 +324,23 @@ def page():
 
 def shown(found):
     """The lines of a definition with their numbers, as code. A comment of one line stands behind the definition's first line, if
-    both are short."""
+    both are short; short fields of a record, or cases of a type, share a line, and so do what a name stands for and its head."""
     first, lines = found.line, list(found.lines)
     if len(lines) - len(found.code) == 1 and lines[0].startswith("--") and len(lines[0]) + len(lines[1]) <= WIDTH:
         lines[:2] = [f"{lines[1]}  {lines[0]}"]
         first += 1
-    return [f"    {number:4} {text}" for number, text in enumerate(lines, first)]
+    out = []
+    for number, text in enumerate(lines, first):
+        goes_on = number - first + 1 < len(lines) and lines[number - first + 1].startswith("    ")
+        is_part = re.match(rf"  (?:pub )?{NAME} : ", text) is not None and not goes_on
+        is_short = bool(out) and len(out[-1][1]) + len(text) <= SHARED_WIDTH
+        if is_short and is_part and out[-1][2]:
+            out[-1][1] += f"; {text.strip()}"
+        elif is_short and out[-1][1].endswith(" =") and not goes_on:
+            out[-1][1] += f" {text.strip()}"
+        else:
+            out.append([number, text, is_part])
+    return [f"    {number:4} {text}" for number, text, _ in out]
 
 
 def wrapped(text, width=WIDTH):

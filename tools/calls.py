@@ -25,7 +25,7 @@ METHOD = re.compile(r"^    (?:pub )?(?:final )?fn (\w+)", re.M)
 IMPL = re.compile(r"^impl(?:<[^{}]*?>)? (\w+)(?:<[^{}]*?>)? \{$", re.M)
 USE = re.compile(r"^(?:#\[doc\((hidden)\)\]\n)?pub use ([^;]+);", re.M | re.S)
 MODULE = re.compile(r"(?<!#\[doc\(hidden\)\]\n)^pub mod (\w+);", re.M)
-WIDTH = 600
+WIDTH = 1000
 CLAUSE = re.compile(r"\n\s*(?:requires|ensures|ghost)\b|\s*\n?\s*\{|;")
 ENDS_BLOCK = re.compile(r"^\}", re.M)
 

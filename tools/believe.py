@@ -302,12 +302,12 @@ def page():
     for module in files:
         file = reading.files[module]
         by_crate.setdefault(file.crate, []).append(f"[{file.path.stem}](#{file.crate}-{file.path.stem.lower()})")
-    out += [f"- `{crate}`: " + ", ".join(named) for crate, named in by_crate.items()]
+    out.append("; ".join(f"`{crate}`: " + ", ".join(named) for crate, named in by_crate.items()) + ".")
 
     out += ["", "## Words of std and of the kit's libraries", "", "They come with the toolchain, and are listed here by name alone."]
     for given in sorted({crate for crate, _ in reading.given}, key=lambda crate: (crate != "std", crate)):
         listed = sorted((name for crate, name in reading.given if crate == given), key=lambda n: (n.strip("◌").lower(), n))
-        out += ["", *wrapped(f"Of `{given}`: " + ", ".join(f"`{name}`" for name in listed) + ".")]
+        out += ["", f"Of `{given}`: " + ", ".join(f"`{name}`" for name in listed) + "."]
     named = {}
     for crate, place, name in sorted(reading.types, key=lambda t: (crates.index(t[0]), t[1:])):
         named.setdefault(crate, []).append(f"[`{name}`]({link(*type_line(crate, place, name))})")
@@ -341,17 +341,6 @@ def shown(found):
         else:
             out.append([number, text, is_part])
     return [f"    {number:4} {text}" for number, text, _ in out]
-
-
-def wrapped(text, width=WIDTH):
-    lines, line = [], ""
-    for word in text.split(" "):
-        if line and len(line) + 1 + len(word) > width:
-            lines.append(line)
-            line = word
-        else:
-            line = f"{line} {word}".strip()
-    return [*lines, line]
 
 
 def main(words):

@@ -104,7 +104,7 @@ fn merge_behind(found: &mut Found, batch: &mut LogBatch, behind: &mut LogBatch) 
     answer
 }
 
-/// Returns the three group markers of a group, each on a batch of its own.
+/// Adds lines with the three group markers of a group, each in a batch of its own.
 pub(crate) fn mark_group(found: &mut Found) -> Result<()> {
     let mut builder = AtomicGroupBuilder::with_id(9);
     for _ in 0..3 {

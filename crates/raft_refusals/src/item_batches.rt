@@ -40,7 +40,7 @@ static ENTRIES: [Change; 5] = [
     Change::Entries(1, 18_446_744_073_709_551_613, (128, 16_384)),
 ];
 
-/// Returns the bytes of a batch without items, and of one of several.
+/// Adds a line with the bytes of a batch without items, and one with those of a batch of several.
 pub(crate) fn encode_both(found: &mut Found) -> Result<()> {
     let mut batch = LogItemBatch::default(found.alloc);
     encode_again(found, &mut batch)?;
@@ -50,7 +50,7 @@ pub(crate) fn encode_both(found: &mut Found) -> Result<()> {
     encode_again(found, &mut batch)
 }
 
-/// Returns the bytes of a batch of entries alone. Its first item and its fifth find no room in what it has.
+/// Adds a line with the bytes of a batch of entries alone. Its first item and its fifth find no room in what it has.
 pub(crate) fn add_entries(found: &mut Found) -> Result<()> {
     let mut batch = LogItemBatch::default(found.alloc);
     for change in &ENTRIES {

@@ -47,7 +47,7 @@ fn numbers() -> &'static [Number] {
     &NUMBERS
 }
 
-/// Returns the bytes of each number, one after the other in one vector.
+/// Adds a line with the bytes of all numbers, which are encoded one after the other into one vector.
 pub(crate) fn encode_numbers(found: &mut Found) -> Result<()> {
     let mut bytes = Vec::new(found.alloc);
     for number in numbers() {

@@ -161,8 +161,8 @@ fn take_into<R: Wait>(rt: &R, shared: &SharedAccessor, logs: &mut LogBatch) -> R
     shared.take_cleaned_region_logs(rt, logs)
 }
 
-/// Returns a slot whose region is cleaned twice: list and batch have to be as they were where there is no
-/// memory.
+/// Takes the cleaned regions of a slot, whose region is cleaned twice, into a batch: where there is no memory list and batch have
+/// to be as they were.
 pub(crate) fn take_from_slot(found: &mut Found) -> Result<()> {
     let mut slot = Slot::new(found.alloc, slot_of(3));
     list_region(&mut slot)?;

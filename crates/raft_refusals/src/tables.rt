@@ -95,7 +95,7 @@ fn change_again(found: &mut Found, tables: &mut MemTableAccessor, change: Change
     print_answer(found, &answer, tables)
 }
 
-/// Returns the word or the number of a result, the first index and the one past the last, how many blocks
+/// Adds a line with the word or the number of a result, the first index and the one past the last, how many blocks
 /// there are, the live number of the append queue, those of the rewrite queue that were written and deleted,
 /// and the least files, 0 for none.
 fn print_answer(found: &mut Found, answer: &Result<u64>, tables: &MemTableAccessor) -> Result<()> {
@@ -254,7 +254,7 @@ fn table_of_lengths(alloc: Global, lengths: &[u32]) -> Result<MemTableAccessor> 
     Ok(tables)
 }
 
-/// Returns how many entries are fetched, and the last of them; how many keys.
+/// Adds a line for each fetch: how many entries it gives, and the last of them; how many keys.
 pub(crate) fn fetch_all(found: &mut Found) -> Result<()> {
     let tables = fetched_table(found.alloc)?;
     let Some(table) = tables.get(REGION) else {

@@ -66,6 +66,7 @@ mod UnmovedLemmas
 mod RegionIds
 mod BlockCounts
 mod BlockReadLemmas
+mod JoinedByteLemmas
 mod ToldReads
 mod ReadKept
 mod RotatedRewrites

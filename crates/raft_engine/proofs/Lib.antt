@@ -66,7 +66,6 @@ mod UnmovedLemmas
 mod RegionIds
 mod BlockCounts
 mod BlockReadLemmas
-mod JoinedByteLemmas
 mod ToldReads
 mod ReadKept
 mod RotatedRewrites

@@ -43,7 +43,6 @@ pub mod Opened
 -- reading
 pub mod EntryReads
 pub mod BlockReads
-pub mod JoinedBytes
 -- restarts
 pub mod Restarts
 pub mod OpeningAsks

@@ -7,10 +7,8 @@ ghost use Rattle.raft_records.specs.ItemBatch.{entry_lengths};
 ghost use Rattle.raft_records.specs.Header.{IsEntryBlockOf, IsLentBlockFault};
 ghost use Rattle.raft_engine_laws.specs.Contents.{bytes_of};
 ghost use Rattle.raft_engine.specs.BlockReads.{AreBytesIn, AreNoBytesIn, IsBlockOf, IsKeptOf, IsNoBlockOf, IsOfEntry, IsSoundRead, IsUnreadOf};
-ghost use Rattle.raft_engine.specs.JoinedBytes.{AreCopied, StandIn, bytes_joined, kept_bytes};
 ghost use Rattle.raft_engine.specs.Reads.{AreReadByBlocks, AreUnread};
 
-use crate::joined_bytes::JoinedBytes;
 use crate::limits::MAX_REWRITE_BATCH_BYTES;
 use crate::parts;
 use raft_base::{CompressionType, EntryIndex, Error, FileBlockHandle, FileId, Result};
@@ -91,49 +89,14 @@ pub fn read_joined<F: EngineFiles>(
         return Ok(Vec::new(alloc));
     }
     let room = parts::bytes_of(entries).min(MAX_REWRITE_BATCH_BYTES) as usize;
-    let mut joined = JoinedBytes::with_room(alloc, room)?;
+    let mut joined = Vec::with_capacity(alloc, room)?;
     let mut last = None;
     for entry in entries {
-        copy_unless_kept(&mut joined, &last, entry)?;
         keep_block(alloc, files, region, entry, &mut last)?;
         let Some(block) = &last else { unreachable!() };
-        add_bytes(alloc, &mut joined, region, block, entry)?;
+        push_bytes(&mut joined, region, block, entry)?;
     }
-    joined.copy(bytes_of_kept(&last))?;
-    Ok(joined.into_bytes())
-}
-
-/// Copies the bytes that are still in the block that is kept, where an entry stands in another one.
-///
-/// # Errors
-///
-/// `Memory`.
-fn copy_unless_kept(
-    joined: &mut JoinedBytes,
-    kept: &Option<EntryBlock>,
-    entry: &EntryIndex,
-) -> Result<()>
-    requires { StandIn joined.old (kept_bytes kept.now) }
-    ensures kept { OnOk result (IsKeptOf entry.now kept.now → joined.new ≡ joined.old) }
-    ensures other { OnOk result ((IsKeptOf entry.now kept.now → ⊥)
-        → AreCopied (bytes_joined joined.old (kept_bytes kept.now)) joined.new) }
-    ensures memory { IfErr result (λ e. e ≡ Error.Memory) }
-{
-    if is_kept(kept, entry) {
-        return Ok(());
-    }
-    joined.copy(bytes_of_kept(kept))?;
-    Ok(())
-}
-
-/// Returns the entry bytes of the block that is kept, or none.
-fn bytes_of_kept(kept: &Option<EntryBlock>) -> &[u8]
-    ensures { result.now ≡ kept_bytes kept.now }
-{
-    match kept {
-        Some(block) => block.entries.as_slice(),
-        None => &[],
-    }
+    Ok(joined)
 }
 
 /// Keeps the block at the place of an entry of a region: the one that is kept, if it is that, and else it is read.
@@ -249,34 +212,30 @@ fn bytes_in(alloc: Global, region: u64, block: &EntryBlock, entry: &EntryIndex) 
     Ok(Vec::from_slice(alloc, &block.entries[begin..end])?)
 }
 
-/// Adds the bytes of an entry of a region in its block to those of others.
+/// Pushes the bytes of an entry of a region in its block behind others.
 ///
 /// # Errors
 ///
 /// `Corruption` where they would end past those of the block; `Memory`.
-fn add_bytes(
-    alloc: Global,
-    joined: &mut JoinedBytes,
+fn push_bytes(
+    joined: &mut Vec<u8>,
     region: u64,
     block: &EntryBlock,
     entry: &EntryIndex,
 ) -> Result<()>
-    requires { StandIn joined.old block.now.entries.items }
-    ensures ok { OnOk result (bytes_joined joined.new block.now.entries.items
-        ≡ bytes_joined joined.old block.now.entries.items ++ bytes_of block.now.entries.items entry.now) }
+    ensures ok { OnOk result (joined.new.items
+        ≡ joined.old.items ++ bytes_of block.now.entries.items entry.now) }
     ensures inside { OnOk result (entry.now.entry_offset + entry.now.entry_len
         ≤ length block.now.entries.items) }
-    ensures stand { OnOk result (StandIn joined.new block.now.entries.items) }
     ensures err { IfErr result
         (AreNoBytesIn region block.now.place block.now.entries.items entry.now) }
 {
     let begin = entry.entry_offset as usize;
-    let len = entry.entry_len as usize;
-    if block.entries.len() < begin + len {
-        return Err(of_lacking(alloc, region, block, entry));
+    let end = begin + entry.entry_len as usize;
+    if block.entries.len() < end {
+        return Err(of_lacking(*joined.allocator(), region, block, entry));
     }
-    joined.add(block.entries.as_slice(), begin, len)?;
-    Ok(())
+    Ok(joined.extend_from_slice(&block.entries[begin..end])?)
 }
 
 /// Returns why the bytes of an entry of a region, which would end past those of its block, aren't found.

@@ -13,7 +13,6 @@ mod group_moves;
 mod group_puts;
 mod group_rows;
 mod groups;
-mod joined_bytes;
 mod limits;
 #[doc(hidden)]
 pub mod lives;

@@ -12,7 +12,7 @@ impl<F: Files> Engine<F> {
     /// had when its records moved last; until they do, as the entries there have, and all keys with their values.
     ///
     /// Files are deleted here alone, so a program calls it now and then, best from a thread of its own: threads that write get in
-    /// between while it moves records of the append queue, a mebibyte or a region at a time; those of the rewrite queue move at
+    /// between while it moves records of the append queue, 256 KiB or a block at a time; those of the rewrite queue move at
     /// once. Where there is nothing to do it asks nothing of the files. Files that are needed no more go
     /// first, before records move; but what the batches in them took away is written to the rewrite queue before they go, so on a
     /// full disk even that may be refused. The next change then does what was left undone; or an engine that is opened anew writes

@@ -327,7 +327,7 @@ impl<F: EngineFiles> Engine<F> {
         self.accessor.get(region)?.last_index()
     }
 
-    /// Makes all that was written last.
+    /// Syncs the append queue: all that was written outlasts a crash then.
     ///
     /// # Errors
     ///
@@ -350,7 +350,7 @@ impl<F: EngineFiles> Engine<F> {
         Ok(())
     }
 
-    /// Makes all that was written last, if that is wanted.
+    /// Syncs the append queue where `sync` says so; else it does nothing.
     ///
     /// # Errors
     ///
@@ -367,7 +367,7 @@ impl<F: EngineFiles> Engine<F> {
         Ok(())
     }
 
-    /// Begins a new file of the append queue, in which the next batch is put. All that was written lasts then.
+    /// Begins a new file of the append queue, in which the next batch is put. All that was written is synced then.
     ///
     /// # Errors
     ///
@@ -391,8 +391,8 @@ impl<F: EngineFiles> Engine<F> {
     }
 
     /// Writes a batch: its bytes behind those of the append queue's last file, and its items with their places to the
-    /// tables. With `sync` all that was written lasts once the call returns `Ok`. The batch is empty then; one without
-    /// items changes nothing else. No byte of a batch is asked for that the tables would refuse.
+    /// tables. With `sync` all that was written is synced once the call returns `Ok`. The batch is empty then; one without
+    /// items changes nothing else. A batch that the tables would refuse is not written.
     ///
     /// # Errors
     ///

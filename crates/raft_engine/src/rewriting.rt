@@ -137,8 +137,8 @@ pub fn moving_batch<F: EngineFiles>(
     Ok(batch)
 }
 
-/// Returns the keys, with their values, that are in a batch behind which these entries are left: those that move where none are,
-/// else none.
+/// Returns the keys, with their values, that go into a batch of a table that moves: all of those that move up to the gate if
+/// `left` is empty, so that no batch follows, else none.
 ///
 /// # Errors
 ///

@@ -85,7 +85,13 @@ fn append_missing(
     }
 }
 
-/// Prints the batches of found files, item by item. Returns whether something of it can't be read.
+/// Prints the selected items of found files, batch by batch. Returns whether a batch, or with `--values` a selected entry, can't be
+/// read; entries are looked at in a second walk then.
+///
+/// # Errors
+///
+/// `NothingOf` where a region is selected that no batch names; those of the files and of the output; want of memory. Lines may be
+/// printed by then.
 fn dump_found<R: Host, W: Write>(
     rt: &R,
     words: &ArgMatches<'_>,

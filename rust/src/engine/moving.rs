@@ -23,7 +23,7 @@ const OF_ONE_BATCH: usize = 8 << 10;
 type ReadBlocks = VecDeque<(Block, Vec<u8>)>;
 
 impl<F: Files> Engine<F> {
-    /// Begins a new file of the append queue. All that was written lasts then.
+    /// Begins a new file of the append queue. All that was written is synced then.
     ///
     /// ```
     /// # use raft_recover::{Engine, LogBatch, MemoryFiles, Options};

@@ -4,8 +4,8 @@ use Rattle.raft_opening.proofs.piece_reading.refusal.Goals as goal
 pub returns-in-Ok : goal.returns-in-Ok
 returns-in-Ok g c = λ append rewrite sized. inr (inr c.corruption.ensures)
 
-pub returns-in-Err : goal.returns-in-Err
-returns-in-Err g c = λ append rewrite sized. elim (c.in-Err.ensures.fault append rewrite sized) [
+pub returns : goal.returns
+returns g c = λ append rewrite sized. elim (c.in-Err.ensures.fault append rewrite sized) [
   | inl unread ↦ inl unread
   | inr refused ↦ inr (inl refused)
 ]

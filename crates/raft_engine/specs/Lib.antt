@@ -15,6 +15,7 @@ pub mod Purged
 pub mod KeptEngineCode
 pub mod KeptEngineView
 -- records that move to the rewrite queue
+pub mod FileFailures
 pub mod Reads
 pub mod Parts
 pub mod Rewriting

@@ -37,7 +37,7 @@ pub fn read_alone<F: EngineFiles>(
 ) -> Result<Vec<u8>>
     ensures ok { IfOk result (λ bytes. AreReadByBlocks (entry.now ∷ []) (bytes.items ∷ [])
         (F.asked files.old) (F.asked files.new)) }
-    ensures err { IfErr result (AreUnread region (entry.now ∷ []) (F.asked files.old) (F.asked files.new)) }
+    ensures err { IfErr result (AreUnread F.may_fail region (entry.now ∷ []) (F.asked files.old) (F.asked files.new)) }
 {
     let block = block_of(alloc, files, region, entry)?;
     bytes_in(alloc, region, &block, entry)
@@ -57,7 +57,7 @@ pub fn read_by_blocks<F: EngineFiles>(
 ) -> Result<Vec<Vec<u8>>>
     ensures ok { IfOk result (λ strings. AreReadByBlocks entries.now
         (map (λ s. s.items) strings.items) (F.asked files.old) (F.asked files.new)) }
-    ensures err { IfErr result (AreUnread region entries.now (F.asked files.old) (F.asked files.new)) }
+    ensures err { IfErr result (AreUnread F.may_fail region entries.now (F.asked files.old) (F.asked files.new)) }
 {
     let mut strings = Vec::new(alloc);
     let mut last = None;
@@ -83,7 +83,7 @@ pub fn read_joined<F: EngineFiles>(
     ensures lengths { IfOk result (λ bytes. entry_lengths entries.now ≡ length bytes.items) }
     ensures ok { IfOk result (λ bytes. AreReadByBlocks entries.now
         (strings_in entries.now bytes.items) (F.asked files.old) (F.asked files.new)) }
-    ensures err { IfErr result (AreUnread region entries.now (F.asked files.old) (F.asked files.new)) }
+    ensures err { IfErr result (AreUnread F.may_fail region entries.now (F.asked files.old) (F.asked files.new)) }
 {
     if entries.is_empty() {
         return Ok(Vec::new(alloc));
@@ -114,7 +114,7 @@ fn keep_block<F: EngineFiles>(
     ensures some { OnOk result (IsSome kept.new) }
     ensures ok { OnOk result (IfSome kept.new (λ block. IsBlockOf entry.now kept.old block
         (F.asked files.old) (F.asked files.new))) }
-    ensures err { IfErr result (IsNoBlockOf region entry.now kept.old (F.asked files.old)
+    ensures err { IfErr result (IsNoBlockOf F.may_fail region entry.now kept.old (F.asked files.old)
         (F.asked files.new)) }
 {
     if !is_kept(kept, entry) {
@@ -147,7 +147,7 @@ fn block_of<F: EngineFiles>(
     ensures placed { IfOk result (λ block. entry.now.entries ≡ Some block.place) }
     ensures ok { IfOk result (λ block. IsSoundRead block.place block.entries.items
         (F.asked files.old) (F.asked files.new)) }
-    ensures err { IfErr result (IsUnreadOf region entry.now (F.asked files.old) (F.asked files.new)) }
+    ensures err { IfErr result (IsUnreadOf F.may_fail region entry.now (F.asked files.old) (F.asked files.new)) }
 {
     let Some(place) = entry.entries else {
         return Err(of_no_place(alloc, region, entry.index));

@@ -125,7 +125,7 @@ pub fn moving_batch<F: EngineFiles>(
     ensures ok { IfOk result (IsBatchMoving gate left.now table.now (F.asked files.old)
         (F.asked files.new)) }
     ensures err { OnErr result (AreOnlyRead (F.asked files.old) (F.asked files.new)) }
-    ensures refused { IfErr result (λ e. e ≢ Error.Memory → IsBatchRefused gate left.now table.now
+    ensures refused { IfErr result (λ e. e ≢ Error.Memory → IsBatchRefused F.may_fail gate left.now table.now
         (F.asked files.old) (F.asked files.new) e) }
 {
     let pairs = batch_pairs(alloc, table, gate, left)?;

@@ -39,7 +39,7 @@ impl<F: EngineFiles> Engine<F> {
     pub fn rewrite_again(&mut self) -> Result<()>
         ensures ok { OnOk result (AreMovedAgain self.old self.new) }
         ensures accepted { OnOk result (self.old.intact ≡ true) }
-        ensures err { IfErr result (AreUnmovedAgain self.old self.new) }
+        ensures err { IfErr result (AreUnmovedAgain F.may_fail self.old self.new) }
         ensures fault { IfErr result (λ e. Breaks self.old self.new
             → IsAgainFault F.may_fail self.old self.new e) }
     {

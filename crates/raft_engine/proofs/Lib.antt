@@ -5,6 +5,7 @@ mod ReadyLemmas
 mod AskedLemmas
 mod OfVersionLemmas
 mod BlockLemmas
+mod DamagedLemmas
 mod SealedLemmas
 mod MarkerLemmas
 mod GroupRowLemmas
@@ -79,3 +80,4 @@ mod EntryLemmas
 mod LifeLemmas
 mod OwnFileLemmas
 mod WellPutLemmas
+mod NamedLemmas

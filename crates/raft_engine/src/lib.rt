@@ -5,6 +5,7 @@ mod block_reads;
 mod blocks;
 mod both;
 mod both_reading;
+mod damaged;
 pub mod engine;
 mod found;
 mod found_queue;
@@ -20,6 +21,7 @@ mod missing;
 #[doc(hidden)]
 pub mod moments;
 mod moved;
+pub mod named_entries;
 pub mod of_version;
 mod opened;
 mod parts;
@@ -42,6 +44,6 @@ mod unopened;
 mod untold;
 
 pub use engine::Engine;
-pub use recovered::{CutTail, Recovered};
+pub use recovered::{CutTail, DamagedBatch, Recovered};
 pub use recovery_mode::RecoveryMode;
 pub use unopened::{Opened, Unopened};

@@ -5,6 +5,7 @@ ghost use Rattle.raft_base.specs.declared.pipe_log.LogQueue.TheVariants.{Append,
 ghost use Rattle.raft_files.specs.Asks.{NumberedBytes};
 ghost use Rattle.raft_files.specs.HeldFiles.{file_shown};
 ghost use Rattle.raft_engine.specs.CutTails.{IsTailTold};
+ghost use Rattle.raft_engine.specs.DamagedBatches.{AreDamagedTold};
 ghost use Rattle.raft_engine.specs.FileSegments.{AreSegmentsOfFiles};
 ghost use Rattle.raft_engine.specs.FoundFiles.{IsFoundFault};
 ghost use Rattle.raft_engine.specs.FoundQueues.{IsFoundQueue, left_by};
@@ -17,7 +18,7 @@ use crate::found_queue::{FoundQueue, ReadyQueue, complete_segments};
 use crate::groups::check_groups;
 use crate::missing::Missing;
 use crate::queue_files::QueueFiles;
-use crate::recovered::CutTail;
+use crate::recovered::{CutTail, DamagedBatch};
 use crate::recovery_mode::RecoveryMode;
 use crate::segments::check_few;
 use raft_accessor::MemTableAccessor;
@@ -36,6 +37,8 @@ use std::thread::Threads;
 pub struct Ready {
     pub append: ReadyQueue,
     pub rewrite: ReadyQueue,
+    /// The batches of the last append file whose entries are damaged.
+    pub damaged: Vec<DamagedBatch>,
 }
 
 /// Found files of both queues that are ready, and segments of the files that are there once what is missing was asked.
@@ -61,10 +64,12 @@ pub struct Reading {
     pub told_len: usize,
     /// What the rewrite queue may be told later.
     pub untold: LogBatch,
+    /// The batches of the last append file whose entries are damaged.
+    pub damaged: Vec<DamagedBatch>,
 }
 
 impl Ready {
-    /// Makes found files, of which the last ones have these tails, ready in a mode.
+    /// Makes found files, of which the last ones have these tails, and the last append file these damaged batches, ready in a mode.
     ///
     /// # Errors
     ///
@@ -75,13 +80,14 @@ impl Ready {
         append_tail: Option<CutTail>,
         rewrite: FoundQueue,
         rewrite_tail: Option<CutTail>,
+        damaged: Vec<DamagedBatch>,
     ) -> Result<ReadySegments>
         requires { (version : Version) × (append_files : List NumberedBytes) × (rewrite_files : List NumberedBytes)
             × IsFoundQueue Append version append_files append × IsFoundQueue Rewrite version rewrite_files rewrite
             × IsTailTold Append version append_files append_tail × IsTailTold Rewrite version rewrite_files rewrite_tail }
         ensures ok { (version : Version) (append_files rewrite_files : List NumberedBytes) → IsFoundQueue Append version append_files append
             → IsFoundQueue Rewrite version rewrite_files rewrite → IsTailTold Append version append_files append_tail
-            → IsTailTold Rewrite version rewrite_files rewrite_tail
+            → IsTailTold Rewrite version rewrite_files rewrite_tail → AreDamagedTold version append_files damaged.items
             → IfOk result (λ both. AreReadyFiles mode version append_files rewrite_files both.ready) }
         ensures append_segments { IfOk result (λ both. both.append.items ≡ append.segments.items) }
         ensures rewrite_segments { IfOk result (λ both. both.rewrite.items ≡ rewrite.segments.items) }
@@ -96,6 +102,7 @@ impl Ready {
             ready: Ready {
                 append: append_ready,
                 rewrite: rewrite_ready,
+                damaged,
             },
             append: append_segments,
             rewrite: rewrite_segments,
@@ -121,7 +128,11 @@ impl Ready {
             → IfErr result (λ e. e ≢ Error.Memory → IsTooLongAs version append_left rewrite_left e) }
     {
         taken_away_is_told();
-        let Ready { append, rewrite } = self;
+        let Ready {
+            append,
+            rewrite,
+            damaged,
+        } = self;
         let taken = appended.taken_away(alloc, &rewritten)?;
         let mut both = rewritten;
         both.merge_append_context(appended)?;
@@ -138,6 +149,7 @@ impl Ready {
             told,
             told_len,
             untold: taken.later,
+            damaged,
         })
     }
 }
@@ -166,7 +178,8 @@ impl ReadySegments {
     {
         let append_tail = append.tail()?;
         let rewrite_tail = rewrite.tail()?;
-        let mut both = Ready::of(mode, append, append_tail, rewrite, rewrite_tail)?;
+        let damaged = append.damaged_alone(&append_tail)?;
+        let mut both = Ready::of(mode, append, append_tail, rewrite, rewrite_tail, damaged)?;
         complete_segments(
             LogQueue::Append,
             version,
@@ -185,7 +198,8 @@ impl ReadySegments {
     }
 }
 
-/// Reads found files, each byte once, and recovers the tables of those that are there once what is missing was asked.
+/// Reads found files, each byte once, and the entries of the last append file, and recovers the tables of the files that are there
+/// once what is missing was asked.
 ///
 /// # Errors
 ///
@@ -218,7 +232,15 @@ pub fn read_found<R: Threads + Sync>(
     files_hold_few_records();
     torn_tails_are_found();
     let (appended, rewritten) = (read.appended, read.rewritten);
-    let both = Ready::of(mode, append, appended.tail, rewrite, rewritten.tail)?;
+    let damaged = append.damaged(rt, &appended.tail, workers)?;
+    let both = Ready::of(
+        mode,
+        append,
+        appended.tail,
+        rewrite,
+        rewritten.tail,
+        damaged,
+    )?;
     both.ready
         .with_contexts(alloc, appended.machine, rewritten.machine)
 }

@@ -3,21 +3,28 @@ use Rattle.std.proofs.Common.{◌≡◌, ◌⊎◌, inl, inr, ℕ, suc, ◌+◌,
 use Rattle.std.specs.List.{AllByRecursion}
 use Rattle.std.proofs.lemmas.Bool.{cases_lt}
 use Rattle.std.proofs.lemmas.List.Elements.{Contains-append_left, Contains-append_right}
+use Rattle.raft_base.specs.declared.pipe_log.LogQueue.TheVariants.{Append}
+use Rattle.raft_base.specs.declared.pipe_log.Version.{Version}
 use Rattle.raft_records.specs.FilePart.{AreBatchesUpTo, IsBatchAt, Part, StandBetween}
 use Rattle.raft_records.specs.Item.{Item}
 use Rattle.raft_records.proofs.PartLemmas.{batch_inside, one_batch_more}
 use Rattle.raft_history.proofs.EffectLemmas.{each-append}
+use Rattle.raft_files.specs.Asks.{NumberedBytes}
+use Rattle.raft_recover.specs.Files.{whole_file}
 use Rattle.raft_replay.specs.Stops.{IsUnreadableAt}
 use Rattle.raft_replay.proofs.SegmentLemmas.{batch_none}
 use Rattle.raft_engine_prefixes.specs.Done.{AreRisingFrom}
 use Rattle.raft_engine_prefixes.specs.TornTails.{StopsAt}
 use Rattle.raft_engine_prefixes.proofs.NumberLemmas.{rising_low}
 use Rattle.raft_engine_prefixes.proofs.TornLemmas.{stand_inside, stop_unreadable}
-use Rattle.raft_engine.specs.DamagedBatches.{AreDamagedBatches, IsDamagedBatch, offsets}
+use Rattle.raft_engine.specs.DamagedBatches.{AreDamagedBatches, AreDamagedTold, IsDamagedBatch, offsets}
 use Rattle.raft_engine.specs.DamagedStretches.{AreDamagedBetween, AreReached, IsGathered, IsReachedAt}
+use Rattle.raft_engine.specs.FoundQueues.{IsLastOf}
 use Rattle.raft_engine.specs.SoundBlocks.{HasSoundBlock}
 use Rattle.raft_engine.specs.declared.recovered.DamagedBatch.{DamagedBatch}
 use Rattle.raft_engine.proofs.BlockLemmas.{none_past, stand_on, stand_past}
+use Rattle.raft_engine.proofs.FoundLemmas.{one_last}
+use Rattle.raft_engine.proofs.ReadyLemmas.{no_last}
 
 -- ---- offsets
 
@@ -200,3 +207,15 @@ module _ (p : Part) where
         ];
     in_order = d.in_order;
   }
+
+-- ---- the last append file
+
+pub damaged_of_last : (version : Version) (files : List NumberedBytes) (part : Part) (batches : List DamagedBatch) → IsLastOf Append version files part → AreDamagedBatches part batches → AreDamagedTold version files batches
+damaged_of_last version files part batches l d = (
+  λ none. absurd (no_last l.closed l.last (sym none ∙ l.split)),
+  λ closed last e. subst (λ (f : NumberedBytes). AreDamagedBatches (whole_file Append version f) batches) (one_last l.closed closed l.last last (sym l.split ∙ e))
+      (subst (λ (p : Part). AreDamagedBatches p batches) l.is d),
+)
+
+pub none_damaged : (version : Version) (files : List NumberedBytes) (batches : List DamagedBatch) → files ≡ [] → batches ≡ [] → AreDamagedTold version files batches
+none_damaged version files batches none is = (λ _. is, λ closed last e. absurd (no_last closed last (sym none ∙ e)))

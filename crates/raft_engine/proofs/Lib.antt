@@ -5,12 +5,12 @@ mod ReadyLemmas
 mod AskedLemmas
 mod OfVersionLemmas
 mod BlockLemmas
-mod DamagedLemmas
 mod SealedLemmas
 mod MarkerLemmas
 mod GroupRowLemmas
 mod ReadQueueLemmas
 mod FoundQueueLemmas
+mod DamagedLemmas
 mod RecoveredLemmas
 mod FoundDoneLemmas
 mod JoinedLemmas

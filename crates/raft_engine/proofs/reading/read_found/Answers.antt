@@ -20,6 +20,13 @@ returns-in_err-rewrite-clause-fault g c =
 pub read_again-requires : goal.read_again-requires
 read_again-requires g c = (c.type_bounds.sync-R, (map file_shown c.args.append.items, map file_shown c.args.rewrite.items, c.in_ok-append.ensures.ok, c.in_ok-rewrite.ensures.ok))
 
+pub damaged-requires : goal.damaged-requires
+damaged-requires g c =
+    let fa = c.in_ok-append.ensures.ok in
+    let fr = c.in_ok-rewrite.ensures.ok in
+    let b = c.in-Ok.ensures c.args.version _ _ (subst (AreWholeFiles Append c.args.version _) (sym c.as_slice-segments.ensures.value) fa.whole) (subst (AreWholeFiles Rewrite c.args.version _) (sym c.as_slice-rewrite_segments.ensures.value) fr.whole) in
+    (c.type_bounds.sync-R, Append, c.args.version, map file_shown c.args.append.items, fa, b.appended.told)
+
 pub of-requires-3 : goal.of-requires-3
 of-requires-3 g c =
     let fa = c.in_ok-append.ensures.ok in
@@ -44,7 +51,7 @@ returns-clause-ok g c =
     let fa = c.in_ok-append.ensures.ok in
     let fr = c.in_ok-rewrite.ensures.ok in
     let b = c.in-Ok.ensures c.args.version _ _ (subst (AreWholeFiles Append c.args.version _) (sym c.as_slice-segments.ensures.value) fa.whole) (subst (AreWholeFiles Rewrite c.args.version _) (sym c.as_slice-rewrite_segments.ensures.value) fr.whole) in
-    let are = c.in_ok-both.ensures.ok c.args.version _ _ fa fr b.appended.told b.rewritten.told in
+    let are = c.in_ok-both.ensures.ok c.args.version _ _ fa fr b.appended.told b.rewritten.told (c.in_ok-damaged.ensures.ok c.args.version _ fa) in
     let t = c.torn_tails_are_found.ensures in
     c.with_contexts.ensures.ok c.args.mode c.args.version _ _ are
     (both_read_by t.whole t.one_reading t.cut c.files_hold_few_records.ensures c.args.mode c.args.version _ _ c.in_ok-both.both.ready are c.in-Ok.read b)
@@ -54,7 +61,7 @@ returns-clause-fault g c =
     let fa = c.in_ok-append.ensures.ok in
     let fr = c.in_ok-rewrite.ensures.ok in
     let b = c.in-Ok.ensures c.args.version _ _ (subst (AreWholeFiles Append c.args.version _) (sym c.as_slice-segments.ensures.value) fa.whole) (subst (AreWholeFiles Rewrite c.args.version _) (sym c.as_slice-rewrite_segments.ensures.value) fr.whole) in
-    let are = c.in_ok-both.ensures.ok c.args.version _ _ fa fr b.appended.told b.rewritten.told in
+    let are = c.in_ok-both.ensures.ok c.args.version _ _ fa fr b.appended.told b.rewritten.told (c.in_ok-damaged.ensures.ok c.args.version _ fa) in
     let t = c.torn_tails_are_found.ensures in
     long_refused (AreUnrecoveredAs c.args.version c.args.workers) c.args.mode c.args.version _ _ c.in_ok-both.both.ready are c.with_contexts.result
     (c.with_contexts.ensures.fault c.args.version _ _ (both_read_by t.whole t.one_reading t.cut c.files_hold_few_records.ensures c.args.mode c.args.version _ _ c.in_ok-both.both.ready are c.in-Ok.read b))
@@ -64,5 +71,5 @@ returns-clause-accepted g c =
     let fa = c.in_ok-append.ensures.ok in
     let fr = c.in_ok-rewrite.ensures.ok in
     let b = c.in-Ok.ensures c.args.version _ _ (subst (AreWholeFiles Append c.args.version _) (sym c.as_slice-segments.ensures.value) fa.whole) (subst (AreWholeFiles Rewrite c.args.version _) (sym c.as_slice-rewrite_segments.ensures.value) fr.whole) in
-    let are = c.in_ok-both.ensures.ok c.args.version _ _ fa fr b.appended.told b.rewritten.told in
+    let are = c.in_ok-both.ensures.ok c.args.version _ _ fa fr b.appended.told b.rewritten.told (c.in_ok-damaged.ensures.ok c.args.version _ fa) in
     on_any c.with_contexts.result (are.append.missing.accepted, are.rewrite.missing.accepted)

@@ -5,7 +5,6 @@ use Rattle.raft_base.specs.declared.pipe_log.Version.{Version}
 use Rattle.raft_records.specs.LogBatch.{Batch, encoded, encoded_length}
 use Rattle.raft_files.specs.Asks.{Ask, NumberedBytes}
 use Rattle.raft_engine.specs.CutTails.{IsTailTold, tail_of}
-use Rattle.raft_engine.specs.DamagedBatches.{AreDamagedTold}
 use Rattle.raft_engine.specs.FoundFiles.{AreReadyBy}
 use Rattle.raft_engine.specs.FoundQueues.{IsReadyQueue}
 use Rattle.raft_engine.specs.Opening.{AreRecovered}
@@ -43,13 +42,11 @@ pub record AreReadFound (version : Version) (append rewrite : List NumberedBytes
   pub to_be_told : IsToBeTold r
   pub append_told : IsTailTold Append version append (tail_of r.append_missing)
   pub rewrite_told : IsTailTold Rewrite version rewrite (tail_of r.rewrite_missing)
-  pub damaged_told : AreDamagedTold version append r.damaged.items
 
--- the found files of both queues are ready in a mode once what is missing was asked, and these are the damaged batches of the last append file
+-- the found files of both queues are ready in a mode once what is missing was asked
 pub record AreReadyFiles (mode : RecoveryMode) (version : Version) (append_files rewrite_files : List NumberedBytes) (r : Ready) : Type 0 where
   pub append : IsReadyQueue mode Append version append_files r.append
   pub rewrite : IsReadyQueue mode Rewrite version rewrite_files r.rewrite
-  pub damaged : AreDamagedTold version append_files r.damaged.items
 
 -- no recovery refuses the files
 abbrev pub IsNoRefusal : Refusal

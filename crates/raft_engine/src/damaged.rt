@@ -154,9 +154,10 @@ fn gather_one(file: &FilePart, at: usize, damaged: &mut Vec<DamagedBatch>) -> Re
     let alloc = file.allocator();
     let (_, mut batch) = file.bytes().split_at(at);
     let (items_at, _, len) = LogBatch::decode_header(alloc, &mut batch)?;
-    if lent_entry_block(alloc, batch, items_at - HEADER_LEN).is_err() {
+    let Ok(_) = lent_entry_block(alloc, batch, items_at - HEADER_LEN) else {
         damaged.push(damaged_batch(file, at)?)?;
-    }
+        return Ok(at + len);
+    };
     Ok(at + len)
 }
 

@@ -32,7 +32,7 @@ use crate::put::{put, sync_if};
 use crate::queue_files::QueueFiles;
 use crate::read_back::batches_are_read_back;
 use crate::reading::{Reading, read_found};
-use crate::recovered::Recovered;
+use crate::recovered::{DamagedBatch, Recovered};
 use crate::recovery_mode::RecoveryMode;
 use crate::stored::{asks_are_stored, what_is_done_lasts};
 use crate::stored_found::found_files_are_stored;
@@ -217,12 +217,13 @@ impl<F: EngineFiles> Engine<F> {
             (map file_shown append.items) (map file_shown rewrite.items) (F.asked unopened.files) unopened.error) }
     {
         match read_found(rt, alloc, mode, version, append, rewrite, workers) {
-            Ok(reading) => Engine::of_reading(version, files, reading),
+            Ok(read) => Engine::of_reading(version, files, read.reading, read.damaged),
             Err(error) => Err(Unopened { files, error }),
         }
     }
 
-    /// Asks of found files what their reading says, and makes an engine over them then, with the tables that they give.
+    /// Asks of found files what their reading says, and makes an engine over them then, with the tables that they give. It tells of
+    /// these damaged batches.
     ///
     /// # Errors
     ///
@@ -232,6 +233,7 @@ impl<F: EngineFiles> Engine<F> {
         version: Version,
         files: F,
         reading: Reading,
+        damaged: Vec<DamagedBatch>,
     ) -> std::result::Result<Opened<F>, Unopened<F>>
         requires to_be_told { IsToBeTold reading }
         requires found { (append : List NumberedBytes) × (rewrite : List NumberedBytes)
@@ -241,8 +243,7 @@ impl<F: EngineFiles> Engine<F> {
             → IfOk result (λ opened. IsOpened version append rewrite opened.engine) }
         ensures recovered { (append rewrite : List NumberedBytes) → AreReadFound version append rewrite reading
             → IfOk result (λ opened. IsRecoveredOf version append rewrite opened.recovered) }
-        ensures damaged { (append rewrite : List NumberedBytes) → AreReadFound version append rewrite reading
-            → IfOk result (λ opened. AreDamagedTold version append opened.damaged.items) }
+        ensures damaged { IfOk result (λ opened. opened.damaged.items ≡ damaged.items) }
         ensures err { (append rewrite : List NumberedBytes) → F.asked files ≡ found_asks append rewrite
             → AreReadFound version append rewrite reading
             → IfErr result (λ unopened. IsHalfOpened F.may_fail version append rewrite
@@ -269,7 +270,7 @@ impl<F: EngineFiles> Engine<F> {
                 Ok(Opened {
                     engine,
                     recovered,
-                    damaged: reading.damaged,
+                    damaged,
                 })
             }
             Err(error) => Err(Unopened { files, error }),

@@ -37,8 +37,6 @@ use std::thread::Threads;
 pub struct Ready {
     pub append: ReadyQueue,
     pub rewrite: ReadyQueue,
-    /// The batches of the last append file whose entries are damaged.
-    pub damaged: Vec<DamagedBatch>,
 }
 
 /// Found files of both queues that are ready, and segments of the files that are there once what is missing was asked.
@@ -64,12 +62,17 @@ pub struct Reading {
     pub told_len: usize,
     /// What the rewrite queue may be told later.
     pub untold: LogBatch,
-    /// The batches of the last append file whose entries are damaged.
+}
+
+/// What the reading of found files gives, and which batches of the last append file have damaged entries.
+#[derive(Drop)]
+pub struct ReadFiles {
+    pub reading: Reading,
     pub damaged: Vec<DamagedBatch>,
 }
 
 impl Ready {
-    /// Makes found files, of which the last ones have these tails, and the last append file these damaged batches, ready in a mode.
+    /// Makes found files, of which the last ones have these tails, ready in a mode.
     ///
     /// # Errors
     ///
@@ -80,14 +83,13 @@ impl Ready {
         append_tail: Option<CutTail>,
         rewrite: FoundQueue,
         rewrite_tail: Option<CutTail>,
-        damaged: Vec<DamagedBatch>,
     ) -> Result<ReadySegments>
         requires { (version : Version) × (append_files : List NumberedBytes) × (rewrite_files : List NumberedBytes)
             × IsFoundQueue Append version append_files append × IsFoundQueue Rewrite version rewrite_files rewrite
             × IsTailTold Append version append_files append_tail × IsTailTold Rewrite version rewrite_files rewrite_tail }
         ensures ok { (version : Version) (append_files rewrite_files : List NumberedBytes) → IsFoundQueue Append version append_files append
             → IsFoundQueue Rewrite version rewrite_files rewrite → IsTailTold Append version append_files append_tail
-            → IsTailTold Rewrite version rewrite_files rewrite_tail → AreDamagedTold version append_files damaged.items
+            → IsTailTold Rewrite version rewrite_files rewrite_tail
             → IfOk result (λ both. AreReadyFiles mode version append_files rewrite_files both.ready) }
         ensures append_segments { IfOk result (λ both. both.append.items ≡ append.segments.items) }
         ensures rewrite_segments { IfOk result (λ both. both.rewrite.items ≡ rewrite.segments.items) }
@@ -102,7 +104,6 @@ impl Ready {
             ready: Ready {
                 append: append_ready,
                 rewrite: rewrite_ready,
-                damaged,
             },
             append: append_segments,
             rewrite: rewrite_segments,
@@ -128,11 +129,7 @@ impl Ready {
             → IfErr result (λ e. e ≢ Error.Memory → IsTooLongAs version append_left rewrite_left e) }
     {
         taken_away_is_told();
-        let Ready {
-            append,
-            rewrite,
-            damaged,
-        } = self;
+        let Ready { append, rewrite } = self;
         let taken = appended.taken_away(alloc, &rewritten)?;
         let mut both = rewritten;
         both.merge_append_context(appended)?;
@@ -149,14 +146,13 @@ impl Ready {
             told,
             told_len,
             untold: taken.later,
-            damaged,
         })
     }
 }
 
 impl ReadySegments {
-    /// Makes found files ready in a mode, whose last ones are read to find their tails, and the segments those of the files that are
-    /// there once what is missing was asked.
+    /// Makes found files ready in a mode, of which the last append file has this tail, and the last rewrite file is read to find its
+    /// own, and the segments those of the files that are there once what is missing was asked.
     ///
     /// # Errors
     ///
@@ -165,21 +161,22 @@ impl ReadySegments {
         mode: RecoveryMode,
         version: Version,
         append: FoundQueue,
+        append_tail: Option<CutTail>,
         rewrite: FoundQueue,
     ) -> Result<ReadySegments>
         requires { (append_files : List NumberedBytes) × (rewrite_files : List NumberedBytes)
-            × IsFoundQueue Append version append_files append × IsFoundQueue Rewrite version rewrite_files rewrite }
+            × IsFoundQueue Append version append_files append × IsFoundQueue Rewrite version rewrite_files rewrite
+            × IsTailTold Append version append_files append_tail }
         ensures ok { (append_files rewrite_files : List NumberedBytes) → IsFoundQueue Append version append_files append
-            → IsFoundQueue Rewrite version rewrite_files rewrite → IfOk result (λ both. AreReadyFiles mode version append_files rewrite_files both.ready
+            → IsFoundQueue Rewrite version rewrite_files rewrite → IsTailTold Append version append_files append_tail → IfOk result (λ both. AreReadyFiles mode version append_files rewrite_files both.ready
             × AreSegmentsOfFiles Append version (left_by both.ready.append.missing append_files) both.append.items
             × AreSegmentsOfFiles Rewrite version (left_by both.ready.rewrite.missing rewrite_files) both.rewrite.items) }
         ensures fault { (append_files rewrite_files : List NumberedBytes) → IsFoundQueue Append version append_files append
-            → IsFoundQueue Rewrite version rewrite_files rewrite → IfErr result (IsOpeningRefusal IsNoRefusal mode version append_files rewrite_files) }
+            → IsFoundQueue Rewrite version rewrite_files rewrite → IsTailTold Append version append_files append_tail
+            → IfErr result (IsOpeningRefusal IsNoRefusal mode version append_files rewrite_files) }
     {
-        let append_tail = append.tail()?;
         let rewrite_tail = rewrite.tail()?;
-        let damaged = append.damaged_alone(&append_tail)?;
-        let mut both = Ready::of(mode, append, append_tail, rewrite, rewrite_tail, damaged)?;
+        let mut both = Ready::of(mode, append, append_tail, rewrite, rewrite_tail)?;
         complete_segments(
             LogQueue::Append,
             version,
@@ -198,8 +195,8 @@ impl ReadySegments {
     }
 }
 
-/// Reads found files, each byte once, and the entries of the last append file, and recovers the tables of the files that are there
-/// once what is missing was asked.
+/// Reads found files, each byte once, and recovers the tables of those that are there once what is missing was asked; and checks the
+/// entries of the last append file.
 ///
 /// # Errors
 ///
@@ -213,9 +210,10 @@ pub fn read_found<R: Threads + Sync>(
     append: Vec<(FileSeq, Vec<u8>)>,
     rewrite: Vec<(FileSeq, Vec<u8>)>,
     workers: usize,
-) -> Result<Reading>
-    ensures ok { IfOk result (AreReadFound version (map file_shown append.items)
-        (map file_shown rewrite.items)) }
+) -> Result<ReadFiles>
+    ensures ok { IfOk result (λ read. AreReadFound version (map file_shown append.items)
+        (map file_shown rewrite.items) read.reading) }
+    ensures damaged { IfOk result (λ read. AreDamagedTold version (map file_shown append.items) read.damaged.items) }
     ensures accepted { OnOk result (AreBothAccepted mode version (map file_shown append.items)
         (map file_shown rewrite.items)) }
     ensures fault { IfErr result (IsOpeningRefusal (AreUnrecoveredAs version workers) mode version (map file_shown append.items)
@@ -233,16 +231,11 @@ pub fn read_found<R: Threads + Sync>(
     torn_tails_are_found();
     let (appended, rewritten) = (read.appended, read.rewritten);
     let damaged = append.damaged(rt, &appended.tail, workers)?;
-    let both = Ready::of(
-        mode,
-        append,
-        appended.tail,
-        rewrite,
-        rewritten.tail,
-        damaged,
-    )?;
-    both.ready
-        .with_contexts(alloc, appended.machine, rewritten.machine)
+    let both = Ready::of(mode, append, appended.tail, rewrite, rewritten.tail)?;
+    let reading = both
+        .ready
+        .with_contexts(alloc, appended.machine, rewritten.machine)?;
+    Ok(ReadFiles { reading, damaged })
 }
 
 /// Reads found files that a reading refused, to say why.
@@ -259,11 +252,13 @@ fn read_again<R: Threads + Sync>(
     append: FoundQueue,
     rewrite: FoundQueue,
     workers: usize,
-) -> Result<Reading>
+) -> Result<ReadFiles>
     requires { (append_files : List NumberedBytes) × (rewrite_files : List NumberedBytes)
         × IsFoundQueue Append version append_files append × IsFoundQueue Rewrite version rewrite_files rewrite }
     ensures ok { (append_files rewrite_files : List NumberedBytes) → IsFoundQueue Append version append_files append
-        → IsFoundQueue Rewrite version rewrite_files rewrite → IfOk result (AreReadFound version append_files rewrite_files) }
+        → IsFoundQueue Rewrite version rewrite_files rewrite → IfOk result (λ read. AreReadFound version append_files rewrite_files read.reading) }
+    ensures damaged { (append_files : List NumberedBytes) → IsFoundQueue Append version append_files append
+        → IfOk result (λ read. AreDamagedTold version append_files read.damaged.items) }
     ensures accepted { (append_files rewrite_files : List NumberedBytes) → IsFoundQueue Append version append_files append
         → IsFoundQueue Rewrite version rewrite_files rewrite → OnOk result (AreBothAccepted mode version append_files rewrite_files) }
     ensures fault { (append_files rewrite_files : List NumberedBytes) → IsFoundQueue Append version append_files append
@@ -272,11 +267,14 @@ fn read_again<R: Threads + Sync>(
 {
     files_hold_few_records();
     segments_read_as_one_history();
-    let both = ReadySegments::of(mode, version, append, rewrite)?;
+    let tail = append.tail()?;
+    let damaged = append.damaged(rt, &tail, workers)?;
+    let both = ReadySegments::of(mode, version, append, tail, rewrite)?;
     let (append, rewrite) = (both.append.as_slice(), both.rewrite.as_slice());
     let (rewritten, appended) = replay_both(rt, alloc, rewrite, append, workers)?;
     check_groups(alloc, rewrite)?;
-    both.ready.with_contexts(alloc, appended, rewritten)
+    let reading = both.ready.with_contexts(alloc, appended, rewritten)?;
+    Ok(ReadFiles { reading, damaged })
 }
 
 /// Reads found files as [`read_found`] does, with the contexts that read them.
@@ -292,10 +290,11 @@ pub fn read_over(
     rewrite: Vec<(FileSeq, Vec<u8>)>,
     appended: MemTableRecoverContext,
     rewritten: MemTableRecoverContext,
-) -> Result<Reading>
+) -> Result<ReadFiles>
     requires { HaveReadFound version (map file_shown append.items) (map file_shown rewrite.items) appended rewritten }
-    ensures ok { IfOk result (AreReadFound version (map file_shown append.items)
-        (map file_shown rewrite.items)) }
+    ensures ok { IfOk result (λ read. AreReadFound version (map file_shown append.items)
+        (map file_shown rewrite.items) read.reading) }
+    ensures damaged { IfOk result (λ read. AreDamagedTold version (map file_shown append.items) read.damaged.items) }
     ensures accepted { OnOk result (AreBothAccepted mode version (map file_shown append.items)
         (map file_shown rewrite.items)) }
     ensures fault { IfErr result (IsOpeningRefusal (AreUngroupedAs version) mode version (map file_shown append.items)
@@ -306,7 +305,10 @@ pub fn read_over(
     segments_read_as_one_history();
     let append = FoundQueue::of(LogQueue::Append, version, append)?;
     let rewrite = FoundQueue::of(LogQueue::Rewrite, version, rewrite)?;
-    let both = ReadySegments::of(mode, version, append, rewrite)?;
+    let tail = append.tail()?;
+    let damaged = append.damaged_alone(&tail)?;
+    let both = ReadySegments::of(mode, version, append, tail, rewrite)?;
     check_groups(alloc, both.rewrite.as_slice())?;
-    both.ready.with_contexts(alloc, appended, rewritten)
+    let reading = both.ready.with_contexts(alloc, appended, rewritten)?;
+    Ok(ReadFiles { reading, damaged })
 }

@@ -73,8 +73,7 @@ fn opened<R: Threads + Sync>(
         Files::LastRewrite => (none, with_flipped(one_file(alloc)?, row.1)),
         Files::ClosedRewrite => (none, with_flipped(four_files(alloc)?, row.1)),
     };
-    let opened = open_in_mode(rt, alloc, mode, append, rewrite)??;
-    Ok(opened)
+    Ok(open_in_mode(rt, alloc, mode, append, rewrite)??)
 }
 
 /// Tests whether an opened engine holds this, and these batches were named.
@@ -103,9 +102,7 @@ fn is_answered<R: Threads + Sync>(
 }
 
 #[test]
-fn damaged_entries_of_the_last_rewrite_file_are_refused_and_those_of_the_last_append_file_named_in_each_mode(
-    rt: HostRuntime,
-) {
+fn damaged_entries_of_last_files_are_refused_or_named_in_each_mode(rt: HostRuntime) {
     for (i, row) in rows().iter().enumerate() {
         for mode in [
             RecoveryMode::AbsoluteConsistency,

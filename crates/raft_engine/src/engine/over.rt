@@ -95,7 +95,7 @@ impl<F: EngineFiles> Engine<F> {
             (map file_shown append.items) (map file_shown rewrite.items) (F.asked unopened.files) unopened.error) }
     {
         match read_over(alloc, mode, version, append, rewrite, appended, rewritten) {
-            Ok(reading) => Engine::of_reading(version, files, reading),
+            Ok(read) => Engine::of_reading(version, files, read.reading, read.damaged),
             Err(error) => Err(Unopened { files, error }),
         }
     }

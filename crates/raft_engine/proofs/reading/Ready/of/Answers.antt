@@ -20,8 +20,7 @@ returns-in_err-rewrite_ready-clause-fault c = λ version found known fa fr ta tr
     rw (p.1, p.2) (λ other. inr (c.in_err-rewrite_ready.ensures.fault Rewrite version known fr tr other))
 
 pub returns-clause-ok : goal.returns-clause-ok
-returns-clause-ok c = λ version found known fa fr ta tr td. record {
+returns-clause-ok c = λ version found known fa fr ta tr. record {
   append = c.in_ok-append_ready.ensures.ok Append version found fa ta;
   rewrite = c.in_ok-rewrite_ready.ensures.ok Rewrite version known fr tr;
-  damaged = td;
 }

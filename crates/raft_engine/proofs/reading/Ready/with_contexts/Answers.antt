@@ -71,5 +71,4 @@ returns-clause-ok c = λ mode version found known are by. record {
   };
   append_told = are.append.missing.told;
   rewrite_told = are.rewrite.missing.told;
-  damaged_told = are.damaged;
 }

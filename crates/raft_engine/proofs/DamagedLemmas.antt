@@ -54,7 +54,7 @@ module _ (p : Part) where
   -- reading reaches the end of a stretch that it reaches
   stand_up : (from end : ℕ) (xs : List (List Item)) → AreBatchesUpTo p from → StandBetween p from end xs → AreBatchesUpTo p end
   stand_up from end [] up e = subst (AreBatchesUpTo p) e up
-  stand_up from end (x ∷ xs) up s = stand_up s.0 end xs (one_batch_more p from s.0 x up s.1) s.2
+  stand_up from end (x ∷ xs) up s = stand_up s.0 end xs (one_batch_more p from x s.0 up s.1) s.2
 
   pub ends_behind : (from end : ℕ) → AreReached p from end → from ≤ end
   ends_behind from end r = stand_on p from end r.1.0 r.1.1
@@ -164,7 +164,7 @@ module _ (p : Part) where
           let n = next_of less in
           subst (IsWalkedTo from end) same (record {
             behind = (w.behind.0, w.behind.1.0 ++ n.items ∷ [], stand_more from at n.next n.items w.behind.1.0 w.behind.1.1 n.batch);
-            ahead = (one_batch_more p at n.next n.items w.ahead.0 n.batch, n.left);
+            ahead = (one_batch_more p at n.items n.next w.ahead.0 n.batch, n.left);
           })
 
       pub rises : (at < after) × (after ≤ end)

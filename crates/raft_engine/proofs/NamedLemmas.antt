@@ -33,6 +33,10 @@ use Rattle.raft_engine.specs.SoundBlocks.{HasSoundBlock}
 use Rattle.raft_engine.specs.declared.recovered.DamagedBatch.{DamagedBatch}
 use Rattle.raft_engine.proofs.BlockLemmas.{block_of, moved_batch}
 
+-- a file by its number
+abbrev file_id : LogQueue → ℕ → FileId
+file_id queue seq = record { queue = queue; seq = seq }
+
 abbrev placed : FileBlockHandle → CompressionType → EntryIndex → EntryIndex
 placed place compression e = record e { entries = Some place; compression_type = compression }
 
@@ -96,7 +100,7 @@ module _ (version : Version) (last : NumberedBytes) (named : List DamagedBatch) 
       (items_so IsSo (record { id = part.id; offset = part.offset + at + 16; len = length b.between }) b.laid_out.compression
       (λ e. λ same. elim (d.others at next items up b) [
         | inl s ↦ inl (s.0, sound_place at next items b s)
-        | inr c ↦ inr (at, omega arith, c)
+        | inr c ↦ inr (part.offset + at, refl, c)
       ]) b.read)
 
   -- ---- files
@@ -108,15 +112,15 @@ module _ (version : Version) (last : NumberedBytes) (named : List DamagedBatch) 
       let n = (batch_inside (bytes_before part m) at e.items held.1.0 held.1.1).1 in
       let k = length-take-le m part.bytes inside in
       let b = moved_batch (bytes_before part m) part.bytes at held.1.0 e.items held.1.1 (sym (take-take held.1.0 m part.bytes (omega (arith, n, k)))) in
-      (batch_named at held.1.0 e.items up b, held_named m held.1.0 h inside (one_batch_more part at held.1.0 e.items up b) held.1.2)
+      (batch_named at held.1.0 e.items up b, held_named m held.1.0 h inside (one_batch_more part at e.items held.1.0 up b) held.1.2)
 
   -- of another file
-  other_so : (queue : LogQueue) (file : NumberedBytes) (at : ℕ) (h : List Event) → (record { queue = queue; seq = file.0 } ≢ part.id) → HoldsFrom (whole_file queue version file) at h → EachEntryAmong IsSo h
+  other_so : (queue : LogQueue) (file : NumberedBytes) (at : ℕ) (h : List Event) → file_id queue file.0 ≢ part.id → HoldsFrom (whole_file queue version file) at h → EachEntryAmong IsSo h
   other_so queue file at [] other held = tt
   other_so queue file at (e ∷ h) other held =
       let b = held.1.1 in (
         subst (EachEntryIn IsSo) (sym b.places)
-            (items_so IsSo (record { id = record { queue = queue; seq = file.0 }; offset = 0 + at + 16; len = length b.between }) b.laid_out.compression (λ e. λ same. absurd (other same)) b.read),
+            (items_so IsSo (record { id = file_id queue file.0; offset = 0 + at + 16; len = length b.between }) b.laid_out.compression (λ e. λ same. absurd (other same)) b.read),
         other_so queue file held.1.0 h other held.1.2,
       )
 
@@ -124,19 +128,19 @@ module _ (version : Version) (last : NumberedBytes) (named : List DamagedBatch) 
   last_high n [] l r = r.0
   last_high n (c ∷ closed) l r = let k = last_high (suc c.0) closed l r.1 in let m = r.0 in omega (arith, k, m)
 
-  lower : (file : NumberedBytes) → file.0 < last.0 → record { queue = Append; seq = file.0 } ≢ part.id
+  lower : (file : NumberedBytes) → file.0 < last.0 → file_id Append file.0 ≢ part.id
   lower file less e = let same = ap (λ (id : FileId). id.seq) e in absurd (omega (arith, less, same))
 
   append_so : (n : ℕ) (closed : List NumberedBytes) (h : List Event) → AreRisingFrom n (numbers (closed ++ last ∷ [])) → FilesHoldTorn Append version (closed ++ last ∷ []) h → EachEntryAmong IsSo h
   append_so n [] h rising t = held_named t.at 0 h t.inside ([], refl) t.held
   append_so n (c ∷ []) h rising t =
       subst (EachEntryAmong IsSo) (sym t.split)
-      (among_join IsSo t.first t.rest (other_so Append c 0 t.first (lower c (last_high (suc c.0) [] last rising.1)) t.first_held) (append_so (suc c.0) [] t.rest rising.1 t.rest_held))
+      (among_join IsSo t.first t.rest (other_so Append c 0 t.first (lower c (let k = last_high (suc c.0) [] last rising.1 in omega (arith, k))) t.first_held) (append_so (suc c.0) [] t.rest rising.1 t.rest_held))
   append_so n (c ∷ c' ∷ closed) h rising t =
       subst (EachEntryAmong IsSo) (sym t.split)
-      (among_join IsSo t.first t.rest (other_so Append c 0 t.first (lower c (last_high (suc c.0) (c' ∷ closed) last rising.1)) t.first_held) (append_so (suc c.0) (c' ∷ closed) t.rest rising.1 t.rest_held))
+      (among_join IsSo t.first t.rest (other_so Append c 0 t.first (lower c (let k = last_high (suc c.0) (c' ∷ closed) last rising.1 in omega (arith, k))) t.first_held) (append_so (suc c.0) (c' ∷ closed) t.rest rising.1 t.rest_held))
 
-  rewritten : (seq : ℕ) → record { queue = Rewrite; seq = seq } ≢ part.id
+  rewritten : (seq : ℕ) → file_id Rewrite seq ≢ part.id
   rewritten seq e = let same : Rewrite ≡ Append = ap (λ (id : FileId). id.queue) e in absurd cc
 
   rewrite_so : (files : List NumberedBytes) (h : List Event) → FilesHoldTorn Rewrite version files h → EachEntryAmong IsSo h

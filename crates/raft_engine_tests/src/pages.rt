@@ -22,6 +22,7 @@ const PAGE: usize = 512;
 const PLACES: usize = 200;
 
 /// The only append file, and where its batches begin.
+#[derive(Drop)]
 struct File {
     bytes: Vec<u8>,
     offsets: Vec<u64>,

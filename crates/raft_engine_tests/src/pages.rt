@@ -70,6 +70,7 @@ fn are_read_or_named(opened: &mut Opened<MemoryFiles>, offsets: &[u64]) -> Resul
 }
 
 /// What came of the places.
+#[derive(Drop)]
 struct Counts {
     opened: usize,
     named: usize,

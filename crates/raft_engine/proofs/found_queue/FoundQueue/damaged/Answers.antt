@@ -18,4 +18,4 @@ returns-in-Some-clause-ok g c = λ version files f.
 
 pub returns-in-None-clause-ok : goal.returns-in-None-clause-ok
 returns-in-None-clause-ok g c = λ version files f.
-    none_damaged version files _ (rw c.in-None.is at (c.last_part.ensures Append version files (subst (AreWholeFiles Append version files) (sym c.as_slice.ensures.value) f.whole))) c.new.ensures.value
+    none_damaged version files _ (rw c.in-None.is at (c.last_part.ensures Append version files (subst (AreWholeFiles Append version files) (sym c.as_slice.ensures.value) f.whole))) c.new.ensures.items

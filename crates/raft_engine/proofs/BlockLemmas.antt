@@ -116,7 +116,7 @@ written_sound part at items entry_bytes rest tiled range some short stands other
 -- ---- a batch among other bytes
 
 -- where the bytes up to a batch's end are the same, its bytes stand
-bytes_stand : (part : Part) (xs : List ℕ) (i next : ℕ) (items : List Item) → (b : IsBatchAt part i items next) → take next xs ≡ take next part.bytes → drop i xs ≡ b.bytes ++ drop next xs
+pub bytes_stand : (part : Part) (xs : List ℕ) (i next : ℕ) (items : List Item) → (b : IsBatchAt part i items next) → take next xs ≡ take next part.bytes → drop i xs ≡ b.bytes ++ drop next xs
 bytes_stand part xs i next items b same =
     let inside = batch_inside part i items next b in
     let long = ap length same ∙ length-take-le next part.bytes inside.1 in

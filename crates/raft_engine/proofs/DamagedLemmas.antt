@@ -16,7 +16,7 @@ use Rattle.raft_replay.proofs.SegmentLemmas.{batch_none}
 use Rattle.raft_engine_prefixes.specs.Done.{AreRisingFrom}
 use Rattle.raft_engine_prefixes.specs.TornTails.{StopsAt}
 use Rattle.raft_engine_prefixes.proofs.NumberLemmas.{rising_low}
-use Rattle.raft_engine_prefixes.proofs.TornLemmas.{stand_inside, stop_unreadable}
+use Rattle.raft_engine_prefixes.proofs.TornLemmas.{stop_unreadable}
 use Rattle.raft_engine.specs.DamagedBatches.{AreDamagedBatches, AreDamagedTold, IsDamagedBatch, offsets}
 use Rattle.raft_engine.specs.DamagedStretches.{AreDamagedBetween, AreReached, IsGathered, IsReachedAt}
 use Rattle.raft_engine.specs.FoundQueues.{IsLastOf}
@@ -59,8 +59,13 @@ module _ (p : Part) where
   pub ends_behind : (from end : ℕ) → AreReached p from end → from ≤ end
   ends_behind from end r = stand_on p from end r.1.0 r.1.1
 
+  -- they end where the part does or before
+  stand_within : (i end : ℕ) (bs : List (List Item)) → i ≤ length p.bytes → StandBetween p i end bs → end ≤ length p.bytes
+  stand_within i end [] le e = omega (arith, e, le)
+  stand_within i end (b ∷ bs) le s = let n = batch_inside p i b s.0 s.1 in stand_within s.0 end bs n.1 s.2
+
   pub ends_inside : (from end : ℕ) → AreReached p from end → end ≤ length p.bytes
-  ends_inside from end r = let up = stand_up from end r.1.0 r.0 r.1.1 in stand_inside p 0 end up.0 (omega arith) up.1
+  ends_inside from end r = let up = stand_up from end r.1.0 r.0 r.1.1 in stand_within 0 end up.0 (omega arith) up.1
 
   -- two stretches are one
   joined : (from m end : ℕ) (xs ys : List DamagedBatch) → from ≤ m → m ≤ end → AreDamagedBetween p from m xs → AreDamagedBetween p m end ys → AreDamagedBetween p from end (xs ++ ys)
@@ -139,7 +144,7 @@ module _ (p : Part) where
     pub left : (batches : List (List Item)) × StandBetween p next end batches
 
   pub none_walked : (from end : ℕ) → AreReached p from end → IsWalkedTo from end from
-  none_walked from end r = record { behind = (r.0, [], refl); ahead = r }
+  none_walked from end r = record { behind = (r.0, ([], refl)); ahead = r }
 
   module _ (from end at : ℕ) (w : IsWalkedTo from end at) where
     next_of : at < end → IsNextOf end at
@@ -163,7 +168,7 @@ module _ (p : Part) where
       one_walked =
           let n = next_of less in
           subst (IsWalkedTo from end) same (record {
-            behind = (w.behind.0, w.behind.1.0 ++ n.items ∷ [], stand_more from at n.next n.items w.behind.1.0 w.behind.1.1 n.batch);
+            behind = (w.behind.0, (w.behind.1.0 ++ n.items ∷ [], stand_more from at n.next n.items w.behind.1.0 w.behind.1.1 n.batch));
             ahead = (one_batch_more p at n.items n.next w.ahead.0 n.batch, n.left);
           })
 
@@ -205,7 +210,7 @@ module _ (p : Part) where
               let same : end ≡ at = omega (arith, not_less, past) in
               absurd (batch_none p at items next (subst (IsUnreadableAt p) same none) b)
         ];
-    in_order = d.in_order;
+    in_order = subst (λ (n : ℕ). AreRisingFrom n (offsets batches)) (let none : p.offset + 0 ≡ p.offset = omega arith in none) d.in_order;
   }
 
 -- ---- the last append file

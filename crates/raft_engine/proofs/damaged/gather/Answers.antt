@@ -7,7 +7,7 @@ use Rattle.raft_engine.proofs.damaged.gather.Goals as goal
 pub loop-at-init : goal.loop-at-init
 loop-at-init c = (
   none_walked c.args.file.now c.args.from c.args.end c.requires,
-  subst (AreDamagedBetween c.args.file.now c.args.from c.args.from) (sym c.new.ensures.items) (none_there c.args.file.now c.args.from),
+  subst (AreDamagedBetween c.args.file.now c.args.from c.args.from) (sym c.new-damaged.ensures.items) (none_there c.args.file.now c.args.from),
 )
 
 pub gather_one-requires : goal.gather_one-requires

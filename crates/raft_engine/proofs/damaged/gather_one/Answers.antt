@@ -1,5 +1,4 @@
 use Rattle.std.proofs.Common.{inl, inr, refl, ◌∙◌, ap, drop, subst}
-use Rattle.std.proofs.lemmas.Result.{err_from_is_err_and}
 use Rattle.raft_codec.specs.Reading.{HasNoFront}
 use Rattle.raft_records.specs.Header.{IsHeader}
 use Rattle.raft_engine.proofs.BlockLemmas.{block_ends, block_sound, block_unsound, has_header}
@@ -9,7 +8,13 @@ pub damaged_batch-requires : goal.damaged_batch-requires
 damaged_batch-requires c =
     let r = c.requires in
     let same = c.split_at.ensures.back ∙ ap (drop c.args.at) c.bytes.ensures in
-    (r.0, r.1, r.2, r.3, block_unsound c.args.file.now c.args.at r.2 r.1 r.3 c.split_at.result.1.now same c.in_ok-items_at.ensures.ok c.in_default.ensures.refused)
+    (r.0, (r.1.0, r.1.1, r.1.2, block_unsound c.args.file.now c.args.at r.1.1 r.1.0 r.1.2 c.split_at.result.1.now same c.in_ok-items_at.ensures.ok c.in_default.ensures.refused))
+
+pub returns-in_err-items_at-clause-memory : goal.returns-in_err-items_at-clause-memory
+returns-in_err-items_at-clause-memory c =
+    let r = c.requires in
+    let same = c.split_at.ensures.back ∙ ap (drop c.args.at) c.bytes.ensures in
+    absurd (has_header c.args.file.now c.args.at r.1.1 r.1.0 r.1.2 (subst (HasNoFront IsHeader) same c.in_err-items_at.ensures.refused))
 
 pub returns-clause-ok : goal.returns-clause-ok
 returns-clause-ok c items next b =

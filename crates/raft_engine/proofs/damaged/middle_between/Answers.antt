@@ -5,6 +5,9 @@ use Rattle.raft_engine.proofs.damaged.middle_between.Goals as goal
 pub loop-at-init : goal.loop-at-init
 loop-at-init c = none_walked c.args.file.now c.args.from c.args.end c.requires
 
+pub overflow_sub-half : goal.overflow_sub-half
+overflow_sub-half c = ends_behind c.args.file.now c.args.from c.args.end c.requires
+
 pub end_of_batch-requires : goal.end_of_batch-requires
 end_of_batch-requires c =
     let test = c.loop-at-test.true in

@@ -33,7 +33,7 @@ returns-in_err-check_groups-clause-fault g c = λ found known fa fr.
     (read_sound Rewrite _ _ r.of_queue read.history read.held (λ small. (read.stands small, read.exact small))) (λ h there small sound. c.in_err-check_groups.ensures.fault other h ((r.same h).0 there) small sound)))))))
 
 pub damaged-requires : goal.damaged-requires
-damaged-requires g c = let r = c.requires in (c.type_bounds.sync-R, Append, c.args.version, r.0, r.2, c.in_ok-tail.ensures.ok Append c.args.version r.0 r.2)
+damaged-requires g c = let r = c.requires in (c.type_bounds.sync-R, (Append, c.args.version, r.0, r.2, c.in_ok-tail.ensures.ok Append c.args.version r.0 r.2))
 
 pub of-requires : goal.of-requires
 of-requires g c = let r = c.requires in (r.0, r.1, r.2, r.3, c.in_ok-tail.ensures.ok Append c.args.version r.0 r.2)

@@ -25,7 +25,7 @@ damaged-requires g c =
     let fa = c.in_ok-append.ensures.ok in
     let fr = c.in_ok-rewrite.ensures.ok in
     let b = c.in-Ok.ensures c.args.version _ _ (subst (AreWholeFiles Append c.args.version _) (sym c.as_slice-segments.ensures.value) fa.whole) (subst (AreWholeFiles Rewrite c.args.version _) (sym c.as_slice-rewrite_segments.ensures.value) fr.whole) in
-    (c.type_bounds.sync-R, Append, c.args.version, map file_shown c.args.append.items, fa, b.appended.told)
+    (c.type_bounds.sync-R, (Append, c.args.version, map file_shown c.args.append.items, fa, b.appended.told))
 
 pub of-requires-3 : goal.of-requires-3
 of-requires-3 g c =

@@ -1,21 +1,21 @@
 mod RefusedLemmas
-mod FoundLemmas
-mod FileNumbers
+pub mod FoundLemmas
+pub mod FileNumbers
 mod ReadyLemmas
 mod AskedLemmas
 mod OfVersionLemmas
 mod BlockLemmas
 mod SealedLemmas
 mod MarkerLemmas
-mod GroupRowLemmas
+pub mod GroupRowLemmas
 mod ReadQueueLemmas
-mod FoundQueueLemmas
+pub mod FoundQueueLemmas
 mod DamagedLemmas
-mod RecoveredLemmas
+pub mod RecoveredLemmas
 mod FoundDoneLemmas
 mod JoinedLemmas
 mod FoundStoredLemmas
-mod OpenedLemmas
+pub mod OpenedLemmas
 mod DrainLemmas
 mod LastingLemmas
 mod WholeLemmas
@@ -23,7 +23,7 @@ mod PrefixFiles
 mod LeftBytes
 mod UnreadLemmas
 mod OpensLemmas
-mod ModeLemmas
+pub mod ModeLemmas
 mod CopiesLemmas
 mod RestartLemmas
 mod SyncedLemmas
@@ -79,5 +79,6 @@ mod MomentLemmas
 mod EntryLemmas
 mod LifeLemmas
 mod OwnFileLemmas
+mod TrustLemmas
 mod WellPutLemmas
 mod NamedLemmas

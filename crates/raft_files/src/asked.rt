@@ -3,10 +3,12 @@ ghost use Rattle.std.specs.Prelude.{◌≡◌, List, [], ◌∷◌, map};
 ghost use Rattle.std.specs.Borrow.{ftrue};
 ghost use Rattle.std.specs.Coded.{coded_list};
 ghost use Rattle.raft_files.specs.AskCode.{ask_code};
-ghost use Rattle.raft_files.specs.Asks.{Ask, Begin, Cut, Delete, Found, IsAsked, Put, Read, Sync, ask};
+ghost use Rattle.raft_base.specs.declared.pipe_log.LogQueue.TheVariants.{Append, Rewrite};
+ghost use Rattle.raft_files.specs.Asks.{Ask, NumberedBytes, Begin, Cut, Delete, Found, IsAsked, Put, Read, Sync, Unsynced, ask};
 ghost use Rattle.raft_files.specs.HeldFiles.{file_shown};
 ghost use Rattle.raft_files.specs.Notes.{ask_noted, found_noted, queue_noted};
 
+use crate::Found;
 use raft_base::{FileBlockHandle, FileSeq, LogQueue};
 use std::marker::{Model, PhantomData};
 
@@ -21,6 +23,8 @@ const DELETE: u64 = 3;
 const CUT: u64 = 4;
 
 const READ: u64 = 5;
+
+const UNSYNCED: u64 = 6;
 
 /// What was asked of files, newest first. It has no bytes when a program runs: whoever implements
 /// [`EngineFiles`](crate::EngineFiles) over files whose contents no contract tells keeps one, and notes each ask.
@@ -65,6 +69,13 @@ impl Asked {
         self.note(&[number_of(queue), SYNC, 0], &[]);
     }
 
+    /// Notes that a sync failed.
+    pub fn unsynced(&mut self, queue: LogQueue)
+        ensures { IsAsked (ask queue Unsynced) self.old.asks self.new.asks }
+    {
+        self.note(&[number_of(queue), UNSYNCED, 0], &[]);
+    }
+
     /// Notes that the oldest file was deleted.
     pub fn delete(&mut self, queue: LogQueue)
         ensures { IsAsked (ask queue Delete) self.old.asks self.new.asks }
@@ -100,6 +111,19 @@ impl Asked {
         ensures { IsAsked (ask queue (Found (map file_shown files.now.items))) self.old.asks self.new.asks }
     {
         self.note_found(&[number_of(queue)], files);
+    }
+
+    /// Makes the list of what was asked once files of both queues are found: some of those that may be, by what says so. No byte
+    /// of them is held.
+    pub fn of_found<X: Found>(found: &X) -> Asked
+        requires { (append : List NumberedBytes) × (rewrite : List NumberedBytes) × X.are_found found.now append rewrite }
+        ensures { (append : List NumberedBytes) × (rewrite : List NumberedBytes) × X.are_found found.now append rewrite
+            × (result.asks ≡ ask Rewrite (Found rewrite) ∷ ask Append (Found append) ∷ []) }
+    {
+        let _ = found;
+        Asked {
+            marker: PhantomData,
+        }
     }
 
     /// Notes files that are found, by the number of their queue.

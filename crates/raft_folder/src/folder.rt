@@ -162,6 +162,19 @@ impl<'a, R: FolderHost> Folder<'a, R> {
         Ok(files)
     }
 
+    /// Returns the number and the path of each file of a queue, oldest first.
+    ///
+    /// # Errors
+    ///
+    /// `Memory`.
+    pub(crate) fn paths(&self, queue: LogQueue) -> FolderResult<Vec<(FileSeq, String)>> {
+        let mut paths = Vec::new(self.rt.alloc());
+        for seq in self.files(queue).keys() {
+            paths.push((*seq, self.path_of(FileId::new(queue, *seq))?))?;
+        }
+        Ok(paths)
+    }
+
     /// Syncs the files of a queue, one after another.
     ///
     /// # Errors
@@ -170,6 +183,24 @@ impl<'a, R: FolderHost> Folder<'a, R> {
     pub(crate) fn sync_all(&self, queue: LogQueue) -> FolderResult<()> {
         for (seq, file) in self.files(queue) {
             self.about_file(FileId::new(queue, *seq), file.sync_all())?;
+        }
+        Ok(())
+    }
+
+    /// Refuses files of a queue that begin with a header of their own, of which the first bytes are read: no batch can be read in
+    /// them, so that they would be taken for torn, and cut.
+    ///
+    /// # Errors
+    ///
+    /// `Foreign` for such a file, `System`, `Memory`.
+    pub(crate) fn check_headers(&self, queue: LogQueue) -> FolderResult<()> {
+        for (seq, file) in self.files(queue) {
+            let id = FileId::new(queue, *seq);
+            let len = self.len_of(id, file)?.min(FOREIGN_HEADER.len() as u64);
+            let begin = self.about_file(id, self.bytes_at(file, 0, len as usize))?;
+            if begin.as_slice() == FOREIGN_HEADER {
+                return Err(FolderError::Foreign(self.path_of(id)?));
+            }
         }
         Ok(())
     }

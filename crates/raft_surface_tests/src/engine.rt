@@ -8,7 +8,9 @@ ghost use Rattle.raft_engine.specs.ReadContexts.{HaveReadFound};
 ghost use Rattle.raft_engine.specs.StoredFound.{found_asks};
 
 use raft_engine::{CutTail, DamagedBatch, Engine, Opened, Recovered, RecoveryMode, Unopened};
-use raft_files::{EngineFiles, MemoryFiles};
+use raft_files::{EngineFiles, MemoryFiles, NotesFound};
+use raft_opening::open_in_pieces;
+use raft_reading::{FileSize, ReadFiles};
 use raft_recover::{
     Error, FileSeq, LogBatch, LogQueue, MemTableAccessor, MemTableRecoverContext, Result, Segment,
     Version,
@@ -126,6 +128,26 @@ where
     requires { F.asked files ≡ found_asks (map file_shown append.items) (map file_shown rewrite.items) }
 {
     Engine::<F>::open_telling::<R>(rt, alloc, mode, version, files, append, rewrite, workers)
+}
+
+/// Opens an engine over files that are read in pieces.
+fn open_engine_in_pieces<R: Threads + Sync, F: NotesFound, S: ReadFiles>(
+    rt: &R,
+    alloc: Global,
+    mode: RecoveryMode,
+    version: Version,
+    files: F,
+    source: &S,
+    append: &[FileSize],
+    rewrite: &[FileSize],
+    workers: usize,
+) -> std::result::Result<Opened<F>, Unopened<F>>
+where
+    requires { F.asked files ≡ [] }
+{
+    open_in_pieces::<R, F, S>(
+        rt, alloc, mode, version, files, source, append, rewrite, workers,
+    )
 }
 
 /// Opens an engine over files that contexts have read in a mode, and tells what was cut off from them.

@@ -1,0 +1,183 @@
+//! Files that are read in pieces when they are opened: what is opened of them, a read that fails, and a file that changes.
+
+use crate::batches::Part::Large;
+use crate::batches::{Part, REGION};
+use crate::calls::{copies, holds, new_engine, rotate, write};
+use crate::engine::text_of;
+use raft_base::{FileBlockHandle, FileId, FileSeq, LogQueue, Version};
+use raft_engine::{Opened, RecoveryMode, Unopened};
+use raft_files::{Asked, EngineFiles, NotesFound};
+use raft_opening::open_in_pieces;
+use raft_reading::{FileSize, ReadFiles};
+use raft_records::{Error, Result};
+use std::alloc::Global;
+use std::io;
+use std::io::ErrorKind;
+use std::thread::Threads;
+
+/// Files of an engine of which only what is asked is noted.
+#[derive(Drop)]
+struct UnreadFiles {
+    asked: Asked,
+}
+
+impl EngineFiles for UnreadFiles {
+    ghost asked = { λ files. files.asked.asks };
+
+    fn append(&mut self, queue: LogQueue, bytes: &[u8]) -> Result<()> {
+        self.asked.put(queue, bytes);
+        Ok(())
+    }
+
+    fn rotate(&mut self, queue: LogQueue, seq: FileSeq) -> Result<()> {
+        self.asked.begin(queue, seq);
+        Ok(())
+    }
+
+    fn sync(&mut self, queue: LogQueue) -> Result<()> {
+        self.asked.sync(queue);
+        Ok(())
+    }
+
+    fn delete_oldest(&mut self, queue: LogQueue) -> Result<()> {
+        self.asked.delete(queue);
+        Ok(())
+    }
+
+    fn truncate(&mut self, queue: LogQueue, len: u64) -> Result<()> {
+        self.asked.cut(queue, len);
+        Ok(())
+    }
+
+    fn read(&mut self, _place: FileBlockHandle) -> Result<Vec<u8>> {
+        Err(Error::Failed)
+    }
+}
+
+impl NotesFound for UnreadFiles {
+    fn note_found(&mut self, found: Asked) {
+        self.asked = found;
+    }
+}
+
+/// Two append files in memory, of which reads fail from an offset on.
+#[derive(Drop)]
+struct TwoFiles {
+    first: Vec<u8>,
+    second: Vec<u8>,
+    fails_from: u64,
+}
+
+impl ReadFiles for TwoFiles {
+    fn read(&self, file: FileId, offset: u64, len: usize, bytes: &mut Vec<u8>) -> io::Result<()> {
+        if offset >= self.fails_from {
+            return Err(io::Error::from(ErrorKind::TimedOut));
+        }
+        let held = if file.seq == 1 {
+            &self.first
+        } else {
+            &self.second
+        };
+        bytes.extend_from_slice(part_of(held.as_slice(), offset, len))?;
+        Ok(())
+    }
+}
+
+/// Returns so many of these bytes, from an offset on; fewer where they end before.
+fn part_of(bytes: &[u8], offset: u64, len: usize) -> &[u8] {
+    let Some((_, rest)) = bytes.split_at_checked(offset as usize) else {
+        return &[];
+    };
+    let (part, _) = rest.split_at(len.min(rest.len()));
+    part
+}
+
+/// How many bytes the second file lacks at its end, from where on reads fail, and what is opened; nothing where it is refused.
+type Row = (usize, u64, &'static str);
+
+static ROWS: [Row; 5] = [
+    (0, u64::MAX, "[1,2801)"),
+    (1, u64::MAX, "[1,2401)"),
+    (1_400_000, u64::MAX, "[1,801)"),
+    (7_400_000, u64::MAX, "[1,401)"),
+    (0, 4 << 20, ""),
+];
+
+/// What the batches of the second file say: two of more than a MiB each, and between them one that is longer than a piece.
+static SECOND: [Part; 3] = [Large(401, 801), Large(801, 2401), Large(2401, 2801)];
+
+/// Makes the bytes of two files, of which the first has one batch, and the second three.
+fn two_files(alloc: Global) -> Result<(Vec<u8>, Vec<u8>)> {
+    let mut engine = new_engine(alloc)?;
+    write(alloc, &mut engine, &[Large(1, 401)], false)?;
+    rotate(&mut engine)?;
+    for part in &SECOND {
+        write(alloc, &mut engine, &[*part], false)?;
+    }
+    let mut files = copies(&engine, LogQueue::Append)?;
+    let Some((_, second)) = files.pop() else {
+        return Err(Error::Failed);
+    };
+    let Some((_, first)) = files.pop() else {
+        return Err(Error::Failed);
+    };
+    Ok((first, second))
+}
+
+/// Returns two files, of which the second one lacks bytes and reads fail as a row says.
+fn held_by(alloc: Global, first: &[u8], second: &[u8], row: &Row) -> Result<TwoFiles> {
+    let (left, _) = second.split_at(second.len().saturating_sub(row.0));
+    Ok(TwoFiles {
+        first: Vec::from_slice(alloc, first)?,
+        second: Vec::from_slice(alloc, left)?,
+        fails_from: row.1,
+    })
+}
+
+/// Opens two files, which four workers read.
+fn open<R: Threads + Sync>(
+    rt: &R,
+    alloc: Global,
+    held: &TwoFiles,
+) -> std::result::Result<Opened<UnreadFiles>, Unopened<UnreadFiles>> {
+    let files = UnreadFiles {
+        asked: Asked::new(),
+    };
+    let mode = RecoveryMode::TolerateTornTail;
+    let sizes = [size(1, held.first.len()), size(2, held.second.len())];
+    open_in_pieces(rt, alloc, mode, Version::V2, files, held, &sizes, &[], 4)
+}
+
+fn size(seq: FileSeq, len: usize) -> FileSize {
+    FileSize {
+        seq,
+        len: len as u64,
+    }
+}
+
+/// Tests whether two files are opened as a row says. A refusal other than that of a read that fails is handed on.
+fn is_opened<R: Threads + Sync>(rt: &R, alloc: Global, held: &TwoFiles, row: &Row) -> Result<bool> {
+    match open(rt, alloc, held) {
+        Ok(opened) => Ok(text_of(alloc, opened.engine.accessor().get(REGION))?.as_str() == row.2),
+        Err(unopened) => match unopened.error {
+            Error::Io(e) => Ok(row.2.is_empty() && e.kind() == ErrorKind::TimedOut),
+            error => Err(error),
+        },
+    }
+}
+
+fn are_opened<R: Threads + Sync>(rt: &R, alloc: Global) -> Result<bool> {
+    let (first, second) = two_files(alloc)?;
+    for row in &ROWS {
+        let held = held_by(alloc, first.as_slice(), second.as_slice(), row)?;
+        if !is_opened(rt, alloc, &held, row)? {
+            return Ok(false);
+        }
+    }
+    Ok(true)
+}
+
+#[test]
+fn files_are_opened_in_pieces(rt: HostRuntime) {
+    assert!(rt; holds!(are_opened(&rt, rt.alloc())));
+}

@@ -1,0 +1,2 @@
+pub mod SizedFiles
+pub mod ReadOnce

@@ -1,0 +1,20 @@
+//! An engine that is opened over files which are read in pieces.
+#![tactic(auto)]
+
+mod file_rest;
+pub mod folder;
+mod last_file;
+pub mod opening;
+mod path_source;
+#[doc(hidden)]
+pub mod piece_reading;
+#[doc(hidden)]
+pub mod queue_read;
+#[doc(hidden)]
+pub mod sized_files;
+mod sized_reading;
+
+#[doc(hidden)]
+pub use file_rest::check_rest;
+pub use folder::open_folder;
+pub use opening::open_in_pieces;

@@ -1,20 +1,20 @@
 mod RefusedLemmas
-mod FoundLemmas
-mod FileNumbers
+pub mod FoundLemmas
+pub mod FileNumbers
 mod ReadyLemmas
 mod AskedLemmas
 mod OfVersionLemmas
 mod BlockLemmas
 mod SealedLemmas
 mod MarkerLemmas
-mod GroupRowLemmas
+pub mod GroupRowLemmas
 mod ReadQueueLemmas
-mod FoundQueueLemmas
-mod RecoveredLemmas
+pub mod FoundQueueLemmas
+pub mod RecoveredLemmas
 mod FoundDoneLemmas
 mod JoinedLemmas
 mod FoundStoredLemmas
-mod OpenedLemmas
+pub mod OpenedLemmas
 mod DrainLemmas
 mod LastingLemmas
 mod WholeLemmas
@@ -22,7 +22,7 @@ mod PrefixFiles
 mod LeftBytes
 mod UnreadLemmas
 mod OpensLemmas
-mod ModeLemmas
+pub mod ModeLemmas
 mod CopiesLemmas
 mod RestartLemmas
 mod SyncedLemmas

@@ -332,7 +332,7 @@ file_of_queue : (queue : LogQueue) (version : Version) (file : NumberedBytes) (a
 file_of_queue queue version file at [] held = tt
 file_of_queue queue version file at (e ∷ h) held = (ap (λ (id : FileId). id.queue) held.0, file_of_queue queue version file held.1.0 h held.1.2)
 
-files_of_queue : (queue : LogQueue) (version : Version) (files : List NumberedBytes) (h : List Event) → FilesHold queue version files h → IsOfQueue queue h
+pub files_of_queue : (queue : LogQueue) (version : Version) (files : List NumberedBytes) (h : List Event) → FilesHold queue version files h → IsOfQueue queue h
 files_of_queue queue version [] h held = subst (IsOfQueue queue) (sym held) (record { each = tt })
 files_of_queue queue version (file ∷ files) h held =
     subst (IsOfQueue queue) (sym held.split)

@@ -225,7 +225,8 @@ impl<F: EngineFiles> Engine<F> {
     ///
     /// The files are handed back. Those of `EngineFiles`: some of it was asked then, and whatever is left of the files has the
     /// records that were found.
-    fn of_reading(
+    #[doc(hidden)]
+    pub fn of_reading(
         version: Version,
         files: F,
         reading: Reading,

@@ -61,7 +61,7 @@ pub fn check_numbers(queue: LogQueue, files: &Vec<(FileSeq, Vec<u8>)>) -> Result
 /// # Errors
 ///
 /// `Corruption`, `Memory`.
-fn check_next(alloc: Global, queue: LogQueue, last: FileSeq, next: FileSeq) -> Result<()>
+pub fn check_next(alloc: Global, queue: LogQueue, last: FileSeq, next: FileSeq) -> Result<()>
     ensures ok { OnOk result (next ≡ suc last) }
     ensures refused { IfErr result (λ e. e ≢ Error.Memory → IsApartAs queue last next e) }
 {
@@ -147,7 +147,7 @@ fn check_tolerated(mode: RecoveryMode, file: &FilePart, at: usize) -> Result<()>
 }
 
 /// Returns the refusal of a file of which nothing may be cut off.
-fn uncut(file: &FilePart, at: usize) -> Error
+pub fn uncut(file: &FilePart, at: usize) -> Error
     ensures { IsCorruption (uncut_text file.now.id at) result }
 {
     corruption_at(file.allocator(), file.id(), at as u64, UNCUT)
@@ -178,7 +178,7 @@ fn check_undamaged(file: &FilePart, at: usize) -> Result<()>
 }
 
 /// Returns the refusal of a file for a batch that can be read behind one that can't be.
-fn followed(file: &FilePart, at: usize, sound: usize) -> Error
+pub fn followed(file: &FilePart, at: usize, sound: usize) -> Error
     ensures { IsCorruption (followed_text file.now.id at sound) result }
 {
     let alloc = file.allocator();
@@ -192,7 +192,7 @@ fn followed(file: &FilePart, at: usize, sound: usize) -> Error
 }
 
 /// Returns the refusal of a file for a batch that is signed for another one.
-fn of_elsewhere(file: &FilePart, at: usize, offset: usize, seq: FileSeq) -> Error
+pub fn of_elsewhere(file: &FilePart, at: usize, offset: usize, seq: FileSeq) -> Error
     ensures { IsCorruption (elsewhere_text file.now.id at offset seq) result }
 {
     let alloc = file.allocator();
@@ -210,7 +210,7 @@ fn of_elsewhere(file: &FilePart, at: usize, offset: usize, seq: FileSeq) -> Erro
 /// # Errors
 ///
 /// `Corruption` for the other version, `InvalidArgument` for raft-engine, both with the place; `Memory`.
-fn check_beginning(file: &FilePart, at: usize) -> Result<()>
+pub fn check_beginning(file: &FilePart, at: usize) -> Result<()>
     ensures ok { OnOk result (at ≡ 0 → ¬ (BeginsInOther file.now ⊎ IsOfEngine file.now)) }
     ensures refused { IfErr result (λ e. e ≢ Error.Memory
         → (at ≡ 0) × IsOtherText file.now e) }

@@ -3,20 +3,26 @@
 
 mod block_reads;
 mod blocks;
-mod both;
+#[doc(hidden)]
+pub mod both;
 mod both_reading;
 pub mod engine;
-mod found;
-mod found_queue;
+#[doc(hidden)]
+pub mod found;
+#[doc(hidden)]
+pub mod found_queue;
 mod group_batches;
 mod group_moves;
 mod group_puts;
-mod group_rows;
+#[doc(hidden)]
+pub mod group_rows;
 mod groups;
-mod limits;
+#[doc(hidden)]
+pub mod limits;
 #[doc(hidden)]
 pub mod lives;
-mod missing;
+#[doc(hidden)]
+pub mod missing;
 #[doc(hidden)]
 pub mod moments;
 mod moved;
@@ -25,11 +31,13 @@ mod opened;
 mod parts;
 mod purge;
 mod put;
-mod queue_files;
+#[doc(hidden)]
+pub mod queue_files;
 mod queue_reading;
 mod read_back;
 mod readable_replay;
-mod reading;
+#[doc(hidden)]
+pub mod reading;
 mod recovered;
 mod recovery_mode;
 pub mod restarts;

@@ -108,7 +108,7 @@ impl Ready {
     /// # Errors
     ///
     /// `Full` where what is to be told at once has 2^56 bytes or more; `Memory`.
-    fn with_contexts(
+    pub fn with_contexts(
         self,
         alloc: Global,
         appended: MemTableRecoverContext,

@@ -39,6 +39,8 @@ mod round_trip;
 #[cfg(test)]
 mod rules;
 #[cfg(test)]
+mod sized;
+#[cfg(test)]
 mod stored;
 #[cfg(test)]
 mod untold;

@@ -1,14 +1,18 @@
 //! The engine, from `raft_engine`.
 
-ghost use Rattle.std.specs.Prelude.{◌≡◌, [], map};
+ghost use Rattle.std.specs.Prelude.{◌≡◌, List, [], map};
 ghost use Rattle.std.specs.Fn.{FnOnceReturnsAtMut};
+ghost use Rattle.raft_files.specs.Asks.{NumberedBytes};
 ghost use Rattle.raft_files.specs.HeldFiles.{file_shown};
 ghost use Rattle.raft_records.specs.LogBatch.{is_open};
 ghost use Rattle.raft_engine.specs.ReadContexts.{HaveReadFound};
+ghost use Rattle.raft_opening.specs.SizedFiles.{AreBothSized};
 ghost use Rattle.raft_engine.specs.StoredFound.{found_asks};
 
 use raft_engine::{CutTail, Engine, Opened, Recovered, RecoveryMode, Unopened};
 use raft_files::{EngineFiles, MemoryFiles};
+use raft_opening::open_sized;
+use raft_reading::{FileSize, ReadFiles};
 use raft_recover::{
     Error, FileSeq, LogBatch, LogQueue, MemTableAccessor, MemTableRecoverContext, Result, Segment,
     Version,
@@ -126,6 +130,28 @@ where
     requires { F.asked files ≡ found_asks (map file_shown append.items) (map file_shown rewrite.items) }
 {
     Engine::<F>::open_telling::<R>(rt, alloc, mode, version, files, append, rewrite, workers)
+}
+
+/// Opens an engine over files that are read in pieces.
+fn open_engine_sized<R: Threads + Sync, F: EngineFiles, S: ReadFiles>(
+    rt: &R,
+    alloc: Global,
+    mode: RecoveryMode,
+    version: Version,
+    files: F,
+    source: &S,
+    append: &[FileSize],
+    rewrite: &[FileSize],
+    workers: usize,
+) -> std::result::Result<Opened<F>, Unopened<F>>
+where
+    requires { (append_files : List NumberedBytes) × (rewrite_files : List NumberedBytes)
+        × (F.asked files ≡ found_asks append_files rewrite_files)
+        × AreBothSized (S.gives source.now) append.now rewrite.now append_files rewrite_files }
+{
+    open_sized::<R, F, S>(
+        rt, alloc, mode, version, files, source, append, rewrite, workers,
+    )
 }
 
 /// Opens an engine over files that contexts have read in a mode, and tells what was cut off from them.

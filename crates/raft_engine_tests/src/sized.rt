@@ -1,0 +1,162 @@
+//! Files that are read in pieces when they are opened: what is opened of them, and a read that fails.
+
+ghost use Rattle.std.specs.Prelude.{◌≡◌, ◌++◌, ℕ, List, drop};
+
+use crate::batches::Part::Large;
+use crate::batches::{Part, REGION};
+use crate::calls::{copies, holds, new_engine, rotate, write};
+use crate::engine::text_of;
+use raft_base::{FileId, FileSeq, LogQueue, Version};
+use raft_engine::{Opened, RecoveryMode, Unopened};
+use raft_files::MemoryFiles;
+use raft_opening::open_sized;
+use raft_reading::{FileSize, ReadFiles};
+use raft_records::{Error, Result};
+use std::alloc::Global;
+use std::io;
+use std::io::ErrorKind;
+use std::thread::Threads;
+
+/// Two append files in memory, of which reads fail from an offset on.
+#[derive(Drop)]
+struct TwoFiles {
+    first: Vec<u8>,
+    second: Vec<u8>,
+    fails_from: u64,
+}
+
+impl TwoFiles {
+    /// Returns so many bytes of a file, from an offset on; fewer where the file ends before.
+    fn part(&self, seq: FileSeq, offset: u64, len: usize) -> &[u8]
+        ensures first { seq ≡ 1 → (rest : List ℕ) × (drop offset self.now.first.items ≡ result.now ++ rest) }
+        ensures second { seq ≡ 2 → (rest : List ℕ) × (drop offset self.now.second.items ≡ result.now ++ rest) }
+    {
+        let file = if seq == 1 { &self.first } else { &self.second };
+        part_of(file.as_slice(), offset, len)
+    }
+}
+
+/// Returns so many of these bytes, from an offset on; fewer where they end before.
+fn part_of(bytes: &[u8], offset: u64, len: usize) -> &[u8]
+    ensures { (rest : List ℕ) × (drop offset bytes.now ≡ result.now ++ rest) }
+{
+    let Some((_, rest)) = bytes.split_at_checked(offset as usize) else {
+        return &[];
+    };
+    let (part, _) = rest.split_at(len.min(rest.len()));
+    part
+}
+
+impl ReadFiles for TwoFiles {
+    ghost use Rattle.std.specs.Prelude.{◌≡◌, ◌++◌, ℕ, List, drop};
+
+    ghost gives = { λ held file offset bytes. (file.seq ≡ 1 → (rest : List ℕ) × (drop offset held.first.items ≡ bytes ++ rest))
+        × (file.seq ≡ 2 → (rest : List ℕ) × (drop offset held.second.items ≡ bytes ++ rest)) };
+
+    fn read(&self, file: FileId, offset: u64, len: usize, bytes: &mut Vec<u8>) -> io::Result<()> {
+        if offset >= self.fails_from {
+            return Err(io::Error::from(ErrorKind::TimedOut));
+        }
+        bytes.extend_from_slice(self.part(file.seq, offset, len))?;
+        Ok(())
+    }
+}
+
+/// How many bytes the second file lacks at its end, from where on reads fail, and what is opened; nothing where it is refused.
+type Row = (usize, u64, &'static str);
+
+static ROWS: [Row; 5] = [
+    (0, u64::MAX, "[1,2001)"),
+    (1, u64::MAX, "[1,1601)"),
+    (1_400_000, u64::MAX, "[1,1201)"),
+    (4_800_000, u64::MAX, "[1,401)"),
+    (0, 4 << 20, ""),
+];
+
+/// What the batches of the second file say, of more than a MiB each: the last one begins in the first piece that is read, and ends in
+/// the second.
+static SECOND: [Part; 4] = [
+    Large(401, 801),
+    Large(801, 1201),
+    Large(1201, 1601),
+    Large(1601, 2001),
+];
+
+/// Makes the bytes of two files, of which the first has one batch, and the second four.
+fn two_files(alloc: Global) -> Result<(Vec<u8>, Vec<u8>)> {
+    let mut engine = new_engine(alloc)?;
+    write(alloc, &mut engine, &[Large(1, 401)], false)?;
+    rotate(&mut engine)?;
+    for part in &SECOND {
+        write(alloc, &mut engine, &[*part], false)?;
+    }
+    let mut files = copies(&engine, LogQueue::Append)?;
+    let Some((_, second)) = files.pop() else {
+        return Err(Error::Failed);
+    };
+    let Some((_, first)) = files.pop() else {
+        return Err(Error::Failed);
+    };
+    Ok((first, second))
+}
+
+/// Returns two files, of which the second one lacks bytes and reads fail as a row says.
+fn held_by(alloc: Global, first: &[u8], second: &[u8], row: &Row) -> Result<TwoFiles> {
+    let (left, _) = second.split_at(second.len().saturating_sub(row.0));
+    Ok(TwoFiles {
+        first: Vec::from_slice(alloc, first)?,
+        second: Vec::from_slice(alloc, left)?,
+        fails_from: row.1,
+    })
+}
+
+/// Opens two files, which four workers read.
+fn open<R: Threads + Sync>(
+    rt: &R,
+    alloc: Global,
+    held: &TwoFiles,
+) -> Result<std::result::Result<Opened<MemoryFiles>, Unopened<MemoryFiles>>> {
+    let mut append = Vec::new(alloc);
+    append.push((1, Vec::from_slice(alloc, held.first.as_slice())?))?;
+    append.push((2, Vec::from_slice(alloc, held.second.as_slice())?))?;
+    let files = MemoryFiles::found(append, Vec::new(alloc));
+    let mode = RecoveryMode::TolerateTornTail;
+    let sizes = [size(1, held.first.len()), size(2, held.second.len())];
+    Ok(open_sized(rt, alloc, mode, Version::V2, files, held, &sizes, &[], 4))
+}
+
+fn size(seq: FileSeq, len: usize) -> FileSize
+    ensures { result ≡ record { seq = seq; len = len } }
+{
+    FileSize {
+        seq,
+        len: len as u64,
+    }
+}
+
+/// Tests whether two files are opened as a row says. A refusal other than that of a read that fails is handed on.
+fn is_opened<R: Threads + Sync>(rt: &R, alloc: Global, held: &TwoFiles, row: &Row) -> Result<bool> {
+    match open(rt, alloc, held)? {
+        Ok(opened) => Ok(text_of(alloc, opened.engine.accessor().get(REGION))?.as_str() == row.2),
+        Err(unopened) => match unopened.error {
+            Error::Io(e) => Ok(row.2.is_empty() && e.kind() == ErrorKind::TimedOut),
+            error => Err(error),
+        },
+    }
+}
+
+fn are_opened<R: Threads + Sync>(rt: &R, alloc: Global) -> Result<bool> {
+    let (first, second) = two_files(alloc)?;
+    for row in &ROWS {
+        let held = held_by(alloc, first.as_slice(), second.as_slice(), row)?;
+        if !is_opened(rt, alloc, &held, row)? {
+            return Ok(false);
+        }
+    }
+    Ok(true)
+}
+
+#[test]
+fn files_are_opened_in_pieces(rt: HostRuntime) {
+    assert!(rt; holds!(are_opened(&rt, rt.alloc())));
+}

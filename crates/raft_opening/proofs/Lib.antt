@@ -1,0 +1,3 @@
+mod RestLemmas
+mod SizedLemmas
+mod SizedReadLemmas

@@ -1,0 +1,7 @@
+use Rattle.std.proofs.Common.{drop}
+use Rattle.raft_opening.specs.SizedFiles.{numbers_of}
+use Rattle.raft_engine.proofs.FileNumbers.{AreReadUpTo}
+use Rattle.raft_opening.proofs.sized_files.check_sizes.Given as goal
+
+abbrev pub invariant-loop-file : goal.invariant-loop-file
+invariant-loop-file l = AreReadUpTo (numbers_of l.fn.sizes) l.last (numbers_of (drop l.file-index l.rest))

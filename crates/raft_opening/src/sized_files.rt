@@ -1,0 +1,208 @@
+//! The found files of a queue by their sizes, whose bytes are read where they are needed.
+
+ghost use Rattle.std.specs.Prelude.{◌≡◌, ◌≢◌, ◌⊎◌, ◌<◌, ◌≤◌, ◌^◌, List, ℕ, length, IfErr, IfOk, OnOk};
+ghost use Rattle.raft_files.specs.Asks.{NumberedBytes};
+ghost use Rattle.raft_records.specs.FilePart.{part_of};
+ghost use Rattle.raft_recover.specs.FileRecovery.{bytes_of_sizes};
+ghost use Rattle.raft_engine.specs.FoundFiles.{IsFoundFault};
+ghost use Rattle.raft_engine.specs.FoundQueues.{IsMissingOf};
+ghost use Rattle.raft_opening.specs.SizedFiles.{AreKnownOf, AreLeft, AreNumbersApartAs, AreSized, GivesOnly, IsPartFault, IsReadRefusal, IsSizedQueue, IsTailAccepted, numbers_of};
+ghost use Rattle.raft_engine_prefixes.specs.Done.{AreConsecutive, numbers};
+
+use crate::file_rest::check_rest;
+use raft_base::{Error, FileId, LogFileContext, LogQueue, Result, Version};
+use raft_engine::found::check_next;
+use raft_engine::found_queue::ReadyQueue;
+use raft_engine::limits::FIRST_SEQ;
+use raft_engine::missing::Missing;
+use raft_engine::queue_files::QueueFiles;
+use raft_engine::{CutTail, RecoveryMode};
+use raft_prefix::{Prefix, read_prefix, read_rest};
+use raft_reading::{FileSize, ReadFiles};
+use std::alloc::Global;
+
+/// The found files of a queue by their sizes, which a mode accepts.
+#[derive(Drop)]
+pub struct SizedQueue {
+    pub ready: ReadyQueue,
+    /// The sizes of those that are to be read, the last one up to its torn tail.
+    pub left: Vec<FileSize>,
+}
+
+impl SizedQueue {
+    /// Makes found files of a queue, of which the last one is read to find its tail, ready in a mode.
+    ///
+    /// # Errors
+    ///
+    /// `Corruption` where the number of a file isn't one above that of the file before it; those of [`missing_of`]; `Memory`.
+    pub fn of<S: ReadFiles>(
+        alloc: Global,
+        source: &S,
+        mode: RecoveryMode,
+        queue: LogQueue,
+        version: Version,
+        sizes: &[FileSize],
+    ) -> Result<SizedQueue>
+        ensures ok { (files : List NumberedBytes) → AreSized (S.gives source.now) queue sizes.now files
+            → IfOk result (IsSizedQueue mode queue version files) }
+        ensures fault { (files : List NumberedBytes) → AreSized (S.gives source.now) queue sizes.now files
+            → IfErr result (λ e. e ≢ Error.Memory → IsFoundFault mode queue version files e
+            ⊎ IsReadRefusal (S.gives source.now) (S.may_fail source.now) e) }
+    {
+        check_sizes(alloc, queue, sizes)?;
+        let missing = missing_of(alloc, source, mode, queue, version, sizes)?;
+        let left = sizes_left(alloc, sizes, &missing)?;
+        let known = known_of(alloc, left.as_slice())?;
+        let ready = ReadyQueue { missing, known };
+        Ok(SizedQueue { ready, left })
+    }
+}
+
+/// Refuses the files of a queue where the number of one isn't one above that of the file before it.
+///
+/// # Errors
+///
+/// `Corruption`, which names the first missing file where one is missing between two; `Memory`.
+fn check_sizes(alloc: Global, queue: LogQueue, sizes: &[FileSize]) -> Result<()>
+    ensures ok { OnOk result (AreConsecutive (numbers_of sizes.now)) }
+    ensures refused { IfErr result (λ e. e ≢ Error.Memory → AreNumbersApartAs queue (numbers_of sizes.now) e) }
+{
+    let Some((first, rest)) = sizes.split_first() else {
+        return Ok(());
+    };
+    let mut last = first.seq;
+    for file in rest {
+        check_next(alloc, queue, last, file.seq)?;
+        last = file.seq;
+    }
+    Ok(())
+}
+
+/// Returns what is known of files; of the first one, where there is none.
+///
+/// # Errors
+///
+/// `Memory`.
+fn known_of(alloc: Global, sizes: &[FileSize]) -> Result<QueueFiles>
+    ensures ok { IfOk result (AreKnownOf sizes.now) }
+    ensures memory { IfErr result (λ e. e ≡ Error.Memory) }
+{
+    let Some((last, rest)) = sizes.split_last() else {
+        return Ok(QueueFiles::first(alloc, FIRST_SEQ));
+    };
+    let mut closed = Vec::new(alloc);
+    for file in rest {
+        closed.push(file.seq)?;
+    }
+    Ok(QueueFiles {
+        closed,
+        seq: last.seq,
+        len: last.len,
+    })
+}
+
+/// Returns the sizes of the files that are to be read, the last one up to its torn tail.
+///
+/// # Errors
+///
+/// `Memory`.
+fn sizes_left(alloc: Global, sizes: &[FileSize], missing: &Missing) -> Result<Vec<FileSize>>
+    ensures ok { IfOk result (λ left. AreLeft missing.now sizes.now left.items) }
+    ensures memory { IfErr result (λ e. e ≡ Error.Memory) }
+{
+    let mut left = Vec::from_slice(alloc, sizes)?;
+    if let Missing::Cut(tail) = missing {
+        if let Some(last) = left.pop() {
+            left.push(FileSize {
+                seq: last.seq,
+                len: tail.offset,
+            })?;
+        }
+    }
+    Ok(left)
+}
+
+/// Returns what is missing of a queue's files, the last of which is read up to where no batch can be read, and what stands there
+/// is looked at.
+///
+/// # Errors
+///
+/// Those of [`tail_of`].
+fn missing_of<S: ReadFiles>(
+    alloc: Global,
+    source: &S,
+    mode: RecoveryMode,
+    queue: LogQueue,
+    version: Version,
+    sizes: &[FileSize],
+) -> Result<Missing>
+    ensures ok { (files : List NumberedBytes) → AreSized (S.gives source.now) queue sizes.now files → AreConsecutive (numbers files)
+        → IfOk result (IsMissingOf mode queue version files) }
+    ensures fault { (files : List NumberedBytes) → AreSized (S.gives source.now) queue sizes.now files
+        → IfErr result (λ e. e ≢ Error.Memory → IsFoundFault mode queue version files e
+        ⊎ IsReadRefusal (S.gives source.now) (S.may_fail source.now) e) }
+{
+    let Some((last, _)) = sizes.split_last() else {
+        return Ok(Missing::FirstFile);
+    };
+    let file = LogFileContext::new(FileId::new(queue, last.seq), version);
+    match tail_of(alloc, source, mode, &file, last.len)? {
+        None => Ok(Missing::Nothing),
+        Some(tail) => Ok(Missing::Cut(tail)),
+    }
+}
+
+/// Returns the tail of a file of `len` bytes that can't be read, if it has one, and a mode doesn't refuse it. In a rewrite file
+/// the entries of each batch are checked.
+///
+/// # Errors
+///
+/// `Corruption` where the mode refuses the tail, the file is of the other version, or the entries of a batch of a rewrite file are
+/// damaged; `InvalidArgument` where it is of raft-engine; `Io`, whose text begins with the queue, the file and the offset, where
+/// a read fails or gives another number of bytes; `Memory`.
+fn tail_of<S: ReadFiles>(
+    alloc: Global,
+    source: &S,
+    mode: RecoveryMode,
+    file: &LogFileContext,
+    len: u64,
+) -> Result<Option<CutTail>>
+    ensures ok { (bytes : List ℕ) → length bytes ≡ len → GivesOnly (S.gives source.now file.now.id) bytes
+        → IfOk result (IsTailAccepted mode (part_of file.now 0 bytes)) }
+    ensures fault { (bytes : List ℕ) → length bytes ≡ len → GivesOnly (S.gives source.now file.now.id) bytes
+        → IfErr result (λ e. e ≢ Error.Memory → IsPartFault mode (part_of file.now 0 bytes) e
+        ⊎ IsReadRefusal (S.gives source.now) (S.may_fail source.now) e) }
+{
+    let prefix = read_prefix(alloc, source, file, len)?;
+    let Prefix { len: at, stopped } = prefix;
+    let Some(error) = stopped else {
+        return Ok(None);
+    };
+    let rest = read_rest(alloc, source, file, at, len)?;
+    check_rest(mode, &rest)?;
+    Ok(Some(CutTail {
+        file: file.id.seq,
+        offset: at,
+        len: len - at,
+        error,
+    }))
+}
+
+/// Refuses files that have 2^63 bytes or more together.
+///
+/// # Errors
+///
+/// `Full`.
+pub fn check_few_bytes(sizes: &[FileSize]) -> Result<()>
+    ensures ok { OnOk result (bytes_of_sizes sizes.now < 2 ^ 63) }
+    ensures fault { IfErr result (λ e. (2 ^ 63 ≤ bytes_of_sizes sizes.now) × (e ≡ Error.Full)) }
+{
+    let mut left: u64 = (1 << 63) - 1;
+    for file in sizes {
+        let Some(less) = left.checked_sub(file.len) else {
+            return Err(Error::Full);
+        };
+        left = less;
+    }
+    Ok(())
+}

@@ -1,0 +1,268 @@
+-- The entry blocks of the batches of a part.
+use Rattle.std.proofs.Common.{◌≡◌, inl, inr, ℕ, ◌+◌, ◌-◌, ◌<◌, ◌≤◌, List, [], ◌∷◌, ◌++◌, length, take, drop, refl, sym, ap, ◌∙◌, subst, arith, append_assoc, length-append}
+use Rattle.std.proofs.lemmas.Bool.{cases_lt}
+use Rattle.std.proofs.lemmas.List.{append_cancel_left, drop-append-le, drop-take, drop_at, length-take-le, nil_from_length, take-append-drop, take-append-le, take-take, take_at}
+use Rattle.raft_base.specs.declared.compression_type.CompressionType.{CompressionType}
+use Rattle.raft_base.specs.Corruption.{IsCorruption}
+use Rattle.raft_base.specs.declared.errors.Error.{Error}
+use Rattle.raft_codec.specs.Reading.{HasNoFront, Reads}
+use Rattle.raft_records.specs.FilePart.{AreBatchesUpTo, IsBatchAt, Part, StandBetween}
+use Rattle.raft_records.specs.Header.{IsEntryBlockOf, IsHeader}
+use Rattle.raft_records.specs.Item.{Item}
+use Rattle.raft_records.specs.LogBatch.{entry_block, header_bytes}
+use Rattle.raft_records.proofs.BufferLemmas.{header_len}
+use Rattle.raft_records.proofs.FrameLemmas.{framed, header_one}
+use Rattle.raft_records.proofs.Names.{part_signature}
+use Rattle.raft_records.proofs.PartLemmas.{batch_inside}
+use Rattle.raft_replay.specs.Cuts.{bytes_before}
+use Rattle.raft_replay.specs.Stops.{IsUnreadableAt}
+use Rattle.raft_replay.specs.WrittenParts.{with_bytes}
+use Rattle.raft_replay.proofs.SegmentLemmas.{batch_none, batch_unique}
+use Rattle.raft_prefix.specs.Blocks.{AreBlocksSound, AreSoundTo, HasSoundBlock, IsUnsoundAs, damaged_entries_text}
+
+-- ---- one batch
+
+-- where a header is read in front of a batch, its entry block lies behind it
+pub block_behind : (part : Part) (at next : ℕ) (items : List Item) (b : IsBatchAt part at items next) (behind : List ℕ) (offset len : ℕ) (compression : CompressionType)
+    → Reads IsHeader (drop at part.bytes) behind (offset, compression, len) → (offset - 16 ≡ length b.between) × (behind ≡ b.between ++ (b.laid_out.behind ++ drop next part.bytes)) × (len ≡ length b.bytes)
+block_behind part at next items b behind offset len compression h =
+    let more = drop next part.bytes in
+    let l = b.laid_out in
+    let f = framed b.bytes (part_signature part) b.read b.between l in
+    let one = header_one h.front f.header.front behind (drop 16 b.bytes ++ more) (offset, compression, len) (16 + length b.between, f.compression, length b.bytes) h.spells f.header.spells
+    (sym h.split ∙ b.stands ∙ ap (λ (t : List ℕ). t ++ more) f.header.split ∙ append_assoc f.header.front (drop 16 b.bytes) more) in
+    let same : offset ≡ 16 + length b.between = ap (λ (x : ℕ × CompressionType × ℕ). x.0) one.1 in
+    let rest : behind ≡ drop 16 b.bytes ++ more =
+    append_cancel_left h.front behind (drop 16 b.bytes ++ more)
+    (sym h.split ∙ b.stands ∙ ap (λ (t : List ℕ). t ++ more) f.header.split ∙ append_assoc f.header.front (drop 16 b.bytes) more ∙ ap (λ (t : List ℕ). t ++ (drop 16 b.bytes ++ more)) (sym one.0)) in
+    let head = header_bytes (16 + length b.between) l.compression (length b.bytes) in
+    let body : drop 16 b.bytes ≡ b.between ++ l.behind = ap (drop 16) l.split ∙ drop_at head (b.between ++ l.behind) 16 (header_len (16 + length b.between) l.compression (length b.bytes)) in
+    (omega (arith, same), rest ∙ ap (λ (t : List ℕ). t ++ more) body ∙ append_assoc b.between l.behind more, ap (λ (x : ℕ × CompressionType × ℕ). x.2) one.1)
+
+-- an entry block of this length in front of bytes that begin with as many others
+sealed_as : (len : ℕ) (between more entry_bytes : List ℕ) → len ≡ length between → IsEntryBlockOf len (between ++ more) entry_bytes → between ≡ entry_block entry_bytes
+sealed_as len between more entry_bytes e (inl h) = nil_from_length between (omega (arith, e, h.0)) ∙ ap entry_block (sym h.1)
+sealed_as len between more [] e (inr h) = absurd (omega (arith, h.2.some))
+sealed_as len between more (x ∷ entry_bytes) e (inr h) = sym (take_at between more len (sym e)) ∙ h.2.split
+
+pub block_of : (len : ℕ) (between more entry_bytes : List ℕ) → len ≡ length between → between ≡ entry_block entry_bytes → IsEntryBlockOf len (between ++ more) entry_bytes
+block_of len between more [] e is = let none = ap length is in inl (omega (arith, e, none), refl)
+block_of len between more (x ∷ entry_bytes) e is =
+    let long = ap length is in
+    let n = length-append between more in
+    inr (omega (arith, e, long), omega (arith, e, n), record { some = omega arith; split = take_at between more len (sym e) ∙ is })
+
+module _ {behind : List ℕ} {offset len : ℕ} {compression : CompressionType} (part : Part) (at next : ℕ) (items : List Item) (b : IsBatchAt part at items next)
+    (bytes : List ℕ) (same : bytes ≡ drop at part.bytes) (h : Reads IsHeader bytes behind (offset, compression, len)) where
+  block_here : (offset - 16 ≡ length b.between) × (behind ≡ b.between ++ (b.laid_out.behind ++ drop next part.bytes)) × (len ≡ length b.bytes)
+  block_here = block_behind part at next items b behind offset len compression (subst (λ (xs : List ℕ). Reads IsHeader xs behind (offset, compression, len)) same h)
+
+  -- an entry block that was read behind the header is the batch's
+  pub block_sound : (entry_bytes : List ℕ) → IsEntryBlockOf (offset - 16) behind entry_bytes → HasSoundBlock b
+  block_sound entry_bytes is =
+      let r = block_here in
+      (entry_bytes, sealed_as (offset - 16) b.between (b.laid_out.behind ++ drop next part.bytes) entry_bytes r.0 (subst (λ (t : List ℕ). IsEntryBlockOf (offset - 16) t entry_bytes) r.1 is))
+
+  -- where none was read, it isn't sound
+  pub block_unsound : ((entry_bytes : List ℕ) → ¬ (IsEntryBlockOf (offset - 16) behind entry_bytes)) → ¬ (HasSoundBlock b)
+  block_unsound none s =
+      let r = block_here in
+      none s.0 (subst (λ (t : List ℕ). IsEntryBlockOf (offset - 16) t s.0) (sym r.1) (block_of (offset - 16) b.between (b.laid_out.behind ++ drop next part.bytes) s.0 r.0 s.1))
+
+  -- the batch ends where its header says
+  pub block_ends : at + len ≡ next
+  block_ends = let r = block_here in ap (λ (n : ℕ). at + n) r.2 ∙ sym b.ends
+
+-- a batch has a header in front
+pub has_header : (part : Part) (at next : ℕ) (items : List Item) → IsBatchAt part at items next → ¬ (HasNoFront IsHeader (drop at part.bytes))
+has_header part at next items b none =
+    let f = framed b.bytes (part_signature part) b.read b.between b.laid_out in
+    let more = drop next part.bytes in
+    none f.header.front (drop 16 b.bytes ++ more) (16 + length b.between, f.compression, length b.bytes) f.header.spells
+    (b.stands ∙ ap (λ (t : List ℕ). t ++ more) f.header.split ∙ append_assoc f.header.front (drop 16 b.bytes) more)
+
+-- ---- a batch among other bytes
+
+-- where the bytes up to a batch's end are the same, its bytes stand
+bytes_stand : (part : Part) (xs : List ℕ) (i next : ℕ) (items : List Item) → (b : IsBatchAt part i items next) → take next xs ≡ take next part.bytes → drop i xs ≡ b.bytes ++ drop next xs
+bytes_stand part xs i next items b same =
+    let inside = batch_inside part i items next b in
+    let long = ap length same ∙ length-take-le next part.bytes inside.1 in
+    let begins : i ≤ length (take next xs) = omega (arith, long, inside.0) in
+    let front : drop i (take next part.bytes) ≡ b.bytes =
+    ap (λ (n : ℕ). drop i (take n part.bytes)) b.ends ∙ drop-take i (length b.bytes) part.bytes ∙ ap (take (length b.bytes)) b.stands ∙ take_at b.bytes (drop next part.bytes) (length b.bytes) refl in
+    ap (drop i) (sym (take-append-drop next xs)) ∙ drop-append-le i (take next xs) (drop next xs) begins ∙ ap (λ (t : List ℕ). t ++ drop next xs) (ap (drop i) same ∙ front)
+
+-- so the same batch stands there
+abbrev moved_batch : (part : Part) (xs : List ℕ) (i next : ℕ) (items : List Item) → IsBatchAt part i items next → take next xs ≡ take next part.bytes → IsBatchAt (record part { bytes = xs }) i items next
+moved_batch part xs i next items b same = record {
+  bytes = b.bytes;
+  read = b.read;
+  between = b.between;
+  laid_out = b.laid_out;
+  stands = bytes_stand part xs i next items b same;
+  ends = b.ends;
+  places = b.places;
+}
+
+-- ---- the batches of a part
+
+-- batches end where they begin or behind it
+pub stand_on : (p : Part) (from end : ℕ) (bs : List (List Item)) → StandBetween p from end bs → from ≤ end
+stand_on p from end [] e = omega (arith, e)
+stand_on p from end (x ∷ bs) s =
+    let n = (batch_inside p from x s.0 s.1).0 in
+    let m = stand_on p s.0 end bs s.2 in
+    omega (arith, n, m)
+
+-- batches that go on behind a byte at which one stands go on behind that one
+stand_past : (p : Part) (from m i next : ℕ) (items : List Item) (ys xs : List (List Item)) → StandBetween p from m ys → IsBatchAt p m items next → StandBetween p from i xs → m < i → next ≤ i
+stand_past p from m i next items [] [] s b t less = absurd (omega (arith, s, t, less))
+stand_past p from m i next items [] (x ∷ xs) s b t less =
+    let same = (batch_unique p m items x next t.0 b (subst (λ (n : ℕ). IsBatchAt p n x t.0) s t.1)).1 in
+    let n = stand_on p t.0 i xs t.2 in
+    omega (arith, same, n)
+stand_past p from m i next items (y ∷ ys) [] s b t less =
+    let n = (batch_inside p from y s.0 s.1).0 in
+    let k = stand_on p s.0 m ys s.2 in
+    absurd (omega (arith, n, k, t, less))
+stand_past p from m i next items (y ∷ ys) (x ∷ xs) s b t less =
+    let same : t.0 ≡ s.0 = (batch_unique p from x y t.0 s.0 t.1 s.1).1 in
+    stand_past p s.0 m i next items ys xs s.2 b (subst (λ (n : ℕ). StandBetween p n i xs) same t.2) less
+
+-- none go on behind a byte at which no batch can be read
+none_past : (p : Part) (from m i : ℕ) (ys xs : List (List Item)) → StandBetween p from m ys → IsUnreadableAt p m → StandBetween p from i xs → i ≤ m
+none_past p from m i [] [] s none t = omega (arith, s, t)
+none_past p from m i [] (x ∷ xs) s none t = absurd (batch_none p from x t.0 (subst (IsUnreadableAt p) (sym s) none) t.1)
+none_past p from m i (y ∷ ys) [] s none t =
+    let n = (batch_inside p from y s.0 s.1).0 in
+    let k = stand_on p s.0 m ys s.2 in
+    omega (arith, n, k, t)
+none_past p from m i (y ∷ ys) (x ∷ xs) s none t =
+    let same : t.0 ≡ s.0 = (batch_unique p from x y t.0 s.0 t.1 s.1).1 in
+    none_past p s.0 m i ys xs s.2 none (subst (λ (n : ℕ). StandBetween p n i xs) same t.2)
+
+module _ (p : Part) where
+  pub none_sound : AreSoundTo p 0
+  none_sound i next items up b le = let n = (batch_inside p i items next b).0 in absurd (omega (arith, n, le))
+
+  -- one batch more
+  pub one_more_sound : (m next : ℕ) (items : List Item) → AreBatchesUpTo p m → IsBatchAt p m items next → ((others : List Item) (n : ℕ) (c : IsBatchAt p m others n) → HasSoundBlock c)
+      → AreSoundTo p m → AreSoundTo p next
+  one_more_sound m next items up b here before i n others up' c le = elim (cases_lt i m) [
+    | inl less ↦ before i n others up' c (stand_past p 0 i m n others up'.0 up.0 up'.1 c up.1 less)
+    | inr not_less ↦ elim (cases_lt m i) [
+      | inl more ↦
+          let past = stand_past p 0 m i next items up.0 up'.0 up.1 b up'.1 more in
+          let long = (batch_inside p i others n c).0 in
+          absurd (omega (arith, past, long, le))
+      | inr not_more ↦
+          let same : m ≡ i = omega (arith, not_less, not_more) in
+          subst (λ (j : ℕ). (d : IsBatchAt p j others n) → HasSoundBlock d) same (here others n) c
+    ]
+  ]
+
+  -- where reading stops these are all
+  pub all_sound : (m : ℕ) → AreBatchesUpTo p m → IsUnreadableAt p m → AreSoundTo p m → AreBlocksSound p
+  all_sound m stood none before i n others up c = elim (cases_lt i m) [
+    | inl less ↦ before i n others up c (stand_past p 0 i m n others up.0 stood.0 up.1 c stood.1 less)
+    | inr not_less ↦
+        let past = none_past p 0 m i stood.0 up.0 stood.1 none up.1 in
+        let same : m ≡ i = omega (arith, not_less, past) in
+        absurd (batch_none p i others n (subst (IsUnreadableAt p) same none) c)
+  ]
+
+  -- ---- a prefix of its bytes
+
+  module _ (m : ℕ) (inside : m ≤ length p.bytes) where
+    same_bytes : (n : ℕ) → n ≤ m → take n p.bytes ≡ take n (take m p.bytes)
+    same_bytes n le = sym (take-take n m p.bytes le)
+
+    ends_before : (i n : ℕ) (items : List Item) → IsBatchAt (bytes_before p m) i items n → n ≤ m
+    ends_before i n items b =
+        let a = (batch_inside (bytes_before p m) i items n b).1 in
+        let k = length-take-le m p.bytes inside in
+        omega (arith, a, k)
+
+    abbrev in_whole : (i n : ℕ) (items : List Item) → IsBatchAt (bytes_before p m) i items n → IsBatchAt p i items n
+    in_whole i n items b = moved_batch (bytes_before p m) p.bytes i n items b (same_bytes n (ends_before i n items b))
+
+    abbrev in_prefix : (i n : ℕ) (items : List Item) → n ≤ m → IsBatchAt p i items n → IsBatchAt (bytes_before p m) i items n
+    in_prefix i n items le b = moved_batch p (take m p.bytes) i n items b (sym (same_bytes n le))
+
+    stand_in_whole : (from end : ℕ) (bs : List (List Item)) → StandBetween (bytes_before p m) from end bs → StandBetween p from end bs
+    stand_in_whole from end [] s = s
+    stand_in_whole from end (x ∷ bs) s = (s.0, in_whole from s.0 x s.1, stand_in_whole s.0 end bs s.2)
+
+    stand_in_prefix : (from end : ℕ) (bs : List (List Item)) → end ≤ m → StandBetween p from end bs → StandBetween (bytes_before p m) from end bs
+    stand_in_prefix from end [] le s = s
+    stand_in_prefix from end (x ∷ bs) le s =
+        let n = stand_on p s.0 end bs s.2 in
+        (s.0, in_prefix from s.0 x (omega (arith, n, le)) s.1, stand_in_prefix s.0 end bs le s.2)
+
+    pub prefix_sound : AreSoundTo p m → AreBlocksSound (bytes_before p m)
+    prefix_sound before i n items up b = before i n items (up.0, stand_in_whole 0 i up.0 up.1) (in_whole i n items b) (ends_before i n items b)
+
+    pub sound_to : AreBlocksSound (bytes_before p m) → AreSoundTo p m
+    sound_to before i n items up b le =
+        let k = (batch_inside p i items n b).0 in
+        before i n items (up.0, stand_in_prefix 0 i up.0 (omega (arith, k, le)) up.1) (in_prefix i n items le b)
+
+    pub part_of_sound : AreBlocksSound p → AreBlocksSound (bytes_before p m)
+    part_of_sound all = prefix_sound (λ i n items up b le. all i n items up b)
+
+-- the first batch whose block isn't sound
+pub first_unsound : (p : Part) (m next : ℕ) (items : List Item) → m ≤ length p.bytes → AreBatchesUpTo p m → (b : IsBatchAt p m items next) → ¬ (HasSoundBlock b) → AreSoundTo p m
+    → (e : Error) → IsCorruption (damaged_entries_text p.id m) e → IsUnsoundAs p e
+first_unsound p m next items inside up b none before e text = record {
+  block = record {
+    at = m;
+    next = next;
+    items = items;
+    batches = up;
+    batch = b;
+    unsound = none;
+    before = prefix_sound p m inside before;
+  };
+  text = text;
+}
+
+-- ---- more bytes behind
+
+module _ (p : Part) (more : List ℕ) where
+  same_front : (m : ℕ) → m ≤ length p.bytes → take m (p.bytes ++ more) ≡ take m p.bytes
+  same_front m inside = take-append-le m p.bytes more inside
+
+  abbrev in_longer : (i n : ℕ) (items : List Item) → IsBatchAt p i items n → IsBatchAt (with_bytes p more) i items n
+  in_longer i n items b = moved_batch p (p.bytes ++ more) i n items b (same_front n (batch_inside p i items n b).1)
+
+  stand_in_longer : (from end : ℕ) (bs : List (List Item)) → StandBetween p from end bs → StandBetween (with_bytes p more) from end bs
+  stand_in_longer from end [] s = s
+  stand_in_longer from end (x ∷ bs) s = (s.0, in_longer from s.0 x s.1, stand_in_longer s.0 end bs s.2)
+
+  pub longer_up_to : (m : ℕ) → AreBatchesUpTo p m → AreBatchesUpTo (with_bytes p more) m
+  longer_up_to m up = (up.0, stand_in_longer 0 m up.0 up.1)
+
+  longer_length : length p.bytes ≤ length (p.bytes ++ more)
+  longer_length = omega (arith, length-append p.bytes more)
+
+  pub longer_sound : (m : ℕ) → m ≤ length p.bytes → AreSoundTo p m → AreSoundTo (with_bytes p more) m
+  longer_sound m inside sound =
+      sound_to (with_bytes p more) m (let l = longer_length in omega (arith, inside, l))
+      (subst (λ (xs : List ℕ). AreBlocksSound (record p { bytes = xs })) (sym (same_front m inside)) (prefix_sound p m inside sound))
+
+  pub longer_unsound : (e : Error) → IsUnsoundAs p e → IsUnsoundAs (with_bytes p more) e
+  longer_unsound e u =
+      let inside = batch_inside p u.block.at u.block.items u.block.next u.block.batch in
+      record {
+        block = record {
+          at = u.block.at;
+          next = u.block.next;
+          items = u.block.items;
+          batches = longer_up_to u.block.at u.block.batches;
+          batch = in_longer u.block.at u.block.next u.block.items u.block.batch;
+          unsound = u.block.unsound;
+          before = subst (λ (xs : List ℕ). AreBlocksSound (record p { bytes = xs })) (sym (same_front u.block.at (omega (arith, inside.0, inside.1)))) u.block.before;
+        };
+        text = u.text;
+      }

@@ -1,0 +1,12 @@
+use Rattle.std.proofs.Common.{◌-◌, ◌≤◌, length}
+use Rattle.raft_prefix.specs.Pieces.{ArePassed}
+use Rattle.raft_prefix.proofs.readable.readable_in.Given as goal
+
+abbrev pub invariant-loop-next : goal.invariant-loop-next
+invariant-loop-next l = record {
+  inside : l.at ≤ length l.bytes;
+  passed : ArePassed l.file l.offset l.bytes l.at;
+}
+
+abbrev pub decreases-loop-next : goal.decreases-loop-next
+decreases-loop-next l = length l.bytes - l.at

@@ -45,7 +45,8 @@ pub mod restarts;
 pub mod rewriting;
 mod segments;
 mod stored;
-mod stored_found;
+#[doc(hidden)]
+pub mod stored_found;
 mod unopened;
 mod untold;
 

@@ -41,8 +41,8 @@ pub(crate) struct Folder<'a, R: FolderHost> {
 }
 
 impl<'a, R: FolderHost> Folder<'a, R> {
-    /// Opens a folder with all log files in it, for one who changes them. A folder that isn't there yet is made. Its name, and
-    /// those of the files, are on the disk then.
+    /// Opens a folder with all log files in it, for one who changes them. A folder that isn't there yet is made. Its name, those of
+    /// the files, and their bytes are on the disk then.
     ///
     /// # Errors
     ///
@@ -57,6 +57,8 @@ impl<'a, R: FolderHost> Folder<'a, R> {
         let mut folder = Folder::of(rt, path, locked);
         folder.open_files(&how)?;
         about_path(rt, path, folder.sync_names())?;
+        folder.sync_all(LogQueue::Append)?;
+        folder.sync_all(LogQueue::Rewrite)?;
         Ok(folder)
     }
 
@@ -162,12 +164,25 @@ impl<'a, R: FolderHost> Folder<'a, R> {
         Ok(files)
     }
 
+    /// Returns the number and the path of each file of a queue, oldest first.
+    ///
+    /// # Errors
+    ///
+    /// `Memory`.
+    pub(crate) fn paths(&self, queue: LogQueue) -> FolderResult<Vec<(FileSeq, String)>> {
+        let mut paths = Vec::new(self.rt.alloc());
+        for seq in self.files(queue).keys() {
+            paths.push((*seq, self.path_of(FileId::new(queue, *seq))?))?;
+        }
+        Ok(paths)
+    }
+
     /// Syncs the files of a queue, one after another.
     ///
     /// # Errors
     ///
     /// `System`, `Memory`. Some files may then not be synced.
-    pub(crate) fn sync_all(&self, queue: LogQueue) -> FolderResult<()> {
+    fn sync_all(&self, queue: LogQueue) -> FolderResult<()> {
         for (seq, file) in self.files(queue) {
             self.about_file(FileId::new(queue, *seq), file.sync_all())?;
         }

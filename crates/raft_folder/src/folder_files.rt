@@ -51,8 +51,6 @@ impl<'a, R: FolderHost> FolderFiles<'a, R> {
             ∷ ask Append (Found (map file_shown found.append.items)) ∷ []) }
     {
         let folder = Folder::open(rt, path)?;
-        folder.sync_all(LogQueue::Append)?;
-        folder.sync_all(LogQueue::Rewrite)?;
         let append = folder.bytes_of_files(LogQueue::Append)?;
         let rewrite = folder.bytes_of_files(LogQueue::Rewrite)?;
         let mut asked = Asked::new();
@@ -70,6 +68,23 @@ impl<'a, R: FolderHost> FolderFiles<'a, R> {
         })
     }
 
+    /// Opens a folder as [`FolderFiles::open`] does, but reads no file, for one who cuts them: none is noted as found, so no engine can be opened
+    /// over them.
+    ///
+    /// # Errors
+    ///
+    /// Those of [`FolderFiles::open`], but for `Foreign`.
+    pub fn open_unread(rt: &'a R, path: &'a str) -> FolderResult<FolderFiles<'a, R>>
+        ensures { IfOk result (λ files. files.asked.asks ≡ []) }
+    {
+        let folder = Folder::open(rt, path)?;
+        Ok(FolderFiles {
+            folder,
+            asked: Asked::new(),
+            has_failed: false,
+        })
+    }
+
     /// Returns the files of a queue, oldest first.
     ///
     /// # Errors
@@ -77,6 +92,15 @@ impl<'a, R: FolderHost> FolderFiles<'a, R> {
     /// `System`, `Memory`.
     pub fn list(&self, queue: LogQueue) -> FolderResult<Vec<FolderFile>> {
         self.folder.list(queue)
+    }
+
+    /// Returns the number and the path of each file of a queue, oldest first.
+    ///
+    /// # Errors
+    ///
+    /// `Memory`.
+    pub fn paths(&self, queue: LogQueue) -> FolderResult<Vec<(FileSeq, String)>> {
+        self.folder.paths(queue)
     }
 
     /// Returns the path of a log file, whether it is there or not.

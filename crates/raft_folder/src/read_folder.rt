@@ -43,6 +43,15 @@ impl<'a, R: FolderHost> ReadFolder<'a, R> {
         self.folder.list(queue)
     }
 
+    /// Returns the number and the path of each file of a queue, oldest first.
+    ///
+    /// # Errors
+    ///
+    /// `Memory`.
+    pub fn paths(&self, queue: LogQueue) -> FolderResult<Vec<(FileSeq, String)>> {
+        self.folder.paths(queue)
+    }
+
     /// Returns the files of a queue with their bytes, oldest first.
     ///
     /// # Errors

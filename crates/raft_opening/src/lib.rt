@@ -7,3 +7,5 @@ mod sized_files;
 mod sized_reading;
 
 pub use opening::open_sized;
+#[doc(hidden)]
+pub use sized_reading::read_sized;

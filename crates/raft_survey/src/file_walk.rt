@@ -225,7 +225,7 @@ fn bytes_wanted(alloc: Global, bytes: &[u8], left: u64) -> usize
 /// # Errors
 ///
 /// Those of the file, `Io` where it gives another number of bytes; `Memory`.
-pub(crate) fn read_behind<S: ReadFiles>(
+fn read_behind<S: ReadFiles>(
     source: &S,
     file: FileId,
     at: u64,

@@ -18,7 +18,7 @@ use Rattle.raft_engine.specs.declared.recovered.Recovered.{Recovered}
 use Rattle.raft_engine.specs.declared.recovery_mode.RecoveryMode.TheVariants.{TolerateTornTail}
 use Rattle.raft_engine.proofs.OpenedLemmas.{opened_so}
 use Rattle.raft_opening.specs.SizedFiles.{AreBothSized, IsReadRefusal}
-use Rattle.raft_inspect.specs.Openings.{AreRefusedFor, AreTablesOf, CutsNothing, HoldsOfFiles, IsOpenedSo, IsOpeningOf, IsReadingOf}
+use Rattle.raft_inspect.specs.Openings.{AreRefusedFor, AreTablesOf, CutsNothing, HoldsOfFiles, IsOpenedSo, IsOpeningOf, IsAcceptedSo}
 use Rattle.raft_inspect.specs.SoundFiles.{IsUncut}
 use Rattle.raft_inspect.specs.declared.opening.Opening.{Opening}
 use Rattle.raft_inspect.specs.declared.opening.Opening.TheVariants.{Opens, Refuses}
@@ -43,7 +43,7 @@ module _ (Gives : FileId → ℕ → List ℕ → Type 0) (Fails : FileId → �
   pub read_so : (ready : FoundFilesAreReady) (stored : FoundFilesAreStored) (lasting : FoundRecordsLast) (r : Result Reading Error)
       → ((a b : List NumberedBytes) → AreBothSized Gives append rewrite a b → IfOk r (AreReadFound version a b))
       → ((a b : List NumberedBytes) → AreBothSized Gives append rewrite a b → OnOk r (AreBothAccepted TolerateTornTail version a b))
-      → IfOk r (λ reading. HoldsOfFiles Gives append rewrite (IsReadingOf version reading))
+      → IfOk r (λ reading. HoldsOfFiles Gives append rewrite (IsAcceptedSo version reading))
   read_so ready stored lasting (Ok reading) found accepted = λ a b sized.
       let f = found a b sized in
       record {
@@ -63,7 +63,7 @@ module _ (Gives : FileId → ℕ → List ℕ → Type 0) (Fails : FileId → �
   refused_so workers (Err e) refused = λ other a b sized. refused a b sized
 
   -- the tails that were told are to be cut off
-  pub opens_so : (workers : ℕ) (reading : Reading) (recovered : Recovered) → HoldsOfFiles Gives append rewrite (IsReadingOf version reading)
+  pub opens_so : (workers : ℕ) (reading : Reading) (recovered : Recovered) → HoldsOfFiles Gives append rewrite (IsAcceptedSo version reading)
       → recovered.append ≡ tail_of reading.append_missing → recovered.rewrite ≡ tail_of reading.rewrite_missing → IsOpeningOf Gives Fails version workers append rewrite (Opens recovered)
   opens_so workers reading recovered read is_append is_rewrite = λ a b sized.
       let r = read a b sized in

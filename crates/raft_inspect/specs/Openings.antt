@@ -39,7 +39,7 @@ pub record IsOpenedSo (version : Version) (recovered : Recovered) (append rewrit
   pub are_tables : AreTablesOf version tables append rewrite
 
 -- what a reading says of files that are accepted: the tails that are missing are to be cut off, and an engine would have its tables
-pub record IsReadingOf (version : Version) (reading : Reading) (append rewrite : List NumberedBytes) : Type 0 where
+pub record IsAcceptedSo (version : Version) (reading : Reading) (append rewrite : List NumberedBytes) : Type 0 where
   pub accepted : AreBothAccepted TolerateTornTail version append rewrite
   pub append_told : IsTailTold Append version append (tail_of reading.append_missing)
   pub rewrite_told : IsTailTold Rewrite version rewrite (tail_of reading.rewrite_missing)

@@ -4,7 +4,7 @@ ghost use Rattle.std.specs.Prelude.{◌≡◌, ◌≢◌, ◌↔◌, ◌<◌, �
 ghost use Rattle.raft_records.specs.Lines.{IsIoError};
 ghost use Rattle.raft_engine.specs.CutTails.{tail_of};
 ghost use Rattle.raft_inspect.specs.Faults.{IsUntried};
-ghost use Rattle.raft_inspect.specs.Openings.{AreRefusedFor, CutsNothing, HoldsOfFiles, IsOpeningOf, IsReadingOf};
+ghost use Rattle.raft_inspect.specs.Openings.{AreRefusedFor, CutsNothing, HoldsOfFiles, IsOpeningOf, IsAcceptedSo};
 ghost use Rattle.raft_inspect.specs.declared.opening.Opening.TheVariants.{Refuses};
 
 use raft_base::{Error, Result, Version};
@@ -78,7 +78,7 @@ pub(crate) fn read_aside<R: Threads + Sync, S: ReadFiles>(
     workers: usize,
 ) -> Result<Reading>
     ensures ok { IfOk result (λ reading. HoldsOfFiles (S.gives source.now) sizes.now.append.items
-        sizes.now.rewrite.items (IsReadingOf version reading)) }
+        sizes.now.rewrite.items (IsAcceptedSo version reading)) }
     ensures refused { IfErr result (λ e. e ≢ Error.Memory → AreRefusedFor (S.gives source.now) (S.may_fail source.now) version workers
         sizes.now.append.items sizes.now.rewrite.items e) }
 {

@@ -56,7 +56,7 @@ reached_first part met at old mid new (damage next e) one same = go (leb_tells o
 
 reached_more : (part : Part) (met : List Seen) (at old mid new : ℕ) (k : Met) → mid ≡ read_after (part.offset + at) k old → IsReached part met mid new → IsReached part ((at, k) ∷ met) old new
 reached_more part met at old mid new k one (inl same) = reached_first part met at old mid new k one same
-reached_more part met at old mid new k one (inr d) = inr ((at, k) ∷ d.0, d.1.0, d.1.1.0, ap (λ (ms : List Seen). (at, k) ∷ ms) d.1.1.1.0, d.1.1.1.1.0, d.1.1.1.1.1)
+reached_more part met at old mid new k one (inr d) = inr ((at, k) ∷ d.0, d.1, d.2, ap (λ (ms : List Seen). (at, k) ∷ ms) d.3, d.4, d.5)
 
 -- one thing more is met in front
 module _ (part : Part) (at : ℕ) (k : Met) (met : List Seen) (old mid new : FileScan) (s : IsScanned old part at k mid) (r : IsSummedUp part met mid new) where
@@ -106,5 +106,5 @@ pub summed_up : (part : Part) (met : List (ℕ × Met)) (old new : FileScan) →
 summed_up part [] old new few visited = subst (IsSummedUp part [] old) visited (nothing part old few)
 summed_up part ((at, k) ∷ met) old new few visited =
     let mid = visited.0 in
-    let s = visited.1.0 in
-    more part at k met old mid new s (summed_up part met mid new (stays_few old part at k mid few s.batches) visited.1.1)
+    let s = visited.1 in
+    more part at k met old mid new s (summed_up part met mid new (stays_few old part at k mid few s.batches) visited.2)

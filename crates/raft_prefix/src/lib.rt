@@ -3,7 +3,8 @@
 
 mod entry_blocks;
 pub mod file_prefix;
-mod pieces;
+#[doc(hidden)]
+pub mod pieces;
 mod readable;
 
 pub use file_prefix::{Prefix, read_prefix, read_rest};

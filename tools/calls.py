@@ -1,5 +1,5 @@
 #!/usr/bin/env python3
-"""The page of all calls: what the four crates that users import from, raft_files, raft_engine and raft_folder have, each with its signature and
+"""The page of all calls: what the four crates that users import from, raft_files, raft_engine, raft_opening and raft_folder have, each with its signature and
 its first sentence, types with their public fields and their variants.
 
     calls.py            writes docs/CALLS.md
@@ -18,7 +18,7 @@ from pathlib import Path
 
 TOP = Path(__file__).resolve().parent.parent
 PAGE = TOP / "docs/CALLS.md"
-USERS_CRATES = ("raft_base", "raft_records", "raft_memtable", "raft_recover", "raft_files", "raft_engine", "raft_folder")
+USERS_CRATES = ("raft_base", "raft_records", "raft_memtable", "raft_recover", "raft_files", "raft_engine", "raft_opening", "raft_folder")
 
 HEAD = re.compile(r"^( *)pub (?:final )?(?:const |unsafe )*(fn|struct|enum|trait|const|type) (\w+)", re.M)
 METHOD = re.compile(r"^    (?:pub )?(?:final )?fn (\w+)", re.M)

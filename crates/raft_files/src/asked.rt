@@ -3,10 +3,12 @@ ghost use Rattle.std.specs.Prelude.{◌≡◌, List, [], ◌∷◌, map};
 ghost use Rattle.std.specs.Borrow.{ftrue};
 ghost use Rattle.std.specs.Coded.{coded_list};
 ghost use Rattle.raft_files.specs.AskCode.{ask_code};
-ghost use Rattle.raft_files.specs.Asks.{Ask, Begin, Cut, Delete, Found, IsAsked, Put, Read, Sync, ask};
+ghost use Rattle.raft_base.specs.declared.pipe_log.LogQueue.TheVariants.{Append, Rewrite};
+ghost use Rattle.raft_files.specs.Asks.{Ask, NumberedBytes, Begin, Cut, Delete, Found, IsAsked, Put, Read, Sync, ask};
 ghost use Rattle.raft_files.specs.HeldFiles.{file_shown};
 ghost use Rattle.raft_files.specs.Notes.{ask_noted, found_noted, queue_noted};
 
+use crate::Found;
 use raft_base::{FileBlockHandle, FileSeq, LogQueue};
 use std::marker::{Model, PhantomData};
 
@@ -100,6 +102,17 @@ impl Asked {
         ensures { IsAsked (ask queue (Found (map file_shown files.now.items))) self.old.asks self.new.asks }
     {
         self.note_found(&[number_of(queue)], files);
+    }
+
+    /// Makes the list of what was asked once the files of both queues are found that are said to be: their bytes are nowhere held.
+    pub fn of_found<X: Found>(_found: &X) -> Asked
+        requires { (append : List NumberedBytes) × (rewrite : List NumberedBytes) × X.are_found _found.now append rewrite }
+        ensures { (append : List NumberedBytes) × (rewrite : List NumberedBytes) × X.are_found _found.now append rewrite
+            × (result.asks ≡ ask Rewrite (Found rewrite) ∷ ask Append (Found append) ∷ []) }
+    {
+        Asked {
+            marker: PhantomData,
+        }
     }
 
     /// Notes files that are found, by the number of their queue.

@@ -3,9 +3,11 @@
 
 pub mod asked;
 pub mod engine_files;
+pub mod found;
 pub mod laws;
 pub mod memory_files;
 
 pub use asked::Asked;
-pub use engine_files::EngineFiles;
+pub use engine_files::{EngineFiles, NotesFound};
+pub use found::Found;
 pub use memory_files::MemoryFiles;

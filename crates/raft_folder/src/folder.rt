@@ -41,8 +41,8 @@ pub(crate) struct Folder<'a, R: FolderHost> {
 }
 
 impl<'a, R: FolderHost> Folder<'a, R> {
-    /// Opens a folder with all log files in it, for one who changes them. A folder that isn't there yet is made. Its name, those of
-    /// the files, and their bytes are on the disk then.
+    /// Opens a folder with all log files in it, for one who changes them. A folder that isn't there yet is made. Its name, and
+    /// those of the files, are on the disk then.
     ///
     /// # Errors
     ///
@@ -57,8 +57,6 @@ impl<'a, R: FolderHost> Folder<'a, R> {
         let mut folder = Folder::of(rt, path, locked);
         folder.open_files(&how)?;
         about_path(rt, path, folder.sync_names())?;
-        folder.sync_all(LogQueue::Append)?;
-        folder.sync_all(LogQueue::Rewrite)?;
         Ok(folder)
     }
 
@@ -182,9 +180,27 @@ impl<'a, R: FolderHost> Folder<'a, R> {
     /// # Errors
     ///
     /// `System`, `Memory`. Some files may then not be synced.
-    fn sync_all(&self, queue: LogQueue) -> FolderResult<()> {
+    pub(crate) fn sync_all(&self, queue: LogQueue) -> FolderResult<()> {
         for (seq, file) in self.files(queue) {
             self.about_file(FileId::new(queue, *seq), file.sync_all())?;
+        }
+        Ok(())
+    }
+
+    /// Refuses files of a queue that begin with a header of their own, of which the first bytes are read: no batch can be read in
+    /// them, so that they would be taken for torn, and cut.
+    ///
+    /// # Errors
+    ///
+    /// `Foreign` for such a file, `System`, `Memory`.
+    pub(crate) fn check_headers(&self, queue: LogQueue) -> FolderResult<()> {
+        for (seq, file) in self.files(queue) {
+            let id = FileId::new(queue, *seq);
+            let len = self.len_of(id, file)?.min(FOREIGN_HEADER.len() as u64);
+            let begin = self.about_file(id, self.bytes_at(file, 0, len as usize))?;
+            if begin.as_slice() == FOREIGN_HEADER {
+                return Err(FolderError::Foreign(self.path_of(id)?));
+            }
         }
         Ok(())
     }

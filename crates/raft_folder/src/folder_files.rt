@@ -10,7 +10,7 @@ use crate::folder::{Folder, KeptTail};
 use crate::host::FolderHost;
 use crate::read_folder::FolderFile;
 use raft_base::{Error, FileBlockHandle, FileId, FileSeq, LogQueue, Result};
-use raft_files::{Asked, EngineFiles};
+use raft_files::{Asked, EngineFiles, NotesFound};
 
 /// The files of both queues in a folder, as `0000000000000001.raftlog` and `0000000000000001.rewrite`, and a file `LOCK`. It and
 /// the folder itself are locked for as long as this value lives. Other names are left alone.
@@ -50,7 +50,7 @@ impl<'a, R: FolderHost> FolderFiles<'a, R> {
             ≡ ask Rewrite (Found (map file_shown found.rewrite.items))
             ∷ ask Append (Found (map file_shown found.append.items)) ∷ []) }
     {
-        let folder = Folder::open(rt, path)?;
+        let folder = open_synced(rt, path)?;
         let append = folder.bytes_of_files(LogQueue::Append)?;
         let rewrite = folder.bytes_of_files(LogQueue::Rewrite)?;
         let mut asked = Asked::new();
@@ -68,16 +68,18 @@ impl<'a, R: FolderHost> FolderFiles<'a, R> {
         })
     }
 
-    /// Opens a folder as [`FolderFiles::open`] does, but reads no file, for one who cuts them: none is noted as found, so no engine can be opened
-    /// over them.
+    /// Opens a folder as [`FolderFiles::open`] does, but reads no more of its files than how they begin, and notes none as found:
+    /// for `open_in_pieces` of `raft_opening`, which reads them.
     ///
     /// # Errors
     ///
-    /// Those of [`FolderFiles::open`], but for `Foreign`.
+    /// Those of [`FolderFiles::open`].
     pub fn open_unread(rt: &'a R, path: &'a str) -> FolderResult<FolderFiles<'a, R>>
         ensures { IfOk result (λ files. files.asked.asks ≡ []) }
     {
-        let folder = Folder::open(rt, path)?;
+        let folder = open_synced(rt, path)?;
+        folder.check_headers(LogQueue::Append)?;
+        folder.check_headers(LogQueue::Rewrite)?;
         Ok(FolderFiles {
             folder,
             asked: Asked::new(),
@@ -181,4 +183,22 @@ impl<R: FolderHost> EngineFiles for FolderFiles<'_, R> {
         self.asked.read(place, &bytes);
         Ok(bytes)
     }
+}
+
+impl<R: FolderHost> NotesFound for FolderFiles<'_, R> {
+    fn note_found(&mut self, found: Asked) {
+        self.asked = found;
+    }
+}
+
+/// Opens a folder with all log files in it, whose bytes, and whose names with that of the folder, are on the disk then.
+///
+/// # Errors
+///
+/// Those of `Folder::open`, and of the syncs.
+fn open_synced<'a, R: FolderHost>(rt: &'a R, path: &'a str) -> FolderResult<Folder<'a, R>> {
+    let folder = Folder::open(rt, path)?;
+    folder.sync_all(LogQueue::Append)?;
+    folder.sync_all(LogQueue::Rewrite)?;
+    Ok(folder)
 }

@@ -1,5 +1,5 @@
 -- What an opening would do with files.
-use Rattle.std.specs.Prelude.{◌≡◌, ◌≢◌, ◌⊎◌, ℕ, List, None}
+use Rattle.std.specs.Prelude.{◌≡◌, ◌≢◌, ℕ, List, None}
 use Rattle.raft_base.specs.declared.errors.Error.{Error}
 use Rattle.raft_base.specs.declared.errors.Error.TheVariants as errors
 use Rattle.raft_base.specs.declared.pipe_log.FileId.{FileId}
@@ -12,18 +12,20 @@ use Rattle.raft_reading.specs.declared.queue_files.FileSize.{FileSize}
 use Rattle.raft_engine.specs.CutTails.{IsRecoveredOf, IsTailTold, tail_of}
 use Rattle.raft_engine.specs.KeptEngine.{KeptEngine}
 use Rattle.raft_engine.specs.Opened.{IsOpened}
-use Rattle.raft_engine.specs.Unopened.{AreBothAccepted, AreUnrecoveredAs, IsOpeningRefusal}
+use Rattle.raft_engine.specs.Unopened.{AreBothAccepted}
 use Rattle.raft_engine.specs.declared.reading.Reading.{Reading}
 use Rattle.raft_engine.specs.declared.recovered.Recovered.{Recovered}
 use Rattle.raft_engine.specs.declared.recovery_mode.RecoveryMode.TheVariants.{TolerateTornTail}
-use Rattle.raft_opening.specs.SizedFiles.{AreBothSized, IsReadRefusal}
+use Rattle.raft_opening.specs.ReadOnce.{AreBothRead, AreUnreadAs}
 use Rattle.raft_inspect.specs.declared.opening.Opening.{Opening}
 use Rattle.raft_inspect.specs.declared.opening.Opening.TheVariants.{Opens, Refuses}
 
--- whatever the files of both queues are, of these sizes, something holds of them, if reads give only bytes that stand in them
-abbrev pub HoldsOfFiles : (FileId → ℕ → List ℕ → Type 0) → List FileSize → List FileSize → (List NumberedBytes → List NumberedBytes → Type 0) → Type 0
-HoldsOfFiles Gives append rewrite Holds =
-    (append_files rewrite_files : List NumberedBytes) → AreBothSized Gives append rewrite append_files rewrite_files → Holds append_files rewrite_files
+-- reads gave all bytes of the files of both queues, which have these sizes, and something holds of them
+pub record HoldsOfRead (Gives : FileId → ℕ → List ℕ → Type 0) (append rewrite : List FileSize) (Holds : List NumberedBytes → List NumberedBytes → Type 0) : Type 0 where
+  pub append_files : List NumberedBytes
+  pub rewrite_files : List NumberedBytes
+  pub given : AreBothRead Gives append rewrite append_files rewrite_files
+  pub holds : Holds append_files rewrite_files
 
 -- these are the tables of an engine that is opened over the files
 pub record AreTablesOf (version : Version) (accessor : Accessor) (append rewrite : List NumberedBytes) : Type 0 where
@@ -45,18 +47,13 @@ pub record IsAcceptedSo (version : Version) (reading : Reading) (append rewrite 
   pub rewrite_told : IsTailTold Rewrite version rewrite (tail_of reading.rewrite_missing)
   pub are_tables : AreTablesOf version reading.accessor append rewrite
 
--- why an opening by so many workers refuses files, but for want of memory: for the reason of an engine's opening, which asks nothing of them
-abbrev pub IsRefusalOf : Version → ℕ → Error → List NumberedBytes → List NumberedBytes → Type 0
-IsRefusalOf version workers e append rewrite = IsOpeningRefusal (AreUnrecoveredAs version workers) TolerateTornTail version append rewrite e
-
--- why files aren't opened, but for want of memory: a read failed, or gave another number of bytes; or an opening refuses them
+-- why an opening by so many workers doesn't open files, but for want of memory: a read failed, an engine's opening refuses them, or they changed meanwhile
 abbrev pub AreRefusedFor : (FileId → ℕ → List ℕ → Type 0) → (FileId → ℕ → IoError → Type 0) → Version → ℕ → List FileSize → List FileSize → Error → Type 0
-AreRefusedFor Gives Fails version workers append rewrite e =
-    HoldsOfFiles Gives append rewrite (λ append_files rewrite_files. IsReadRefusal Gives Fails e ⊎ IsRefusalOf version workers e append_files rewrite_files)
+AreRefusedFor Gives Fails version workers append rewrite e = AreUnreadAs Gives Fails TolerateTornTail version workers append rewrite e
 
 -- what an opening by so many workers would do; want of memory is no refusal
 abbrev pub IsOpeningOf : (FileId → ℕ → List ℕ → Type 0) → (FileId → ℕ → IoError → Type 0) → Version → ℕ → List FileSize → List FileSize → Opening → Type 0
-IsOpeningOf Gives Fails version workers append rewrite (Opens recovered) = HoldsOfFiles Gives append rewrite (IsOpenedSo version recovered)
+IsOpeningOf Gives Fails version workers append rewrite (Opens recovered) = HoldsOfRead Gives append rewrite (IsOpenedSo version recovered)
 IsOpeningOf Gives Fails version workers append rewrite (Refuses error) = (error ≢ errors.Memory) × AreRefusedFor Gives Fails version workers append rewrite error
 
 -- files are opened, and nothing is cut off from them

@@ -10,7 +10,7 @@ use Rattle.raft_survey.specs.SoundFiles.{AreSoundFiles}
 use Rattle.raft_engine.specs.CutTails.{IsTailTold}
 use Rattle.raft_engine.specs.Unopened.{AreBothAccepted}
 use Rattle.raft_engine.specs.declared.recovery_mode.RecoveryMode.TheVariants.{TolerateTornTail}
-use Rattle.raft_inspect.specs.Openings.{AreTablesOf, HoldsOfFiles}
+use Rattle.raft_inspect.specs.Openings.{AreTablesOf, HoldsOfRead}
 
 -- an opening accepts the bytes of both queues, cuts nothing off from them, and an engine has tables of them then
 pub record IsUncut (version : Version) (append rewrite : List NumberedBytes) : Type 0 where
@@ -20,9 +20,9 @@ pub record IsUncut (version : Version) (append rewrite : List NumberedBytes) : T
   pub tables : Accessor
   pub are_tables : AreTablesOf version tables append rewrite
 
--- Files of both queues are sound: an opening cuts nothing off from them, and each entry of theirs can be read. The first is said of the files, if reads give only
--- bytes that stand in them; the other two of the bytes that reads gave: they are the same where nobody writes to the files meanwhile.
+-- Files of both queues are sound: an opening cuts nothing off from them, and each entry of theirs can be read. Each of the three is said of the bytes that some
+-- reads gave: they are the same bytes where nobody writes to the files meanwhile.
 pub record AreSound (Gives : FileId → ℕ → List ℕ → Type 0) (version : Version) (append rewrite : List FileSize) : Type 0 where
-  pub uncut : HoldsOfFiles Gives append rewrite (IsUncut version)
+  pub uncut : HoldsOfRead Gives append rewrite (IsUncut version)
   pub append_sound : AreSoundFiles Gives Append version append
   pub rewrite_sound : AreSoundFiles Gives Rewrite version rewrite

@@ -4,14 +4,14 @@ ghost use Rattle.std.specs.Prelude.{◌≡◌, ◌≢◌, ◌↔◌, ◌<◌, �
 ghost use Rattle.raft_records.specs.Lines.{IsIoError};
 ghost use Rattle.raft_engine.specs.CutTails.{tail_of};
 ghost use Rattle.raft_inspect.specs.Faults.{IsUntried};
-ghost use Rattle.raft_inspect.specs.Openings.{AreRefusedFor, CutsNothing, HoldsOfFiles, IsOpeningOf, IsAcceptedSo};
+ghost use Rattle.raft_inspect.specs.Openings.{AreRefusedFor, CutsNothing, HoldsOfRead, IsOpeningOf, IsAcceptedSo};
 ghost use Rattle.raft_inspect.specs.declared.opening.Opening.TheVariants.{Refuses};
 
 use raft_base::{Error, Result, Version};
 use raft_engine::reading::Reading;
 use raft_engine::stored_found::found_files_are_stored;
 use raft_engine::{Recovered, RecoveryMode};
-use raft_opening::read_sized;
+use raft_opening::piece_reading::read_in_pieces;
 use raft_reading::ReadFiles;
 use raft_survey::BothSizes;
 use std::alloc::Global;
@@ -77,7 +77,7 @@ pub(crate) fn read_aside<R: Threads + Sync, S: ReadFiles>(
     sizes: &BothSizes,
     workers: usize,
 ) -> Result<Reading>
-    ensures ok { IfOk result (λ reading. HoldsOfFiles (S.gives source.now) sizes.now.append.items
+    ensures ok { IfOk result (λ reading. HoldsOfRead (S.gives source.now) sizes.now.append.items
         sizes.now.rewrite.items (IsAcceptedSo version reading)) }
     ensures refused { IfErr result (λ e. e ≢ Error.Memory → AreRefusedFor (S.gives source.now) (S.may_fail source.now) version workers
         sizes.now.append.items sizes.now.rewrite.items e) }
@@ -85,7 +85,7 @@ pub(crate) fn read_aside<R: Threads + Sync, S: ReadFiles>(
     found_files_are_stored();
     let mode = RecoveryMode::TolerateTornTail;
     let (append, rewrite) = (sizes.append.as_slice(), sizes.rewrite.as_slice());
-    read_sized(rt, alloc, source, mode, version, append, rewrite, workers)
+    read_in_pieces(rt, alloc, source, mode, version, append, rewrite, workers)
 }
 
 /// Returns the tails that are missing of what was read.

@@ -1,7 +1,7 @@
 //! The tables that an engine would have which is opened over files.
 
 ghost use Rattle.std.specs.Prelude.{◌≢◌, ◌<◌, ◌≤◌, IfErr, IfOk};
-ghost use Rattle.raft_inspect.specs.Openings.{AreRefusedFor, AreTablesOf, HoldsOfFiles};
+ghost use Rattle.raft_inspect.specs.Openings.{AreRefusedFor, AreTablesOf, HoldsOfRead};
 
 use crate::opening::read_aside;
 use raft_base::{Error, Result, Version};
@@ -26,7 +26,7 @@ pub fn read_tables<R: Threads + Sync, S: ReadFiles>(
     workers: usize,
 ) -> Result<MemTableAccessor>
     requires { (0 < workers) × (workers ≤ 256) }
-    ensures ok { IfOk result (λ accessor. HoldsOfFiles (S.gives source.now) sizes.now.append.items
+    ensures ok { IfOk result (λ accessor. HoldsOfRead (S.gives source.now) sizes.now.append.items
         sizes.now.rewrite.items (AreTablesOf version accessor)) }
     ensures refused { IfErr result (λ e. e ≢ Error.Memory → AreRefusedFor (S.gives source.now) (S.may_fail source.now) version workers
         sizes.now.append.items sizes.now.rewrite.items e) }

@@ -1,3 +1,4 @@
 mod RestLemmas
 mod SizedLemmas
 mod SizedReadLemmas
+pub mod OnceLemmas

@@ -32,6 +32,7 @@ use Rattle.raft_engine.specs.ReadContexts.{AreReadBy}
 use Rattle.raft_engine.specs.ReadFound.{AreReadyFiles}
 use Rattle.raft_engine.specs.ReadQueues.{HaveBothRead, HaveBothReadExactly}
 use Rattle.raft_engine.specs.RowsShown.{rows_shown}
+use Rattle.raft_opening.specs.ReadOnce.{IsStandingFor}
 use Rattle.raft_opening.specs.SizedFiles.{GiveOnly, GivesOnly, IsReadRefusal, IsSizedQueue, kept_by, size_of}
 use Rattle.raft_engine.specs.OpeningAsks.{missing_asks}
 use Rattle.raft_engine.specs.Unopened.{AreManyAs, AreUnreadableAs, IsReadingFault, IsRecoveryFault, IsTooLongAs, MayRecover, Refusal, StopsInFiles}
@@ -92,13 +93,6 @@ module _ (Gives : FileId → ℕ → List ℕ → Type 0) (queue : LogQueue) whe
 
 -- ---- files that are replayed
 
--- a machine that stands for the batches of the files that are left
-pub record IsLeftReplayed {M : Type 0} (queue : LogQueue) (version : Version) (stands_for stands_exactly : M → List Event → Type 0) (left : List NumberedBytes) (machine : M) : Type 0 where
-  pub history : List Event
-  pub held : FilesHold queue version left history
-  pub stands : IsSmall history → stands_for machine history
-  pub exact : IsSmall history → Apart history → stands_exactly machine history
-
 module _ {M : Type 0} (Gives : FileId → ℕ → List ℕ → Type 0) (queue : LogQueue) (version : Version) (stands_for stands_exactly : M → List Event → Type 0) (mode : RecoveryMode) (files : List NumberedBytes) (only : GiveOnly Gives queue files) where
   kept_held : (missing : Missing) → IsMissingOf mode queue version files missing → (h : List Event) → FilesHold queue version (kept_by missing files) h → FilesHold queue version (left_by missing files) h
   kept_held Nothing m h held = held
@@ -108,7 +102,7 @@ module _ {M : Type 0} (Gives : FileId → ℕ → List ℕ → Type 0) (queue : 
   kept_held (Cut tail) m h held = held
 
   pub left_replayed : (missing : Missing) → IsMissingOf mode queue version files missing → (sizes : List FileSize) → sizes ≡ map size_of (kept_by missing files) → (machine : M)
-      → IsQueueReplayed Gives queue version sizes stands_for stands_exactly machine → IsLeftReplayed queue version stands_for stands_exactly (left_by missing files) machine
+      → IsQueueReplayed Gives queue version sizes stands_for stands_exactly machine → IsStandingFor queue version stands_for stands_exactly (left_by missing files) machine
   left_replayed missing m sizes is machine r =
       let same = same_files Gives queue (kept_by missing files) r.files (give_kept Gives queue missing files only) (subst (λ (ss : List FileSize). AreAllRead Gives queue ss r.files) is r.read) in
       record {
@@ -265,7 +259,7 @@ known_room files known of few =
 module _
     (few_records : (queue : LogQueue) (version : Version) (files : List NumberedBytes) (h : List Event) → FilesHold queue version files h → bytes_of_files files < 2 ^ 63 → IsSmall h)
     (version : Version) (append rewrite : List NumberedBytes) (appended : RecoverContext) (rewritten : Both RecoverContext GroupRows)
-    (a : IsLeftReplayed Append version HasRead HasReadExactly append appended) (r : IsLeftReplayed Rewrite version HaveBothRead HaveBothReadExactly rewrite rewritten)
+    (a : IsStandingFor Append version HasRead HasReadExactly append appended) (r : IsStandingFor Rewrite version HaveBothRead HaveBothReadExactly rewrite rewritten)
     (append_few : bytes_of_files append < 2 ^ 63) (rewrite_few : bytes_of_files rewrite < 2 ^ 63) where
   append_small : IsSmall a.history
   append_small = few_records Append version append a.history a.held append_few

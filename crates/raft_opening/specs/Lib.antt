@@ -1,1 +1,2 @@
 pub mod SizedFiles
+pub mod ReadOnce

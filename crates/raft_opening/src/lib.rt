@@ -2,10 +2,20 @@
 #![tactic(auto)]
 
 mod file_rest;
+pub mod folder;
+mod last_file;
 pub mod opening;
-mod sized_files;
+pub mod path_source;
+#[doc(hidden)]
+pub mod piece_reading;
+#[doc(hidden)]
+pub mod queue_read;
+#[doc(hidden)]
+pub mod sized_files;
 mod sized_reading;
 
-pub use opening::open_sized;
 #[doc(hidden)]
-pub use sized_reading::read_sized;
+pub use file_rest::check_rest;
+pub use folder::{OpeningHost, open_folder};
+pub use opening::open_in_pieces;
+pub use path_source::PathSource;

@@ -63,7 +63,7 @@ impl SizedQueue {
 /// # Errors
 ///
 /// `Corruption`, which names the first missing file where one is missing between two; `Memory`.
-fn check_sizes(alloc: Global, queue: LogQueue, sizes: &[FileSize]) -> Result<()>
+pub fn check_sizes(alloc: Global, queue: LogQueue, sizes: &[FileSize]) -> Result<()>
     ensures ok { OnOk result (AreConsecutive (numbers_of sizes.now)) }
     ensures refused { IfErr result (λ e. e ≢ Error.Memory → AreNumbersApartAs queue (numbers_of sizes.now) e) }
 {
@@ -83,7 +83,7 @@ fn check_sizes(alloc: Global, queue: LogQueue, sizes: &[FileSize]) -> Result<()>
 /// # Errors
 ///
 /// `Memory`.
-fn known_of(alloc: Global, sizes: &[FileSize]) -> Result<QueueFiles>
+pub fn known_of(alloc: Global, sizes: &[FileSize]) -> Result<QueueFiles>
     ensures ok { IfOk result (AreKnownOf sizes.now) }
     ensures memory { IfErr result (λ e. e ≡ Error.Memory) }
 {
@@ -106,7 +106,7 @@ fn known_of(alloc: Global, sizes: &[FileSize]) -> Result<QueueFiles>
 /// # Errors
 ///
 /// `Memory`.
-fn sizes_left(alloc: Global, sizes: &[FileSize], missing: &Missing) -> Result<Vec<FileSize>>
+pub fn sizes_left(alloc: Global, sizes: &[FileSize], missing: &Missing) -> Result<Vec<FileSize>>
     ensures ok { IfOk result (λ left. AreLeft missing.now sizes.now left.items) }
     ensures memory { IfErr result (λ e. e ≡ Error.Memory) }
 {

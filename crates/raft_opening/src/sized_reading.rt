@@ -29,7 +29,7 @@ use std::alloc::Global;
 use std::thread::{Threads, join};
 
 /// About how many bytes the rewrite queue has at least where both queues are replayed at once.
-const LEAST_SHARE: usize = 1 << 20;
+pub const LEAST_SHARE: usize = 1 << 20;
 
 /// The least number of files that aren't read.
 const FILE_LIMIT: usize = 1 << 62;
@@ -146,7 +146,7 @@ fn both_sized<R: Threads + Sync, S: ReadFiles>(
 /// # Errors
 ///
 /// `InvalidArgument`, `Memory`.
-fn check_counts(
+pub fn check_counts(
     alloc: Global,
     append: &[FileSize],
     rewrite: &[FileSize],
@@ -274,7 +274,7 @@ fn replay_append<R: Threads + Sync, S: ReadFiles>(
 }
 
 /// Returns how many bytes files have, capped at 2^64 - 1.
-fn bytes_of(files: &[FileSize]) -> usize {
+pub fn bytes_of(files: &[FileSize]) -> usize {
     let mut bytes = 0usize;
     for file in files {
         bytes = bytes.saturating_add(file.len as usize);

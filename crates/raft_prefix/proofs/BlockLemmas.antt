@@ -84,7 +84,7 @@ has_header part at next items b none =
 -- ---- a batch among other bytes
 
 -- where the bytes up to a batch's end are the same, its bytes stand
-bytes_stand : (part : Part) (xs : List ℕ) (i next : ℕ) (items : List Item) → (b : IsBatchAt part i items next) → take next xs ≡ take next part.bytes → drop i xs ≡ b.bytes ++ drop next xs
+pub bytes_stand : (part : Part) (xs : List ℕ) (i next : ℕ) (items : List Item) → (b : IsBatchAt part i items next) → take next xs ≡ take next part.bytes → drop i xs ≡ b.bytes ++ drop next xs
 bytes_stand part xs i next items b same =
     let inside = batch_inside part i items next b in
     let long = ap length same ∙ length-take-le next part.bytes inside.1 in
@@ -94,7 +94,7 @@ bytes_stand part xs i next items b same =
     ap (drop i) (sym (take-append-drop next xs)) ∙ drop-append-le i (take next xs) (drop next xs) begins ∙ ap (λ (t : List ℕ). t ++ drop next xs) (ap (drop i) same ∙ front)
 
 -- so the same batch stands there
-abbrev moved_batch : (part : Part) (xs : List ℕ) (i next : ℕ) (items : List Item) → IsBatchAt part i items next → take next xs ≡ take next part.bytes → IsBatchAt (record part { bytes = xs }) i items next
+abbrev pub moved_batch : (part : Part) (xs : List ℕ) (i next : ℕ) (items : List Item) → IsBatchAt part i items next → take next xs ≡ take next part.bytes → IsBatchAt (record part { bytes = xs }) i items next
 moved_batch part xs i next items b same = record {
   bytes = b.bytes;
   read = b.read;

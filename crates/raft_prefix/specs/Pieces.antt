@@ -3,8 +3,10 @@ use Rattle.std.specs.Prelude.{◌≡◌, ◌⊎◌, ℕ, ◌+◌, ◌<◌, ◌�
 use Rattle.raft_base.specs.declared.errors.Error.{Error}
 use Rattle.raft_base.specs.declared.pipe_log.LogFileContext.{LogFileContext}
 use Rattle.raft_base.specs.declared.pipe_log.LogQueue.TheVariants.{Rewrite}
-use Rattle.raft_records.specs.FilePart.{Part, AreBatchesUpTo, HasHeader, IsBatchAt, part_of}
+use Rattle.raft_records.specs.FilePart.{Part, AreBatchesUpTo, HasHeader, IsBatchAt, StandBetween, part_of}
 use Rattle.raft_records.specs.Item.{Item}
+use Rattle.raft_history.specs.Batches.{Event}
+use Rattle.raft_replay.specs.Stops.{history_in}
 use Rattle.raft_prefix.specs.Blocks.{AreSoundTo, HasSoundBlock, IsUnsoundAs}
 
 -- no more bytes, at most so many, make a batch readable in front of these, if none is: there are none; or there is room for a header, and the batch of one is whole, or longer than with them
@@ -56,3 +58,7 @@ ArePassed file offset bytes count =
 abbrev pub IsRefusedBehind : LogFileContext → ℕ → List ℕ → Error → Type 0
 IsRefusedBehind file offset bytes e =
     (gone : List ℕ) → offset ≡ length gone → IsPassedTo (part_of file 0 (gone ++ bytes)) offset → IsUnsoundAs (part_of file 0 (gone ++ bytes)) e
+
+-- the batches in front of a byte of a part
+abbrev pub IsHistoryUpTo : Part → ℕ → List Event → Type 0
+IsHistoryUpTo part at h = (batches : List (List Item)) × StandBetween part 0 at batches × (h ≡ history_in part batches)

@@ -9,7 +9,11 @@ use Rattle.raft_records.specs.FilePart.{Part, AreBatchesUpTo, IsNextFault, part_
 use Rattle.raft_replay.specs.Stops.{IsUnreadableAt}
 use Rattle.raft_reading.specs.FilesRead.{AreRead}
 use Rattle.raft_prefix.specs.Blocks.{IsPartSound, IsUnsoundAs}
+use Rattle.raft_history.specs.Batches.{Event}
+use Rattle.raft_replay.specs.Replays.{HasReplayed}
+use Rattle.raft_replay.specs.Segments.{HoldsFrom}
 use Rattle.raft_prefix.specs.declared.file_prefix.Prefix.{Prefix}
+use Rattle.raft_prefix.specs.declared.file_prefix.ReplayedPrefix.{ReplayedPrefix}
 
 -- at this byte of a part no batch can be read, for this reason
 pub record IsStop (part : Part) (at : ℕ) (e : Error) : Type 0 where
@@ -50,3 +54,19 @@ pub record IsRestRead (Gives : ℕ → List ℕ → Type 0) (file : LogFileConte
   pub given : Gives at bytes
   pub all : at + length bytes ≡ len
   pub is : part ≡ part_of file at bytes
+
+-- A machine has replayed the readable prefix of a file of this length: reads gave its bytes and those behind it, each byte once, and whatever comes behind these it is the prefix of all bytes.
+pub record IsPrefixReplayed {M : Type 0} (Gives : ℕ → List ℕ → Type 0) (file : LogFileContext) (len : ℕ) (stands_for stands_exactly : M → List Event → Type 0) (old new : M) (read : ReplayedPrefix) : Type 0 where
+  pub front : List ℕ
+  pub ends : read.prefix.len ≡ length front
+  pub inside : length front + length read.behind.items ≤ len
+  pub given : AreRead Gives (front ++ read.behind.items)
+  pub is : (rest : List ℕ) → length front + length read.behind.items + length rest ≡ len → IsPrefix (part_of file 0 ((front ++ read.behind.items) ++ rest)) read.prefix.len read.prefix.stopped
+  pub replayed : HasReplayed (HoldsFrom (part_of file 0 front) 0) stands_for stands_exactly old new
+
+-- a read gave the other bytes of a file of this length, and with these, which stand in front of them, they are all from this byte on
+pub record IsTailRead (Gives : ℕ → List ℕ → Type 0) (file : LogFileContext) (at : ℕ) (behind : List ℕ) (len : ℕ) (part : Part) : Type 0 where
+  pub bytes : List ℕ
+  pub given : Gives (at + length behind) bytes
+  pub all : at + length behind + length bytes ≡ len
+  pub is : part ≡ part_of file at (behind ++ bytes)

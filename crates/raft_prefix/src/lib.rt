@@ -1,10 +1,12 @@
 //! The readable prefix of a file, which is read in pieces.
 #![tactic(auto)]
 
-mod entry_blocks;
+#[doc(hidden)]
+pub mod entry_blocks;
 pub mod file_prefix;
 #[doc(hidden)]
 pub mod pieces;
-mod readable;
+#[doc(hidden)]
+pub mod readable;
 
-pub use file_prefix::{Prefix, read_prefix, read_rest};
+pub use file_prefix::{Prefix, ReplayedPrefix, read_prefix, read_rest, read_tail, replay_prefix};

@@ -13,7 +13,7 @@ use Rattle.raft_listing.specs.declared.selection.Selection.{Selection}
 use Rattle.raft_report.specs.declared.form.Form.{Form}
 use Rattle.raft_survey.specs.DumpedFiles.{AreDumped}
 use Rattle.raft_inspect.specs.Checked.{IsChecked}
-use Rattle.raft_inspect.specs.Openings.{AreTablesOf, HoldsOfFiles}
+use Rattle.raft_inspect.specs.Openings.{AreTablesOf, HoldsOfRead}
 use Rattle.raft_inspect.specs.Printed.{verdict_word}
 use Rattle.raft_inspect.specs.PrintedForms.{check_lines}
 use Rattle.raft_inspect.specs.declared.findings.Findings.{Findings}
@@ -51,7 +51,7 @@ pub record IsDumpDone (Gives : FileId → ℕ → List ℕ → Type 0) (version 
 -- tables that an engine would have of files of these sizes were written, and nothing else
 pub record AreRegionsPrinted (Gives : FileId → ℕ → List ℕ → Type 0) (version : Version) (append rewrite : List FileSize) (before after : Option (List ℕ)) : Type 0 where
   pub tables : Accessor
-  pub read : HoldsOfFiles Gives append rewrite (AreTablesOf version tables)
+  pub read : HoldsOfRead Gives append rewrite (AreTablesOf version tables)
   pub written : PrintsTables tables before after
 
 -- files are opened, and not refused

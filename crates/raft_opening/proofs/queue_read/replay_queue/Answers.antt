@@ -1,0 +1,25 @@
+use Rattle.std.proofs.Common.{◌≡◌, [], refl, subst}
+use Rattle.std.proofs.lemmas.List.{nil_from_length}
+use Rattle.raft_opening.specs.ReadOnce.{AreClosedAndLastRead}
+use Rattle.raft_opening.proofs.OnceLemmas.{first_read, torn_read, whole_read}
+use Rattle.raft_opening.proofs.queue_read.replay_queue.Goals as goal
+
+pub returns-in_default : goal.returns-in_default
+returns-in_default g c =
+    let laws = g.met.M.ReplayMachine g.world.𝓛 g.world.𝓜 g.world.𝓡 ((λ s x. x), (λ x. x), (λ x. x), λ x. x) in
+    let machine = c.in_ok-machine.machine in
+    let begun = c.requires.factory machine c.in_ok-machine.ensures.ok in
+    let none = rw c.in_default.is at c.split_last.ensures.cases in
+    first_read (g.S.ReadFiles.gives c.args.source.now) c.args.mode c.args.queue c.args.version g.M.ReplayMachine.stands_for g.M.ReplayMachine.stands_exactly c.args.sizes.now machine (nil_from_length c.args.sizes.now none) (laws.exact_stands machine [] begun) begun
+
+pub returns-in-None : goal.returns-in-None
+returns-in-None g c =
+    let split = (rw c.in-Some.is at c.split_last.ensures.cases).0 in
+    let read = rw c.in-None.is at c.in_ok-read.ensures in
+    whole_read (g.S.ReadFiles.gives c.args.source.now) c.args.mode c.args.queue c.args.version g.M.ReplayMachine.stands_for g.M.ReplayMachine.stands_exactly c.args.sizes.now _ _ split c.in_ok-read.read.0 read
+
+pub returns-in-Some-2 : goal.returns-in-Some-2
+returns-in-Some-2 g c =
+    let split = (rw c.in-Some.is at c.split_last.ensures.cases).0 in
+    let read = rw c.in-Some-2.is at c.in_ok-read.ensures in
+    torn_read (g.S.ReadFiles.gives c.args.source.now) c.args.mode c.args.queue c.args.version g.M.ReplayMachine.stands_for g.M.ReplayMachine.stands_exactly c.args.sizes.now _ _ split c.in_ok-read.read.0 c.in-Some-2.tail read

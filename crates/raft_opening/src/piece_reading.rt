@@ -1,0 +1,207 @@
+//! The reading of found files in pieces, each byte once.
+
+ghost use Rattle.std.specs.Prelude.{◌≡◌, ◌<◌, ◌≤◌, List, IfErr, IfOk};
+ghost use Rattle.std.specs.Thread.{IsSync};
+ghost use Rattle.raft_base.specs.declared.pipe_log.LogQueue.TheVariants.{Append, Rewrite};
+ghost use Rattle.raft_contexts.specs.RecoverContext.{HasRead, HasReadExactly};
+ghost use Rattle.raft_engine.specs.ReadQueues.{HaveBothRead, HaveBothReadExactly};
+ghost use Rattle.raft_opening.specs.ReadOnce.{AreUnreadAs, IsChangedAs, IsQueueRead, IsReadingOf};
+
+use crate::queue_read::{QueueRead, read_queue};
+use crate::sized_files::check_few_bytes;
+use crate::sized_reading::{LEAST_SHARE, bytes_of, check_counts, read_sized};
+use raft_base::{Error, LogQueue, Result, Version};
+use raft_contexts::{MemTableRecoverContext, MemTableRecoverContextFactory};
+use raft_engine::RecoveryMode;
+use raft_engine::both::{Both, BothFactory};
+use raft_engine::group_rows::{GroupRows, GroupRowsFactory, OUT_OF_ROW};
+use raft_engine::reading::{Reading, Ready};
+use raft_reading::{FileSize, ReadFiles};
+use raft_recover::files_hold_few_records;
+use raft_recover::recovery::part_of_workers;
+use std::alloc::Global;
+use std::thread::{Threads, join};
+
+/// Why files are refused that gave other bytes when they were read again.
+const CHANGED: &str = "the files changed while they were read";
+
+/// Reads found files piece by piece, each byte once, by so many workers, and recovers the tables of those that are there once what
+/// is missing was asked. A piece is let go once its batches are replayed: so besides the tables no more is in memory than a piece
+/// of 4 MiB, or a longer batch, for each worker, and what stands in a queue's last file behind its readable prefix. What is
+/// promised is promised of the bytes that the reads gave.
+///
+/// # Errors
+///
+/// Those of `Engine::open_telling`; `Io`, whose text begins with the queue, the file and the offset, where a read fails, or gives
+/// another number of bytes than it was asked for. Where files are refused they are read once more, to name what comes first; if
+/// they aren't refused then, that is `Corruption`, as where they changed meanwhile, or the failure of the first reading.
+pub fn read_in_pieces<R: Threads + Sync, S: ReadFiles>(
+    rt: &R,
+    alloc: Global,
+    source: &S,
+    mode: RecoveryMode,
+    version: Version,
+    append: &[FileSize],
+    rewrite: &[FileSize],
+    workers: usize,
+) -> Result<Reading>
+    ensures ok { IfOk result (IsReadingOf (S.gives source.now) mode version append.now rewrite.now) }
+    ensures err { IfErr result (AreUnreadAs (S.gives source.now) (S.may_fail source.now) mode version workers append.now
+        rewrite.now) }
+{
+    let first = match read_once(rt, alloc, source, mode, version, append, rewrite, workers) {
+        Ok(reading) => return Ok(reading),
+        Err(Error::Memory) => return Err(Error::Memory),
+        Err(error) => error,
+    };
+    match read_sized(rt, alloc, source, mode, version, append, rewrite, workers) {
+        Ok(_) => Err(changed(alloc, first)),
+        Err(error) => Err(error),
+    }
+}
+
+/// Returns the refusal of files that a reading refused for this reason, and another one didn't.
+fn changed(alloc: Global, first: Error) -> Error
+    ensures { IsChangedAs result }
+{
+    match first {
+        Error::Io(error) => Error::Io(error),
+        _ => Error::corruption(alloc, CHANGED),
+    }
+}
+
+/// Does what [`read_in_pieces`] does where no file is refused.
+///
+/// # Errors
+///
+/// Any where files are refused. `Memory`.
+fn read_once<R: Threads + Sync, S: ReadFiles>(
+    rt: &R,
+    alloc: Global,
+    source: &S,
+    mode: RecoveryMode,
+    version: Version,
+    append: &[FileSize],
+    rewrite: &[FileSize],
+    workers: usize,
+) -> Result<Reading>
+    ensures { IfOk result (IsReadingOf (S.gives source.now) mode version append.now rewrite.now) }
+{
+    files_hold_few_records();
+    check_counts(alloc, append, rewrite, workers)?;
+    let read = read_queues(rt, alloc, source, mode, version, rewrite, append, workers)?;
+    let (rewrite, append) = read;
+    check_few_bytes(append.sized.left.as_slice())?;
+    check_few_bytes(rewrite.sized.left.as_slice())?;
+    let Both { first, second } = rewrite.machine;
+    if !second.stand() {
+        return Err(Error::invalid_argument(alloc, OUT_OF_ROW));
+    }
+    let ready = Ready {
+        append: append.sized.ready,
+        rewrite: rewrite.sized.ready,
+    };
+    ready.with_contexts(alloc, append.machine, first)
+}
+
+/// Reads the files of both queues: at once, by two workers or more, or one after the other by all workers, where those of the
+/// rewrite queue are short.
+///
+/// # Errors
+///
+/// Those of `read_queue`.
+fn read_queues<R: Threads + Sync, S: ReadFiles>(
+    rt: &R,
+    alloc: Global,
+    source: &S,
+    mode: RecoveryMode,
+    version: Version,
+    rewrite: &[FileSize],
+    append: &[FileSize],
+    workers: usize,
+) -> Result<
+    (
+        QueueRead<Both<MemTableRecoverContext, GroupRows>>,
+        QueueRead<MemTableRecoverContext>,
+    ),
+>
+    requires { (0 < workers) × (workers ≤ 256) }
+    ensures rewritten { IfOk result (λ both. IsQueueRead (S.gives source.now) mode Rewrite version rewrite.now HaveBothRead
+        HaveBothReadExactly both.0) }
+    ensures appended { IfOk result (λ both. IsQueueRead (S.gives source.now) mode Append version append.now HasRead
+        HasReadExactly both.1) }
+{
+    let rewrite_bytes = bytes_of(rewrite);
+    if workers == 1 || rewrite_bytes < LEAST_SHARE {
+        let rewritten = read_rewrite(rt, alloc, source, mode, version, rewrite, workers)?;
+        let appended = read_append(rt, alloc, source, mode, version, append, workers)?;
+        return Ok((rewritten, appended));
+    }
+    let rewriters = part_of_workers(workers, rewrite_bytes, bytes_of(append));
+    let appenders = workers - rewriters;
+    let read_first = || -> Result<QueueRead<Both<MemTableRecoverContext, GroupRows>>>
+        requires { IsSync R.row × IsSync S.row × (0 < rewriters) × (rewriters ≤ 256) }
+        ensures { IfOk result (IsQueueRead (S.gives source.entry.now) mode Rewrite version rewrite.entry.now HaveBothRead
+            HaveBothReadExactly) }
+    { read_rewrite(rt, alloc, source, mode, version, rewrite, rewriters) };
+    let read_second = || -> Result<QueueRead<MemTableRecoverContext>>
+        requires { IsSync R.row × IsSync S.row × (0 < appenders) × (appenders ≤ 256) }
+        ensures { IfOk result (IsQueueRead (S.gives source.entry.now) mode Append version append.entry.now HasRead
+            HasReadExactly) }
+    { read_append(rt, alloc, source, mode, version, append, appenders) };
+    let (rewritten, appended) = join(rt, read_first, read_second);
+    let rewritten = rewritten?;
+    let appended = appended?;
+    Ok((rewritten, appended))
+}
+
+/// Reads the files of the rewrite queue, and gathers whether its groups stand in rows.
+///
+/// # Errors
+///
+/// Those of `read_queue`.
+fn read_rewrite<R: Threads + Sync, S: ReadFiles>(
+    rt: &R,
+    alloc: Global,
+    source: &S,
+    mode: RecoveryMode,
+    version: Version,
+    files: &[FileSize],
+    workers: usize,
+) -> Result<QueueRead<Both<MemTableRecoverContext, GroupRows>>>
+    requires { (0 < workers) × (workers ≤ 256) }
+    ensures { IfOk result (IsQueueRead (S.gives source.now) mode Rewrite version files.now HaveBothRead HaveBothReadExactly) }
+{
+    let factory = BothFactory {
+        first: MemTableRecoverContextFactory::new(),
+        second: GroupRowsFactory,
+    };
+    let queue = LogQueue::Rewrite;
+    read_queue(
+        rt, alloc, &factory, source, mode, queue, version, files, workers,
+    )
+}
+
+/// Reads the files of the append queue.
+///
+/// # Errors
+///
+/// Those of `read_queue`.
+fn read_append<R: Threads + Sync, S: ReadFiles>(
+    rt: &R,
+    alloc: Global,
+    source: &S,
+    mode: RecoveryMode,
+    version: Version,
+    files: &[FileSize],
+    workers: usize,
+) -> Result<QueueRead<MemTableRecoverContext>>
+    requires { (0 < workers) × (workers ≤ 256) }
+    ensures { IfOk result (IsQueueRead (S.gives source.now) mode Append version files.now HasRead HasReadExactly) }
+{
+    let factory = MemTableRecoverContextFactory::new();
+    let queue = LogQueue::Append;
+    read_queue(
+        rt, alloc, &factory, source, mode, queue, version, files, workers,
+    )
+}

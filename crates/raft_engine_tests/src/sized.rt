@@ -1,21 +1,64 @@
-//! Files that are read in pieces when they are opened: what is opened of them, and a read that fails.
-
-ghost use Rattle.std.specs.Prelude.{◌≡◌, ◌++◌, ℕ, List, drop};
+//! Files that are read in pieces when they are opened: what is opened of them, a read that fails, and a file that changes.
 
 use crate::batches::Part::Large;
 use crate::batches::{Part, REGION};
 use crate::calls::{copies, holds, new_engine, rotate, write};
 use crate::engine::text_of;
-use raft_base::{FileId, FileSeq, LogQueue, Version};
+use raft_base::{FileBlockHandle, FileId, FileSeq, LogQueue, Version};
 use raft_engine::{Opened, RecoveryMode, Unopened};
-use raft_files::MemoryFiles;
-use raft_opening::open_sized;
+use raft_files::{Asked, EngineFiles, NotesFound};
+use raft_opening::open_in_pieces;
 use raft_reading::{FileSize, ReadFiles};
 use raft_records::{Error, Result};
 use std::alloc::Global;
 use std::io;
 use std::io::ErrorKind;
 use std::thread::Threads;
+
+/// Files of an engine of which only what is asked is noted.
+#[derive(Drop)]
+struct UnreadFiles {
+    asked: Asked,
+}
+
+impl EngineFiles for UnreadFiles {
+    ghost asked = { λ files. files.asked.asks };
+
+    fn append(&mut self, queue: LogQueue, bytes: &[u8]) -> Result<()> {
+        self.asked.put(queue, bytes);
+        Ok(())
+    }
+
+    fn rotate(&mut self, queue: LogQueue, seq: FileSeq) -> Result<()> {
+        self.asked.begin(queue, seq);
+        Ok(())
+    }
+
+    fn sync(&mut self, queue: LogQueue) -> Result<()> {
+        self.asked.sync(queue);
+        Ok(())
+    }
+
+    fn delete_oldest(&mut self, queue: LogQueue) -> Result<()> {
+        self.asked.delete(queue);
+        Ok(())
+    }
+
+    fn truncate(&mut self, queue: LogQueue, len: u64) -> Result<()> {
+        self.asked.cut(queue, len);
+        Ok(())
+    }
+
+    fn read(&mut self, _place: FileBlockHandle) -> Result<Vec<u8>> {
+        Err(Error::Failed)
+    }
+}
+
+impl NotesFound for UnreadFiles {
+    fn note_found(&mut self, found: Asked) {
+        self.asked = found;
+    }
+}
 
 /// Two append files in memory, of which reads fail from an offset on.
 #[derive(Drop)]
@@ -25,41 +68,24 @@ struct TwoFiles {
     fails_from: u64,
 }
 
-impl TwoFiles {
-    /// Returns so many bytes of a file, from an offset on; fewer where the file ends before.
-    fn part(&self, seq: FileSeq, offset: u64, len: usize) -> &[u8]
-        ensures first { seq ≡ 1 → (rest : List ℕ) × (drop offset self.now.first.items ≡ result.now ++ rest) }
-        ensures second { seq ≡ 2 → (rest : List ℕ) × (drop offset self.now.second.items ≡ result.now ++ rest) }
-    {
-        let file = if seq == 1 { &self.first } else { &self.second };
-        part_of(file.as_slice(), offset, len)
+impl ReadFiles for TwoFiles {
+    fn read(&self, file: FileId, offset: u64, len: usize, bytes: &mut Vec<u8>) -> io::Result<()> {
+        if offset >= self.fails_from {
+            return Err(io::Error::from(ErrorKind::TimedOut));
+        }
+        let held = if file.seq == 1 { &self.first } else { &self.second };
+        bytes.extend_from_slice(part_of(held.as_slice(), offset, len))?;
+        Ok(())
     }
 }
 
 /// Returns so many of these bytes, from an offset on; fewer where they end before.
-fn part_of(bytes: &[u8], offset: u64, len: usize) -> &[u8]
-    ensures { (rest : List ℕ) × (drop offset bytes.now ≡ result.now ++ rest) }
-{
+fn part_of(bytes: &[u8], offset: u64, len: usize) -> &[u8] {
     let Some((_, rest)) = bytes.split_at_checked(offset as usize) else {
         return &[];
     };
     let (part, _) = rest.split_at(len.min(rest.len()));
     part
-}
-
-impl ReadFiles for TwoFiles {
-    ghost use Rattle.std.specs.Prelude.{◌≡◌, ◌++◌, ℕ, List, drop};
-
-    ghost gives = { λ held file offset bytes. (file.seq ≡ 1 → (rest : List ℕ) × (drop offset held.first.items ≡ bytes ++ rest))
-        × (file.seq ≡ 2 → (rest : List ℕ) × (drop offset held.second.items ≡ bytes ++ rest)) };
-
-    fn read(&self, file: FileId, offset: u64, len: usize, bytes: &mut Vec<u8>) -> io::Result<()> {
-        if offset >= self.fails_from {
-            return Err(io::Error::from(ErrorKind::TimedOut));
-        }
-        bytes.extend_from_slice(self.part(file.seq, offset, len))?;
-        Ok(())
-    }
 }
 
 /// How many bytes the second file lacks at its end, from where on reads fail, and what is opened; nothing where it is refused.
@@ -115,19 +141,16 @@ fn open<R: Threads + Sync>(
     rt: &R,
     alloc: Global,
     held: &TwoFiles,
-) -> Result<std::result::Result<Opened<MemoryFiles>, Unopened<MemoryFiles>>> {
-    let mut append = Vec::new(alloc);
-    append.push((1, Vec::from_slice(alloc, held.first.as_slice())?))?;
-    append.push((2, Vec::from_slice(alloc, held.second.as_slice())?))?;
-    let files = MemoryFiles::found(append, Vec::new(alloc));
+) -> std::result::Result<Opened<UnreadFiles>, Unopened<UnreadFiles>> {
+    let files = UnreadFiles {
+        asked: Asked::new(),
+    };
     let mode = RecoveryMode::TolerateTornTail;
     let sizes = [size(1, held.first.len()), size(2, held.second.len())];
-    Ok(open_sized(rt, alloc, mode, Version::V2, files, held, &sizes, &[], 4))
+    open_in_pieces(rt, alloc, mode, Version::V2, files, held, &sizes, &[], 4)
 }
 
-fn size(seq: FileSeq, len: usize) -> FileSize
-    ensures { result ≡ record { seq = seq; len = len } }
-{
+fn size(seq: FileSeq, len: usize) -> FileSize {
     FileSize {
         seq,
         len: len as u64,
@@ -136,7 +159,7 @@ fn size(seq: FileSeq, len: usize) -> FileSize
 
 /// Tests whether two files are opened as a row says. A refusal other than that of a read that fails is handed on.
 fn is_opened<R: Threads + Sync>(rt: &R, alloc: Global, held: &TwoFiles, row: &Row) -> Result<bool> {
-    match open(rt, alloc, held)? {
+    match open(rt, alloc, held) {
         Ok(opened) => Ok(text_of(alloc, opened.engine.accessor().get(REGION))?.as_str() == row.2),
         Err(unopened) => match unopened.error {
             Error::Io(e) => Ok(row.2.is_empty() && e.kind() == ErrorKind::TimedOut),

@@ -104,12 +104,14 @@ impl Asked {
         self.note_found(&[number_of(queue)], files);
     }
 
-    /// Makes the list of what was asked once the files of both queues are found that are said to be: their bytes are nowhere held.
-    pub fn of_found<X: Found>(_found: &X) -> Asked
-        requires { (append : List NumberedBytes) × (rewrite : List NumberedBytes) × X.are_found _found.now append rewrite }
-        ensures { (append : List NumberedBytes) × (rewrite : List NumberedBytes) × X.are_found _found.now append rewrite
+    /// Makes the list of what was asked once files of both queues are found: some of those that may be, by what says so. No byte
+    /// of them is held.
+    pub fn of_found<X: Found>(found: &X) -> Asked
+        requires { (append : List NumberedBytes) × (rewrite : List NumberedBytes) × X.are_found found.now append rewrite }
+        ensures { (append : List NumberedBytes) × (rewrite : List NumberedBytes) × X.are_found found.now append rewrite
             × (result.asks ≡ ask Rewrite (Found rewrite) ∷ ask Append (Found append) ∷ []) }
     {
+        let _ = found;
         Asked {
             marker: PhantomData,
         }

@@ -1,10 +1,9 @@
 //! The files that an engine writes.
 
-ghost use Rattle.std.specs.Prelude.{◌≡◌, List, [], IfErr, IfOk, OnOk, OnErr};
+ghost use Rattle.std.specs.Prelude.{◌≡◌, List, IfErr, IfOk, OnOk, OnErr};
 ghost use Rattle.raft_base.specs.declared.errors.Error.{Error};
 ghost use Rattle.raft_files.specs.Asks.{Ask, Begin, Cut, Delete, IsAsked, MayBeAsked, Put, Read, Sync, ask};
 
-use crate::Asked;
 use raft_base::{FileBlockHandle, FileSeq, LogQueue, Result};
 
 /// The files of both queues, by what is asked of them.
@@ -73,12 +72,4 @@ pub trait EngineFiles {
         ensures ok { IfOk result (λ bytes. IsAsked (ask place.id.queue (Read place bytes.items))
             (asked self.old) (asked self.new)) }
         ensures err { OnErr result (asked self.new ≡ asked self.old) };
-}
-
-/// Files that are found when the machine starts, of which nothing was noted yet: they are read first, and noted then.
-pub trait NotesFound: EngineFiles {
-    /// Notes the files that were found.
-    fn note_found(&mut self, found: Asked)
-        requires { asked self.old ≡ [] }
-        ensures { asked self.new ≡ found.asks };
 }

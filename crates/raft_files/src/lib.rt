@@ -8,6 +8,6 @@ pub mod laws;
 pub mod memory_files;
 
 pub use asked::Asked;
-pub use engine_files::{EngineFiles, NotesFound};
-pub use found::Found;
+pub use engine_files::EngineFiles;
+pub use found::{Found, NotesFound};
 pub use memory_files::MemoryFiles;

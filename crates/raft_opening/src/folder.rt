@@ -50,6 +50,7 @@ pub fn open_folder<'a, R: OpeningHost>(
 }
 
 /// The files of a queue.
+#[derive(Drop)]
 struct QueueFiles {
     sizes: Vec<FileSize>,
     paths: Vec<(FileSeq, String)>,

@@ -1,17 +1,15 @@
 //! The engine, from `raft_engine`.
 
-ghost use Rattle.std.specs.Prelude.{◌≡◌, List, [], map};
+ghost use Rattle.std.specs.Prelude.{◌≡◌, [], map};
 ghost use Rattle.std.specs.Fn.{FnOnceReturnsAtMut};
-ghost use Rattle.raft_files.specs.Asks.{NumberedBytes};
 ghost use Rattle.raft_files.specs.HeldFiles.{file_shown};
 ghost use Rattle.raft_records.specs.LogBatch.{is_open};
 ghost use Rattle.raft_engine.specs.ReadContexts.{HaveReadFound};
-ghost use Rattle.raft_opening.specs.SizedFiles.{AreBothSized};
 ghost use Rattle.raft_engine.specs.StoredFound.{found_asks};
 
 use raft_engine::{CutTail, Engine, Opened, Recovered, RecoveryMode, Unopened};
-use raft_files::{EngineFiles, MemoryFiles};
-use raft_opening::open_sized;
+use raft_files::{EngineFiles, MemoryFiles, NotesFound};
+use raft_opening::open_in_pieces;
 use raft_reading::{FileSize, ReadFiles};
 use raft_recover::{
     Error, FileSeq, LogBatch, LogQueue, MemTableAccessor, MemTableRecoverContext, Result, Segment,
@@ -133,7 +131,7 @@ where
 }
 
 /// Opens an engine over files that are read in pieces.
-fn open_engine_sized<R: Threads + Sync, F: EngineFiles, S: ReadFiles>(
+fn open_engine_in_pieces<R: Threads + Sync, F: NotesFound, S: ReadFiles>(
     rt: &R,
     alloc: Global,
     mode: RecoveryMode,
@@ -145,11 +143,9 @@ fn open_engine_sized<R: Threads + Sync, F: EngineFiles, S: ReadFiles>(
     workers: usize,
 ) -> std::result::Result<Opened<F>, Unopened<F>>
 where
-    requires { (append_files : List NumberedBytes) × (rewrite_files : List NumberedBytes)
-        × (F.asked files ≡ found_asks append_files rewrite_files)
-        × AreBothSized (S.gives source.now) append.now rewrite.now append_files rewrite_files }
+    requires { F.asked files ≡ [] }
 {
-    open_sized::<R, F, S>(
+    open_in_pieces::<R, F, S>(
         rt, alloc, mode, version, files, source, append, rewrite, workers,
     )
 }

@@ -2,7 +2,6 @@
 use Rattle.std.specs.Prelude.{◌≡◌, ◌⊎◌, ℕ, List, [], ◌∷◌, ◌++◌, length, take, codes, Option, Some, None}
 use Rattle.raft_base.specs.Corruption.{IsCorruption}
 use Rattle.raft_base.specs.declared.errors.Error.{Error}
-use Rattle.raft_base.specs.declared.errors.Error.TheVariants as errors
 use Rattle.raft_base.specs.declared.pipe_log.FileId.{FileId}
 use Rattle.raft_base.specs.declared.pipe_log.LogFileContext.{LogFileContext}
 use Rattle.raft_base.specs.declared.pipe_log.LogQueue.{LogQueue}
@@ -103,10 +102,9 @@ abbrev pub IsReadingOf : Giving → RecoveryMode → Version → List FileSize �
 IsReadingOf Gives mode version append rewrite reading =
     (append_files : List NumberedBytes) × (rewrite_files : List NumberedBytes) × IsReadingOver Gives mode version append rewrite reading append_files rewrite_files
 
--- the files changed while they were read: a reading was refused, and another one wasn't; the refusal says so, or that a read failed
+-- the refusal of files of which one reading was refused, and the next one wasn't
 abbrev pub IsChangedAs : Error → Type 0
-IsChangedAs (errors.Io error) = Unit {0}
-IsChangedAs e = IsCorruption (codes "the files changed while they were read") e
+IsChangedAs e = IsCorruption (codes "the files changed while they were read, or a read failed") e
 
 -- why files of these sizes aren't read: whichever they are, if reads give only bytes that stand there, a read failed, or the files are refused; or they changed
 abbrev pub AreUnreadAs : Giving → (FileId → ℕ → IoError → Type 0) → RecoveryMode → Version → ℕ → List FileSize → List FileSize → Error → Type 0

@@ -2,7 +2,7 @@
 
 use crate::opening::open_in_pieces;
 use crate::path_source::PathSource;
-use raft_base::{Error, FileId, FileSeq, LogQueue, Result, Version};
+use raft_base::{Error, LogQueue, Result, Version};
 use raft_engine::{Opened, RecoveryMode};
 use raft_folder::{FolderFiles, FolderHost};
 use raft_reading::FileSize;
@@ -28,10 +28,13 @@ pub fn open_folder<'a, R: OpeningHost>(
     workers: usize,
 ) -> Result<Opened<FolderFiles<'a, R>>> {
     let files = FolderFiles::open_unread(rt, path)?;
-    let append = files_of(rt, &files, LogQueue::Append)?;
-    let rewrite = files_of(rt, &files, LogQueue::Rewrite)?;
-    let source = PathSource::new(rt, append.paths, rewrite.paths);
-    let (append, rewrite) = (append.sizes, rewrite.sizes);
+    let (append, rewrite) = (
+        files.paths(LogQueue::Append)?,
+        files.paths(LogQueue::Rewrite)?,
+    );
+    let source = PathSource::new(rt, append, rewrite);
+    let append = sizes_of(rt, &files, LogQueue::Append)?;
+    let rewrite = sizes_of(rt, &files, LogQueue::Rewrite)?;
     let opened = open_in_pieces(
         rt,
         rt.alloc(),
@@ -49,31 +52,20 @@ pub fn open_folder<'a, R: OpeningHost>(
     }
 }
 
-/// The files of a queue.
-#[derive(Drop)]
-struct QueueFiles {
-    sizes: Vec<FileSize>,
-    paths: Vec<(FileSeq, String)>,
-}
-
-/// Returns the files of a queue in a folder.
+/// Returns the numbers and the lengths of a queue's files in a folder.
 ///
 /// # Errors
 ///
 /// Those of the folder.
-fn files_of<R: FolderHost>(
+fn sizes_of<R: FolderHost>(
     rt: &R,
     files: &FolderFiles<'_, R>,
     queue: LogQueue,
-) -> Result<QueueFiles> {
+) -> Result<Vec<FileSize>> {
     let mut sizes = Vec::new(rt.alloc());
-    let mut paths = Vec::new(rt.alloc());
     for file in files.list(queue)? {
-        sizes.push(FileSize {
-            seq: file.seq,
-            len: file.len,
-        })?;
-        paths.push((file.seq, files.path_of(FileId::new(queue, file.seq))?))?;
+        let (seq, len) = (file.seq, file.len);
+        sizes.push(FileSize { seq, len })?;
     }
-    Ok(QueueFiles { sizes, paths })
+    Ok(sizes)
 }

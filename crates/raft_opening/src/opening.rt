@@ -40,7 +40,7 @@ impl<S: ReadFiles> Found for FoundByReading<'_, S> {
 /// The files are handed back. Nothing was asked of them, nor noted as found, where they aren't read to their end: those of
 /// [`Engine::open_telling`]; `Io`, whose text begins with the queue, the file and the offset, where a read fails, or gives another
 /// number of bytes than it was asked for. Files that are refused are read once more, to name what comes first; if they aren't
-/// refused then, that is `Corruption`, as where they changed meanwhile, or the failure of the first reading.
+/// refused then, that is `Corruption`, as where they changed meanwhile.
 ///
 /// Those of `EngineFiles`: some of it was asked then, and whatever is left of the files has the records that were found. They
 /// may be found again, and opened.

@@ -5,7 +5,7 @@ ghost use Rattle.std.specs.Thread.{IsSync};
 ghost use Rattle.raft_base.specs.declared.pipe_log.LogQueue.TheVariants.{Append, Rewrite};
 ghost use Rattle.raft_contexts.specs.RecoverContext.{HasRead, HasReadExactly};
 ghost use Rattle.raft_engine.specs.ReadQueues.{HaveBothRead, HaveBothReadExactly};
-ghost use Rattle.raft_opening.specs.ReadOnce.{AreUnreadAs, IsChangedAs, IsQueueRead, IsReadingOf};
+ghost use Rattle.raft_opening.specs.ReadOnce.{AreUnreadAs, IsQueueRead, IsReadingOf};
 
 use crate::queue_read::{QueueRead, read_queue};
 use crate::sized_files::check_few_bytes;
@@ -22,8 +22,8 @@ use raft_recover::recovery::part_of_workers;
 use std::alloc::Global;
 use std::thread::{Threads, join};
 
-/// Why files are refused that gave other bytes when they were read again.
-const CHANGED: &str = "the files changed while they were read";
+/// Why files are refused of which one reading was refused, and the next one wasn't.
+const CHANGED: &str = "the files changed while they were read, or a read failed";
 
 /// Reads found files piece by piece, each byte once, by so many workers, and recovers the tables of those that are there once what
 /// is missing was asked. A piece is let go once its batches are replayed: so besides the tables no more is in memory than a piece
@@ -34,7 +34,7 @@ const CHANGED: &str = "the files changed while they were read";
 ///
 /// Those of `Engine::open_telling`; `Io`, whose text begins with the queue, the file and the offset, where a read fails, or gives
 /// another number of bytes than it was asked for. Where files are refused they are read once more, to name what comes first; if
-/// they aren't refused then, that is `Corruption`, as where they changed meanwhile, or the failure of the first reading.
+/// they aren't refused then, that is `Corruption`, as where they changed meanwhile.
 pub fn read_in_pieces<R: Threads + Sync, S: ReadFiles>(
     rt: &R,
     alloc: Global,
@@ -49,24 +49,14 @@ pub fn read_in_pieces<R: Threads + Sync, S: ReadFiles>(
     ensures err { IfErr result (AreUnreadAs (S.gives source.now) (S.may_fail source.now) mode version workers append.now
         rewrite.now) }
 {
-    let first = match read_once(rt, alloc, source, mode, version, append, rewrite, workers) {
+    match read_once(rt, alloc, source, mode, version, append, rewrite, workers) {
         Ok(reading) => return Ok(reading),
         Err(Error::Memory) => return Err(Error::Memory),
-        Err(error) => error,
-    };
-    match read_sized(rt, alloc, source, mode, version, append, rewrite, workers) {
-        Ok(_) => Err(changed(alloc, first)),
-        Err(error) => Err(error),
+        Err(_) => {}
     }
-}
-
-/// Returns the refusal of files that a reading refused for this reason, and another one didn't.
-fn changed(alloc: Global, first: Error) -> Error
-    ensures { IsChangedAs result }
-{
-    match first {
-        Error::Io(error) => Error::Io(error),
-        _ => Error::corruption(alloc, CHANGED),
+    match read_sized(rt, alloc, source, mode, version, append, rewrite, workers) {
+        Ok(_) => Err(Error::corruption(alloc, CHANGED)),
+        Err(error) => Err(error),
     }
 }
 

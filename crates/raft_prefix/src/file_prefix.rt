@@ -83,12 +83,12 @@ pub fn replay_prefix<M: ReplayMachine, S: ReadFiles>(
     let mut piece = Vec::new(alloc);
     let mut at = 0;
     loop {
-        let (count, stopped) = replay_readable(machine, alloc, file, at, piece.as_slice())?;
-        let_go(&mut piece, count);
-        at += count as u64;
+        let (passed, stopped) = replay_readable(machine, alloc, file, at, piece.as_slice())?;
+        let_go(&mut piece, passed);
+        at += passed as u64;
         let left = len - at - piece.len() as u64;
-        let wanted = bytes_wanted(alloc, piece.as_slice(), left);
-        if wanted == 0 {
+        let more = bytes_wanted(alloc, piece.as_slice(), left);
+        if more == 0 {
             let prefix = Prefix { len: at, stopped };
             return Ok(ReplayedPrefix {
                 prefix,
@@ -96,7 +96,7 @@ pub fn replay_prefix<M: ReplayMachine, S: ReadFiles>(
             });
         }
         drop(stopped);
-        read_behind(source, file.id, at, wanted, &mut piece)?;
+        read_behind(source, file.id, at, more, &mut piece)?;
     }
 }
 

@@ -83,8 +83,8 @@ pub fn replay_readable<M: ReplayMachine>(
     loop {
         match batch.read_next(file, offset, bytes, at) {
             Ok(Some(next)) => {
-                let (_, own) = bytes.split_at(at);
-                check_entries(alloc, file.id, offset + at as u64, own)?;
+                let (_, rest) = bytes.split_at(at);
+                check_entries(alloc, file.id, offset + at as u64, rest)?;
                 machine.replay_read(&batch, file.id)?;
                 at = next;
             }

@@ -7,8 +7,9 @@ use Rattle.raft_base.specs.declared.pipe_log.LogQueue.{LogQueue}
 use Rattle.raft_base.specs.declared.pipe_log.Version.{Version}
 use Rattle.raft_records.specs.FilePart.{Part, part_of}
 use Rattle.raft_records.specs.Item.{Item, Content, entries, command, pair}
+use Rattle.raft_records.proofs.FramedAt.{framed_at}
 use Rattle.raft_records.proofs.PartLemmas.{batch_inside}
-use Rattle.raft_replay.proofs.CutPartLemmas.{batch_header, framed_at, header_ends}
+use Rattle.raft_replay.proofs.CutPartLemmas.{batch_header, header_ends}
 use Rattle.raft_reading.specs.QueueRead.{file_of}
 use Rattle.raft_reading.specs.declared.queue_files.FileSize.{FileSize}
 use Rattle.raft_listing.specs.Scanned.{AreSaidOf, IsSaidOfContent, IsScanned}
@@ -92,7 +93,7 @@ leads_on : (part : Part) (left : ℕ) → LeadsNowhere part.bytes left → IsSou
 leads_on part left nowhere ([], ends) = let room = nowhere.room in absurd (omega (arith, room, ends))
 leads_on part left nowhere (items ∷ batches, sound) =
     let next = sound.0 in
-    let b = sound.1.0 in
+    let b = sound.1 in
     let header = batch_header part 0 items next b in
     let len = length (framed_at b).bytes in
     let long = nowhere.nowhere (framed_at b).offset len header in

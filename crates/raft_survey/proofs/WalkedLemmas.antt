@@ -22,6 +22,10 @@ split_again whole old mid rest front left first others same behind =
 pub cut_again : (whole : ℕ) (old mid front : List ℕ) → mid ≡ take whole old → front ≡ mid → AreBatchesByHeader (take whole old) → AreBatchesByHeader front
 cut_again whole old mid front first same are = subst AreBatchesByHeader (sym first ∙ sym same) are
 
+-- so have those that are left
+pub none_again : (whole : ℕ) (old rest left : List ℕ) → rest ≡ drop whole old → left ≡ rest → HasNoWhole (drop whole old) → HasNoWhole left
+none_again whole old rest left others behind none = subst HasNoWhole (sym others ∙ sym behind) none
+
 -- pieces behind pieces
 joined_both : (ps qs : List (List ℕ)) → joined (ps ++ qs) ≡ joined ps ++ joined qs
 joined_both [] qs = refl
@@ -37,7 +41,7 @@ all_both P (x ∷ xs) ys first second = (first.0, all_both P xs ys first.1 secon
 -- no more bytes are wanted behind a piece without a whole batch in front: there are none, or no header leads on
 leads_nowhere : (piece : List ℕ) (left : ℕ) → HasNoWhole piece → IsDecided piece left → (left ≡ 0) ⊎ LeadsNowhere piece left
 leads_nowhere piece left none (inl end) = inl end
-leads_nowhere piece left none (inr decided) = inr (record { room = decided.0; nowhere = λ offset len h. longer (decided.1 offset len h) (none offset len h) })
+leads_nowhere piece left none (inr decided) = inr (record { room = decided.0; nowhere = λ offset len h. longer (decided.1 offset len h) (none.none offset len h) })
   where
     longer : {len : ℕ} → (len ≤ length piece) ⊎ (length piece + left < len) → length piece < len → length piece + left < len
     longer (inl whole) short = absurd (omega (arith, whole, short))

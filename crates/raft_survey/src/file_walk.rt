@@ -133,7 +133,7 @@ fn walk_whole<V: PartVisitor>(
 }
 
 /// Takes the batches off the piece that are whole in it, from its first byte on, and returns them.
-#[tactic(auto, using(crate::proofs::WalkedLemmas::split_again, crate::proofs::WalkedLemmas::cut_again))]
+#[tactic(auto, using(crate::proofs::WalkedLemmas::split_again, crate::proofs::WalkedLemmas::cut_again, crate::proofs::WalkedLemmas::none_again))]
 fn take_whole(piece: &mut Vec<u8>) -> Result<Vec<u8>>
     ensures split { IfOk result (λ prefix. piece.old.items ≡ prefix.items ++ piece.new.items) }
     ensures cut { IfOk result (λ prefix. AreBatchesByHeader prefix.items) }

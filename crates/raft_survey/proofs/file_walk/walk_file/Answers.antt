@@ -1,4 +1,4 @@
-use Rattle.std.proofs.Common.{◌≡◌, ◌+◌, ◌-◌, ◌∙◌, length, arith}
+use Rattle.std.proofs.Common.{◌≡◌, ◌+◌, ◌-◌, ◌∙◌, ℕ, List, length, subst, arith}
 use Rattle.std.proofs.lemmas.Result.{IfErr-weaker, on_ok_weaker}
 use Rattle.raft_replay.proofs.Passed.{on_passed}
 use Rattle.raft_prefix.specs.Pieces.{IsDecided}
@@ -29,7 +29,7 @@ returns-then-wanted-eq0-clause-ok g c =
     let counted : c.len.result ≡ length piece = c.len.ensures ∙ c.walk_whole.new.piece.ok.0 in
     let inside = reading.inside in
     let all : c.in_ok-at.at + length piece + left ≡ c.args.len = omega (arith, counted, inside) in
-    let decided : IsDecided piece left = ? in
+    let decided : IsDecided piece left = subst (λ (xs : List ℕ). IsDecided xs left) c.as_slice.ensures.value (c.bytes_wanted-wanted.ensures.none c.if-wanted-eq0.true) in
     on_ok_weaker c.walk_piece.result
     (λ walked. finished Visits c.args.file.now gives c.args.len c.args.visitor.now c.in_ok-at.at left piece c.walk_whole.new.visitor c.walk_piece.new.visitor reading all c.in_ok-at.ensures.none decided walked)
     c.walk_piece.ensures.ok

@@ -1,9 +1,12 @@
 -- What an opening would do, by what a reading of the files says.
-use Rattle.std.proofs.Common.{◌≡◌, ◌++◌, ℕ, List, true, refl, subst, sym}
+use Rattle.std.proofs.Common.{◌≡◌, ◌≢◌, ◌∙◌, ◌++◌, ℕ, List, Result, Ok, Err, IfErr, true, refl, subst, sym}
+use Rattle.raft_base.specs.declared.errors.Error.{Error}
+use Rattle.raft_base.specs.declared.errors.Error.TheVariants as errors
 use Rattle.raft_base.specs.declared.pipe_log.FileId.{FileId}
 use Rattle.raft_base.specs.declared.pipe_log.LogQueue.TheVariants.{Append, Rewrite}
 use Rattle.raft_base.specs.declared.pipe_log.Version.{Version}
 use Rattle.raft_files.specs.Asks.{NumberedBytes}
+use Rattle.raft_records.specs.Lines.{IsIoError}
 use Rattle.raft_reading.specs.IoErrors.{IoError}
 use Rattle.raft_reading.specs.declared.queue_files.FileSize.{FileSize}
 use Rattle.raft_engine.specs.CutTails.{IsTailTold, tail_of}
@@ -15,7 +18,8 @@ use Rattle.raft_engine.specs.declared.recovered.Recovered.{Recovered}
 use Rattle.raft_engine.specs.declared.recovery_mode.RecoveryMode.TheVariants.{TolerateTornTail}
 use Rattle.raft_engine.proofs.OpenedLemmas.{opened_so}
 use Rattle.raft_opening.specs.ReadOnce.{IsReadingOf}
-use Rattle.raft_inspect.specs.Openings.{AreTablesOf, CutsNothing, HoldsOfRead, IsAcceptedSo, IsOpenedSo, IsOpeningOf}
+use Rattle.raft_inspect.specs.Faults.{IsUntried}
+use Rattle.raft_inspect.specs.Openings.{AreRefusedFor, AreTablesOf, CutsNothing, HoldsOfRead, IsAcceptedSo, IsOpenedSo, IsOpeningOf}
 use Rattle.raft_inspect.specs.SoundFiles.{IsUncut}
 use Rattle.raft_inspect.specs.declared.opening.Opening.{Opening}
 use Rattle.raft_inspect.specs.declared.opening.Opening.TheVariants.{Opens, Refuses}
@@ -76,6 +80,12 @@ module _ (Gives : FileId → ℕ → List ℕ → Type 0) (Fails : FileId → �
         are_tables = r.are_tables;
       })
       read
+
+  -- a reading that is no refusal of an opening
+  pub untried_so : (workers : ℕ) (r : Result Opening Error) (error : Error) → (error ≢ errors.Memory → AreRefusedFor Gives Fails version workers append rewrite error) → IfErr r (λ e. e ≡ error)
+      → IfErr r (λ e. e ≢ errors.Memory → IsIoError e) → IfErr r (λ e. e ≢ errors.Memory → IsUntried Gives Fails version workers append rewrite e)
+  untried_so workers (Ok opening) error refused same io = tt
+  untried_so workers (Err e) error refused same io = λ other. (io other, subst (AreRefusedFor Gives Fails version workers append rewrite) (sym same) (refused (λ memory. other (same ∙ memory))))
 
   -- an opening that cuts nothing off accepts the files, they end with their batches, and there are tables
   pub opening_uncut : (workers : ℕ) (opening : Opening) → IsOpeningOf Gives Fails version workers append rewrite opening → CutsNothing opening → HoldsOfRead Gives append rewrite (IsUncut version)

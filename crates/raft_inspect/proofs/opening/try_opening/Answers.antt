@@ -1,8 +1,8 @@
 use Rattle.std.proofs.Common.{subst, sym}
-use Rattle.std.proofs.lemmas.Result.{IfErr-weaker, IfOk-weaker}
+use Rattle.std.proofs.lemmas.Result.{IfOk-weaker}
 use Rattle.raft_inspect.specs.Openings.{IsOpeningOf}
 use Rattle.raft_inspect.specs.declared.opening.Opening.{Opening}
-use Rattle.raft_inspect.proofs.OpeningLemmas.{opens_so}
+use Rattle.raft_inspect.proofs.OpeningLemmas.{opens_so, untried_so}
 use Rattle.raft_inspect.proofs.opening.try_opening.Goals as goal
 
 pub returns-in-Ok-clause-ok : goal.returns-in-Ok-clause-ok
@@ -20,4 +20,7 @@ returns-in-Err-clause-ok g c =
     c.refusal_for.ensures.ok
 
 pub returns-in-Err-clause-untried : goal.returns-in-Err-clause-untried
-returns-in-Err-clause-untried g c = ?
+returns-in-Err-clause-untried g c =
+    let sizes = c.args.sizes.now in
+    untried_so (g.S.ReadFiles.gives c.args.source.now) (g.S.ReadFiles.may_fail c.args.source.now) c.args.version sizes.append.items sizes.rewrite.items c.args.workers c.refusal_for.result c.in-Err.error c.in-Err.ensures.refused
+    c.refusal_for.ensures.same c.refusal_for.ensures.io

@@ -108,12 +108,21 @@ fn refusal_for(error: Error) -> Result<Opening>
     ensures same { IfErr result (λ e. e ≡ error) }
     ensures io { IfErr result (λ e. e ≢ Error.Memory → IsIoError e) }
 {
+    if matches!(error, Error::Memory) {
+        return Err(Error::Memory);
+    }
+    if is_refused_read(&error) {
+        return Err(error);
+    }
+    Ok(Opening::Refuses(error))
+}
+
+/// Tests whether the system refused a read: not where bytes end too early, which may be the refusal of a batch.
+fn is_refused_read(error: &Error) -> bool
+    ensures { IsTrue result → IsIoError error.now }
+{
     match error {
-        Error::Memory => Err(Error::Memory),
-        Error::Io(error) => match error.kind() {
-            ErrorKind::UnexpectedEof => Ok(Opening::Refuses(Error::Io(error))),
-            _ => Err(Error::Io(error)),
-        },
-        error => Ok(Opening::Refuses(error)),
+        Error::Io(error) => !matches!(error.kind(), ErrorKind::UnexpectedEof),
+        _ => false,
     }
 }

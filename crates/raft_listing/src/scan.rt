@@ -246,5 +246,4 @@ fn add_stretch(
 pub fn scans_sum_up()
     ensures { (part : Part) (met : List (ℕ × Met)) (old new : FileScan) → old.batches < 2 ^ 64
         → AreVisited IsScanned part old met new → IsSummedUp part met old new }
-{
-}
+{}

@@ -152,7 +152,10 @@ pub(crate) fn in_folder<'a, R: Host>(
 {
     refuse_file(rt, path)?;
     let folder = ReadFolder::open(rt, path)?;
-    let (append, rewrite) = (folder.paths(LogQueue::Append)?, folder.paths(LogQueue::Rewrite)?);
+    let (append, rewrite) = (
+        folder.paths(LogQueue::Append)?,
+        folder.paths(LogQueue::Rewrite)?,
+    );
     take_files(rt, append, rewrite, Some(folder), times)
 }
 
@@ -165,7 +168,10 @@ pub(crate) fn in_open_folder<'a, R: Host>(
     rt: &'a R,
     folder: &FolderFiles<'a, R>,
 ) -> ToolResult<Found<'a, R>> {
-    let (append, rewrite) = (folder.paths(LogQueue::Append)?, folder.paths(LogQueue::Rewrite)?);
+    let (append, rewrite) = (
+        folder.paths(LogQueue::Append)?,
+        folder.paths(LogQueue::Rewrite)?,
+    );
     take_files(rt, append, rewrite, None, 1)
 }
 

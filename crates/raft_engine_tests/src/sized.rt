@@ -73,7 +73,11 @@ impl ReadFiles for TwoFiles {
         if offset >= self.fails_from {
             return Err(io::Error::from(ErrorKind::TimedOut));
         }
-        let held = if file.seq == 1 { &self.first } else { &self.second };
+        let held = if file.seq == 1 {
+            &self.first
+        } else {
+            &self.second
+        };
         bytes.extend_from_slice(part_of(held.as_slice(), offset, len))?;
         Ok(())
     }
@@ -92,23 +96,17 @@ fn part_of(bytes: &[u8], offset: u64, len: usize) -> &[u8] {
 type Row = (usize, u64, &'static str);
 
 static ROWS: [Row; 5] = [
-    (0, u64::MAX, "[1,2001)"),
-    (1, u64::MAX, "[1,1601)"),
-    (1_400_000, u64::MAX, "[1,1201)"),
-    (4_800_000, u64::MAX, "[1,401)"),
+    (0, u64::MAX, "[1,2801)"),
+    (1, u64::MAX, "[1,2401)"),
+    (1_400_000, u64::MAX, "[1,801)"),
+    (7_400_000, u64::MAX, "[1,401)"),
     (0, 4 << 20, ""),
 ];
 
-/// What the batches of the second file say, of more than a MiB each: the last one begins in the first piece that is read, and ends in
-/// the second.
-static SECOND: [Part; 4] = [
-    Large(401, 801),
-    Large(801, 1201),
-    Large(1201, 1601),
-    Large(1601, 2001),
-];
+/// What the batches of the second file say: two of more than a MiB each, and between them one that is longer than a piece.
+static SECOND: [Part; 3] = [Large(401, 801), Large(801, 2401), Large(2401, 2801)];
 
-/// Makes the bytes of two files, of which the first has one batch, and the second four.
+/// Makes the bytes of two files, of which the first has one batch, and the second three.
 fn two_files(alloc: Global) -> Result<(Vec<u8>, Vec<u8>)> {
     let mut engine = new_engine(alloc)?;
     write(alloc, &mut engine, &[Large(1, 401)], false)?;

@@ -40,12 +40,12 @@ use Rattle.raft_opening.proofs.SizedLemmas.{sized_missing, torn_accepted, whole_
 
 module _ {M : Type 0} (Gives : ℕ → List ℕ → Type 0) (mode : RecoveryMode) (file : LogFileContext) (len : ℕ) (stands_for stands_exactly : M → List Event → Type 0) (old new : M) (read : ReplayedPrefix)
     (p : IsPrefixReplayed Gives file len stands_for stands_exactly old new read) where
-  given : List ℕ
+  abbrev given : List ℕ
   given = p.front ++ read.behind.items
 
   -- it ends with its batches
   module _ (none : read.prefix.stopped ≡ None) where
-    rest : List ℕ
+    abbrev rest : List ℕ
     rest = replicate (len - length p.front - length read.behind.items) 0
 
     ends : length p.front ≡ length (given ++ rest)
@@ -87,7 +87,7 @@ module _ {M : Type 0} (Gives : ℕ → List ℕ → Type 0) (mode : RecoveryMode
 
   -- or it has a tail
   module _ (e : Error) (some : read.prefix.stopped ≡ Some e) (rest : Part) (t : IsTailRead Gives file read.prefix.len read.behind.items len rest) where
-    bytes : List ℕ
+    abbrev bytes : List ℕ
     bytes = given ++ t.bytes
 
     behind : drop read.prefix.len bytes ≡ read.behind.items ++ t.bytes
@@ -153,9 +153,6 @@ read_behind Gives queue (s ∷ sizes) [] size bytes r one long = absurd r
 read_behind Gives queue (s ∷ sizes) (f ∷ files) size bytes r one long = (r.0, read_behind Gives queue sizes files size bytes r.1 one long)
 
 module _ {M : Type 0} (Gives : Giving) (mode : RecoveryMode) (queue : LogQueue) (version : Version) (stands_for stands_exactly : M → List Event → Type 0) where
-  Holds : NumberedBytes → List Event → Type 0
-  Holds file h = HoldsFrom (whole_file queue version file) 0 h
-
   -- the last file alone
   pub alone_read : (last : FileSize) (file : LogFileContext) (old new : M) (tail : Option CutTail) → file ≡ record { id = file_of queue last.seq; version = version } → stands_for old [] → stands_exactly old []
       → IsLastReplayed (Gives file.id) mode file last.len stands_for stands_exactly old new tail → AreClosedAndLastRead Gives mode queue version [] last stands_for stands_exactly (new, tail)
@@ -210,17 +207,20 @@ module _ {M : Type 0} (Gives : Giving) (mode : RecoveryMode) (queue : LogQueue) 
     is_last read r = record { closed = r.files; last = (last.seq, r.bytes); split = refl; is = refl }
 
     -- nothing is missing of them
-    pub whole_read : (machine : M) → AreClosedAndLastRead Gives mode queue version closed last stands_for stands_exactly (machine, None) → AreReplayed Gives mode queue version sizes stands_for stands_exactly (machine, Nothing)
-    whole_read machine r = record {
+    whole_read_so : (machine : M) → AreClosedAndLastRead Gives mode queue version closed last stands_for stands_exactly (machine, None) → AreReplayed Gives mode queue version sizes stands_for stands_exactly (machine, Nothing)
+    whole_read_so machine r = record {
       files = r.files ++ (last.seq, r.bytes) ∷ [];
       files_read = all_read (machine, None) r;
       missing = λ consecutive. sized_missing mode queue version (r.files ++ (last.seq, r.bytes) ∷ []) (whole_file queue version (last.seq, r.bytes)) (is_last (machine, None) r) consecutive None r.accepted Nothing (inl (refl, refl));
       standing = r.standing;
     }
 
+    pub whole_read : (read : M × Option CutTail) → read.1 ≡ None → AreClosedAndLastRead Gives mode queue version closed last stands_for stands_exactly read → AreReplayed Gives mode queue version sizes stands_for stands_exactly (read.0, Nothing)
+    whole_read read none r = whole_read_so read.0 (subst (AreClosedAndLastRead Gives mode queue version closed last stands_for stands_exactly) (λ i. (read.0, none i)) r)
+
     -- or the cut of this tail
-    pub torn_read : (machine : M) (tail : CutTail) → AreClosedAndLastRead Gives mode queue version closed last stands_for stands_exactly (machine, Some tail) → AreReplayed Gives mode queue version sizes stands_for stands_exactly (machine, Cut tail)
-    torn_read machine tail r =
+    torn_read_so : (machine : M) (tail : CutTail) → AreClosedAndLastRead Gives mode queue version closed last stands_for stands_exactly (machine, Some tail) → AreReplayed Gives mode queue version sizes stands_for stands_exactly (machine, Cut tail)
+    torn_read_so machine tail r =
         let files = r.files ++ (last.seq, r.bytes) ∷ [] in
         let left = last_of (λ (old : List ℕ). take tail.offset old) r.files (last.seq, r.bytes) in
         record {
@@ -229,6 +229,9 @@ module _ {M : Type 0} (Gives : Giving) (mode : RecoveryMode) (queue : LogQueue) 
           missing = λ consecutive. sized_missing mode queue version files (whole_file queue version (last.seq, r.bytes)) (is_last (machine, Some tail) r) consecutive (Some tail) r.accepted (Cut tail) (inr (tail, refl, refl));
           standing = subst (λ (fs : List NumberedBytes). IsStandingFor queue version stands_for stands_exactly fs machine) (sym left) r.standing;
         }
+
+    pub torn_read : (read : M × Option CutTail) (tail : CutTail) → read.1 ≡ Some tail → AreClosedAndLastRead Gives mode queue version closed last stands_for stands_exactly read → AreReplayed Gives mode queue version sizes stands_for stands_exactly (read.0, Cut tail)
+    torn_read read tail some r = torn_read_so read.0 tail (subst (AreClosedAndLastRead Gives mode queue version closed last stands_for stands_exactly) (λ i. (read.0, some i)) r)
 
   -- there is none
   pub first_read : (sizes : List FileSize) (machine : M) → sizes ≡ [] → stands_for machine [] → stands_exactly machine [] → AreReplayed Gives mode queue version sizes stands_for stands_exactly (machine, FirstFile)

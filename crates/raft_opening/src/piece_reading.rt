@@ -81,8 +81,10 @@ fn read_once<R: Threads + Sync, S: ReadFiles>(
     check_counts(alloc, append, rewrite, workers)?;
     let read = read_queues(rt, alloc, source, mode, version, rewrite, append, workers)?;
     let (rewrite, append) = read;
-    check_few_bytes(append.sized.left.as_slice())?;
-    check_few_bytes(rewrite.sized.left.as_slice())?;
+    let append_left = append.sized.left.as_slice();
+    let rewrite_left = rewrite.sized.left.as_slice();
+    check_few_bytes(append_left)?;
+    check_few_bytes(rewrite_left)?;
     let Both { first, second } = rewrite.machine;
     if !second.stand() {
         return Err(Error::invalid_argument(alloc, OUT_OF_ROW));

@@ -112,7 +112,8 @@ fn replay_parts<M: ReplayMachine, F: Factory<M>, S: ReadFiles, R: Threads + Sync
     ensures { IfOk result (AreClosedAndLastRead (S.gives source.now) mode queue version closed.now last M.stands_for
         M.stands_exactly) }
 {
-    if closed.is_empty() {
+    let count = closed.len();
+    if count == 0 {
         return read_last(alloc, factory, source, mode, queue, version, last);
     }
     let both = replay_apart(

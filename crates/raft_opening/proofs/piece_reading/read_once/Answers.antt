@@ -8,8 +8,8 @@ pub returns : goal.returns
 returns g c =
     let r = c.in_ok-read.ensures.rewritten in
     let a = c.in_ok-read.ensures.appended in
-    let append_left = c.as_slice.ensures.value ∙ a.sized.left in
-    let rewrite_left = c.as_slice-2.ensures.value ∙ r.sized.left in
+    let append_left = c.as_slice-append_left.ensures.value ∙ a.sized.left in
+    let rewrite_left = c.as_slice-rewrite_left.ensures.value ∙ r.sized.left in
     let append_few = few_left c.args.mode Append c.args.version a.files _ a.sized.missing _ append_left c.in_ok-check_few_bytes.ensures.ok in
     let rewrite_few = few_left c.args.mode Rewrite c.args.version r.files _ r.sized.missing _ rewrite_left c.in_ok-check_few_bytes-2.ensures.ok in
     let are = both_ready c.args.mode c.args.version a.files r.files _ _ a.sized append_few r.sized rewrite_few in

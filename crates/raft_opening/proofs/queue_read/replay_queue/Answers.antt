@@ -1,6 +1,5 @@
-use Rattle.std.proofs.Common.{◌≡◌, [], refl, subst}
+use Rattle.std.proofs.Common.{[]}
 use Rattle.std.proofs.lemmas.List.{nil_from_length}
-use Rattle.raft_opening.specs.ReadOnce.{AreClosedAndLastRead}
 use Rattle.raft_opening.proofs.OnceLemmas.{first_read, torn_read, whole_read}
 use Rattle.raft_opening.proofs.queue_read.replay_queue.Goals as goal
 
@@ -15,11 +14,9 @@ returns-in_default g c =
 pub returns-in-None : goal.returns-in-None
 returns-in-None g c =
     let split = (rw c.in-Some.is at c.split_last.ensures.cases).0 in
-    let read = rw c.in-None.is at c.in_ok-read.ensures in
-    whole_read (g.S.ReadFiles.gives c.args.source.now) c.args.mode c.args.queue c.args.version g.M.ReplayMachine.stands_for g.M.ReplayMachine.stands_exactly c.args.sizes.now _ _ split c.in_ok-read.read.0 read
+    whole_read (g.S.ReadFiles.gives c.args.source.now) c.args.mode c.args.queue c.args.version g.M.ReplayMachine.stands_for g.M.ReplayMachine.stands_exactly c.args.sizes.now _ _ split c.in_ok-read.read c.in-None.is c.in_ok-read.ensures
 
 pub returns-in-Some-2 : goal.returns-in-Some-2
 returns-in-Some-2 g c =
     let split = (rw c.in-Some.is at c.split_last.ensures.cases).0 in
-    let read = rw c.in-Some-2.is at c.in_ok-read.ensures in
-    torn_read (g.S.ReadFiles.gives c.args.source.now) c.args.mode c.args.queue c.args.version g.M.ReplayMachine.stands_for g.M.ReplayMachine.stands_exactly c.args.sizes.now _ _ split c.in_ok-read.read.0 c.in-Some-2.tail read
+    torn_read (g.S.ReadFiles.gives c.args.source.now) c.args.mode c.args.queue c.args.version g.M.ReplayMachine.stands_for g.M.ReplayMachine.stands_exactly c.args.sizes.now _ _ split c.in_ok-read.read c.in-Some-2.tail c.in-Some-2.is c.in_ok-read.ensures

@@ -1,6 +1,6 @@
-use Rattle.std.proofs.Common.{◌≡◌, ◌∙◌, ℕ, List, length, sym, ap, subst, arith}
+use Rattle.std.proofs.Common.{◌∙◌, ℕ, List, ap, arith}
 use Rattle.std.proofs.lemmas.Result.{IfOk-weaker}
-use Rattle.raft_records.specs.FilePart.{Part, part_of}
+use Rattle.raft_records.specs.FilePart.{part_of}
 use Rattle.raft_prefix.proofs.file_prefix.read_tail.Goals as goal
 
 pub returns : goal.returns

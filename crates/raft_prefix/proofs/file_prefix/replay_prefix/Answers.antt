@@ -1,4 +1,4 @@
-use Rattle.std.proofs.Common.{◌≡◌, ◌∙◌, ℕ, List, length, refl, sym, ap, subst, arith}
+use Rattle.std.proofs.Common.{◌≡◌, ◌∙◌, length, refl, sym, ap, subst, arith}
 use Rattle.raft_prefix.proofs.PrefixLemmas.{IsUnder, Replayed, count_inside, front_replayed, none_under, nothing_replayed, replayed_next, under_more, under_next}
 use Rattle.raft_prefix.proofs.file_prefix.replay_prefix.Goals as goal
 

@@ -6,7 +6,6 @@ use Rattle.raft_base.specs.declared.pipe_log.FileId.{FileId}
 use Rattle.raft_base.specs.declared.pipe_log.LogQueue.TheVariants.{Append, Rewrite}
 use Rattle.raft_base.specs.declared.pipe_log.Version.{Version}
 use Rattle.raft_files.specs.Asks.{NumberedBytes}
-use Rattle.raft_records.specs.Lines.{IsIoError}
 use Rattle.raft_reading.specs.IoErrors.{IoError}
 use Rattle.raft_reading.specs.declared.queue_files.FileSize.{FileSize}
 use Rattle.raft_engine.specs.CutTails.{IsTailTold, tail_of}
@@ -19,7 +18,7 @@ use Rattle.raft_engine.specs.declared.recovery_mode.RecoveryMode.TheVariants.{To
 use Rattle.raft_engine.proofs.OpenedLemmas.{opened_so}
 use Rattle.raft_opening.specs.ReadOnce.{IsReadingOf}
 use Rattle.raft_inspect.specs.Faults.{IsUntried}
-use Rattle.raft_inspect.specs.Openings.{AreRefusedFor, AreTablesOf, CutsNothing, HoldsOfRead, IsAcceptedSo, IsOpenedSo, IsOpeningOf}
+use Rattle.raft_inspect.specs.Openings.{AreRefusedFor, AreTablesOf, CutsNothing, HoldsOfRead, IsAcceptedSo, IsOpenedSo, IsOpeningOf, is_refused_read}
 use Rattle.raft_inspect.specs.SoundFiles.{IsUncut}
 use Rattle.raft_inspect.specs.declared.opening.Opening.{Opening}
 use Rattle.raft_inspect.specs.declared.opening.Opening.TheVariants.{Opens, Refuses}
@@ -83,7 +82,7 @@ module _ (Gives : FileId → ℕ → List ℕ → Type 0) (Fails : FileId → �
 
   -- a reading that is no refusal of an opening
   pub untried_so : (workers : ℕ) (r : Result Opening Error) (error : Error) → (error ≢ errors.Memory → AreRefusedFor Gives Fails version workers append rewrite error) → IfErr r (λ e. e ≡ error)
-      → IfErr r (λ e. e ≢ errors.Memory → IsIoError e) → IfErr r (λ e. e ≢ errors.Memory → IsUntried Gives Fails version workers append rewrite e)
+      → IfErr r (λ e. e ≢ errors.Memory → is_refused_read e ≡ true) → IfErr r (λ e. e ≢ errors.Memory → IsUntried Gives Fails version workers append rewrite e)
   untried_so workers (Ok opening) error refused same io = tt
   untried_so workers (Err e) error refused same io = λ other. (io other, subst (AreRefusedFor Gives Fails version workers append rewrite) (sym same) (refused (λ memory. other (same ∙ memory))))
 

@@ -1,5 +1,8 @@
 -- What an opening would do with files.
-use Rattle.std.specs.Prelude.{◌≡◌, ◌≢◌, ℕ, List, None}
+use Rattle.std.specs.Prelude.{◌≡◌, ◌≢◌, ℕ, List, None, Bool, true, false, not}
+use Rattle.std.specs.IoError.{error_kind}
+use Rattle.std.specs.declared.io.ErrorKind.{ErrorKind}
+use Rattle.std.specs.declared.io.ErrorKind.TheVariants.{UnexpectedEof}
 use Rattle.raft_base.specs.declared.errors.Error.{Error}
 use Rattle.raft_base.specs.declared.errors.Error.TheVariants as errors
 use Rattle.raft_base.specs.declared.pipe_log.FileId.{FileId}
@@ -51,10 +54,20 @@ pub record IsAcceptedSo (version : Version) (reading : Reading) (append rewrite 
 abbrev pub AreRefusedFor : (FileId → ℕ → List ℕ → Type 0) → (FileId → ℕ → IoError → Type 0) → Version → ℕ → List FileSize → List FileSize → Error → Type 0
 AreRefusedFor Gives Fails version workers append rewrite e = AreUnreadAs Gives Fails TolerateTornTail version workers append rewrite e
 
--- what an opening by so many workers would do; want of memory is no refusal
+-- bytes end too early for a read
+abbrev pub is_early_end : ErrorKind → Bool
+is_early_end UnexpectedEof = true
+is_early_end _ = false
+
+-- the system refused a read; not where bytes end too early, which may be the refusal of a batch
+abbrev pub is_refused_read : Error → Bool
+is_refused_read (errors.Io e) = not (is_early_end (error_kind e))
+is_refused_read _ = false
+
+-- what an opening by so many workers would do; want of memory is no refusal, nor is a read that the system refused
 abbrev pub IsOpeningOf : (FileId → ℕ → List ℕ → Type 0) → (FileId → ℕ → IoError → Type 0) → Version → ℕ → List FileSize → List FileSize → Opening → Type 0
 IsOpeningOf Gives Fails version workers append rewrite (Opens recovered) = HoldsOfRead Gives append rewrite (IsOpenedSo version recovered)
-IsOpeningOf Gives Fails version workers append rewrite (Refuses error) = (error ≢ errors.Memory) × AreRefusedFor Gives Fails version workers append rewrite error
+IsOpeningOf Gives Fails version workers append rewrite (Refuses error) = (error ≢ errors.Memory) × (is_refused_read error ≡ false) × AreRefusedFor Gives Fails version workers append rewrite error
 
 -- files are opened, and nothing is cut off from them
 abbrev pub CutsNothing : Opening → Type 0

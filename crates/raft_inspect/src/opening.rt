@@ -1,10 +1,9 @@
 //! What an opening of files would do.
 
-ghost use Rattle.std.specs.Prelude.{◌≡◌, ◌≢◌, ◌↔◌, ◌<◌, ◌≤◌, IfErr, IfOk, IsTrue};
-ghost use Rattle.raft_records.specs.Lines.{IsIoError};
+ghost use Rattle.std.specs.Prelude.{◌≡◌, ◌≢◌, ◌↔◌, ◌<◌, ◌≤◌, true, false, IfErr, IfOk, IsTrue};
 ghost use Rattle.raft_engine.specs.CutTails.{tail_of};
 ghost use Rattle.raft_inspect.specs.Faults.{IsUntried};
-ghost use Rattle.raft_inspect.specs.Openings.{AreRefusedFor, CutsNothing, HoldsOfRead, IsOpeningOf, IsAcceptedSo};
+ghost use Rattle.raft_inspect.specs.Openings.{AreRefusedFor, CutsNothing, HoldsOfRead, IsAcceptedSo, IsOpeningOf, is_refused_read};
 ghost use Rattle.raft_inspect.specs.declared.opening.Opening.TheVariants.{Refuses};
 
 use raft_base::{Error, Result, Version};
@@ -104,9 +103,9 @@ fn tails_of(reading: Reading) -> Recovered
 ///
 /// The reason, where it is none.
 fn refusal_for(error: Error) -> Result<Opening>
-    ensures ok { IfOk result (λ opening. (opening ≡ Refuses error) × (error ≢ Error.Memory)) }
+    ensures ok { IfOk result (λ opening. (opening ≡ Refuses error) × (error ≢ Error.Memory) × (is_refused_read error ≡ false)) }
     ensures same { IfErr result (λ e. e ≡ error) }
-    ensures io { IfErr result (λ e. e ≢ Error.Memory → IsIoError e) }
+    ensures unread { IfErr result (λ e. e ≢ Error.Memory → is_refused_read e ≡ true) }
 {
     if matches!(error, Error::Memory) {
         return Err(Error::Memory);
@@ -119,10 +118,13 @@ fn refusal_for(error: Error) -> Result<Opening>
 
 /// Tests whether the system refused a read: not where bytes end too early, which may be the refusal of a batch.
 fn is_refused_read(error: &Error) -> bool
-    ensures { IsTrue result → IsIoError error.now }
+    ensures { result ≡ is_refused_read error.now }
 {
     match error {
-        Error::Io(error) => !matches!(error.kind(), ErrorKind::UnexpectedEof),
+        Error::Io(error) => match error.kind() {
+            ErrorKind::UnexpectedEof => false,
+            _ => true,
+        },
         _ => false,
     }
 }

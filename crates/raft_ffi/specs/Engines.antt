@@ -18,7 +18,7 @@ use Rattle.raft_engine.specs.declared.recovered.CutTail.{CutTail}
 use Rattle.raft_engine.specs.declared.recovered.Recovered.{Recovered}
 use Rattle.raft_engine.specs.declared.recovery_mode.RecoveryMode.{RecoveryMode}
 use Rattle.raft_engine.specs.declared.recovery_mode.RecoveryMode.TheVariants.{AbsoluteConsistency, TolerateTailCorruption, TolerateTornTail}
-use Rattle.raft_orders.specs.Refusals.{IsUnordered}
+use Rattle.raft_orders.specs.Refusals.{HandedFails}
 use Rattle.raft_ffi.specs.Calls.{BothHold, Holds, IsCodeOf, code_of, queue_of}
 use Rattle.raft_ffi.specs.FoundFiles.{FilesSeen}
 use Rattle.raft_ffi.specs.Rooms.{IsTextOf}
@@ -72,15 +72,11 @@ IsUnwrittenAs sync code batch left old new = BothHold (λ b l. IsCodeOf (IsUnwri
 -- why found files aren't opened, whatever was ordered by then; an order fails for want of memory or of numbers
 abbrev pub IsUnopenedAs : RecoveryMode → Version → FilesSeen → Error → Type 0
 IsUnopenedAs mode version found e =
-    (asks : List Ask) × IsUnopened (AreUngroupedAs version) (λ _ _. IsUnordered) mode version found.append found.rewrite asks e
+    (asks : List Ask) × IsUnopened (AreUngroupedAs version) HandedFails mode version found.append found.rewrite asks e
 
 -- a sync of the append queue more is asked
 abbrev pub IsSynced : KeptEngine → KeptEngine → Type 0
 IsSynced old new = new ≡ record old { asks = ask Append Sync ∷ old.asks }
-
--- an engine takes no further call, and is as it was else
-abbrev pub IsStopped : KeptEngine → KeptEngine → Type 0
-IsStopped old new = new ≡ record old { intact = false }
 
 -- a batch was empty, and at most a sync is ordered; or it is written
 abbrev pub IsWrittenOrNone : Bool → Batch → KeptEngine → KeptEngine → Type 0

@@ -2,7 +2,7 @@
 
 ghost use Rattle.std.specs.Prelude.{◌≡◌, ◌≢◌, true, false, Some, None, IsTrue, is_some, IfErr, IfOk, OnErr, OnOk};
 ghost use Rattle.raft_ffi.specs.Words.{AllHold, AreAcceptedOncePlaced, AreBothAccepted, ArePurged, AreRewritesPurged, AreRewritesUnpurged, BothHold, HasText, HaveReadBoth, HaveReadFound, Holds, IsCodeForBoth, IsCodeOf, IsOpened, IsRead, IsRotated};
-ghost use Rattle.raft_ffi.specs.Words.{AreTailsIn, AreTailsToldIn, IsRecoveredOf, IsStopped, IsSynced, IsUnopenedAs, IsUnpurged, IsUnrotated, IsUnwrittenAs, IsWrittenOrNone, empty_batch, is_open, mode_of, version_of};
+ghost use Rattle.raft_ffi.specs.Words.{AreTailsIn, AreTailsToldIn, IsRecoveredOf, IsSynced, IsUnopenedAs, IsUnpurged, IsUnrotated, IsUnsynced, IsUnwrittenAs, IsWrittenOrNone, empty_batch, is_open, mode_of, version_of};
 
 use crate::found_files::FoundFiles;
 use crate::handles::{Batch, Context, Engine, Found, Handle, told, with};
@@ -162,7 +162,7 @@ pub extern "C" fn raft_ffi_engine_sync(
     requires held { IsTrue (is_some engine.old.value) }
     ensures ok { result.code ≡ 0 → BothHold IsSynced engine.old.value engine.new.value }
     ensures accepted { result.code ≡ 0 → Holds (λ e. e.intact ≡ true) engine.old.value }
-    ensures err { result.code ≢ 0 → BothHold IsStopped engine.old.value engine.new.value }
+    ensures err { result.code ≢ 0 → BothHold IsUnsynced engine.old.value engine.new.value }
     ensures fault { result.code ≢ 0 → Holds (λ e. e.intact ≡ false → result.code ≡ 12) engine.old.value }
     ensures text { HasText result text.old text.new }
 {

@@ -5,7 +5,7 @@ ghost use Rattle.std.specs.Prelude.{◌≡◌, ◌+◌, [], ◌∷◌, length, m
 ghost use Rattle.raft_files.specs.Asks.{Begin, Cut, Delete, Found, Put, Read, Sync, ask};
 ghost use Rattle.raft_files.specs.HeldFiles.{file_shown};
 ghost use Rattle.raft_orders.specs.Orders.{IsOrder, ask_of, next_to_do};
-ghost use Rattle.raft_orders.specs.Refusals.{IsUnordered, IsUnread};
+ghost use Rattle.raft_orders.specs.Refusals.{HandedFails, IsUnordered, IsUnread};
 
 use crate::lent_blocks::LentBlocks;
 use crate::order::{Order, Task};
@@ -116,7 +116,7 @@ impl HandedFiles {
 impl EngineFiles for HandedFiles {
     ghost asked = { λ f. f.asks };
 
-    ghost may_fail = { λ _ _. IsUnordered };
+    ghost may_fail = { HandedFails };
 
     /// Orders that bytes are put.
     ///

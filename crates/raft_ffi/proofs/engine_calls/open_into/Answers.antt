@@ -1,4 +1,4 @@
-use Rattle.raft_ffi.proofs.Common.{◌≡◌, inl, List, refl, sym, subst, Error, RecoveryMode, Version, Ask, AreUngroupedAs, found_asks, IsUnopened, IsUnordered, IsUnopenedAs, FilesSeen, err_from_is_err_and}
+use Rattle.raft_ffi.proofs.Common.{◌≡◌, inl, List, refl, sym, subst, Error, RecoveryMode, Version, Ask, AreUngroupedAs, found_asks, HandedFails, IsUnopened, IsUnopenedAs, FilesSeen, err_from_is_err_and}
 use Rattle.raft_ffi.proofs.Common.{◌∙◌, HaveReadFound, files_seen}
 use Rattle.raft_base.specs.declared.errors.Error.TheVariants as errors
 use Rattle.raft_ffi.proofs.engine_calls.open_into.Goals as goal
@@ -7,9 +7,9 @@ for_memory : (mode : RecoveryMode) (version : Version) (found : FilesSeen) (e : 
 for_memory mode version found e is = (found_asks found.append found.rewrite, inl (refl, λ other. absurd (other is)))
 
 for_reason : (mode : RecoveryMode) (version : Version) (found : FilesSeen) (asks : List Ask) (u e : Error)
-    → IsUnopened (AreUngroupedAs version) (λ _ _. IsUnordered) mode version found.append found.rewrite asks u → e ≡ u
+    → IsUnopened (AreUngroupedAs version) HandedFails mode version found.append found.rewrite asks u → e ≡ u
     → IsUnopenedAs mode version found e
-for_reason mode version found asks u e why same = (asks, subst (IsUnopened (AreUngroupedAs version) (λ _ _. IsUnordered) mode version found.append found.rewrite asks) (sym same) why)
+for_reason mode version found asks u e why same = (asks, subst (IsUnopened (AreUngroupedAs version) HandedFails mode version found.append found.rewrite asks) (sym same) why)
 
 pub open_over_telling-requires-clause-read : goal.open_over_telling-requires-clause-read
 open_over_telling-requires-clause-read c =

@@ -42,7 +42,7 @@ only_if es n f one = elim (cases_lt n (length es)) [
   | inr most ↦ most
 ]
 
-none_low : 0 ≤ 8192
+none_low : 0 ≤ 4096
 none_low = omega arith
 
 pub one_in_none : (region : ℕ) (o : Option Table) → o ≡ None

@@ -132,7 +132,7 @@ impl<'a, R: Disk> FolderPipe<'a, R> {
 }
 
 /// Removes a folder with all its files, if there is one.
-pub(crate) fn clear<R: Disk>(rt: &R, folder: &str) -> Result<()> {
+pub(crate) fn remove_folder<R: Disk>(rt: &R, folder: &str) -> Result<()> {
     if fs::exists(rt, folder)? {
         fs::remove_dir_all(rt, folder)?;
     }

@@ -24,7 +24,7 @@ use raft_records::LogBatch;
 impl<F: EngineFiles> Engine<F> {
     /// Moves what the tables have in append files up to the gate to the rewrite queue. First all that was written last is
     /// synced, and what the rewrite queue isn't told yet is put there; then for each region the entries are read, and put
-    /// behind the last rewrite file part by part, each in one batch: the entries of as many blocks as have 8 KiB together at most,
+    /// behind the last rewrite file part by part, each in one batch: the entries of as many blocks as have 4 KiB together at most,
     /// or of one block; the last of them with the keys. What the tables have stays the same, in other files, so that the append
     /// files may be deleted ([`Engine::purge_expired_files`]).
     ///

@@ -38,7 +38,7 @@ pub(crate) fn print_files<'a, R: Host, W: Write>(
 ) -> ToolResult<u8> {
     let found = find_files(rt, words, 1)?;
     let tables = tables_of(rt, words, &found)?;
-    let uses = uses_of_both(rt.alloc(), tables.accessor())?;
+    let uses = uses_of_both(rt.alloc(), &tables)?;
     print_uses(rt.alloc(), form_of(words), &found.sizes, &uses, out)?;
     if let Some(path) = words.get_str("svg") {
         draw_picture(rt, path, &found.sizes, &uses)?;

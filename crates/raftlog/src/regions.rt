@@ -11,7 +11,7 @@ use crate::source::{Found, find_files};
 use crate::tools::DONE;
 use clap::ArgMatches;
 use raft_base::{Error, Version};
-use raft_inspect::{Tables, read_tables};
+use raft_inspect::read_tables;
 use raft_reading::ReadFiles;
 use raft_recover::{MemTable, MemTableAccessor, print_recovered};
 use raft_report::{
@@ -41,11 +41,11 @@ pub(crate) fn show_regions<'a, R: Host, W: Write>(
     match region {
         Some(region) => {
             let tables = tables_of(rt, words, &found)?;
-            print_one(rt.alloc(), tables.accessor(), region, values, form, out)
+            print_one(rt.alloc(), &tables, region, values, form, out)
         }
         None if form == Form::Json => {
             let tables = tables_of(rt, words, &found)?;
-            print_json(rt.alloc(), tables.accessor(), out)
+            print_json(rt.alloc(), &tables, out)
         }
         None => {
             let (version, workers) = (version_of(words), workers_of(rt, words));
@@ -64,7 +64,7 @@ pub(crate) fn tables_of<R: Host>(
     rt: &R,
     words: &ArgMatches<'_>,
     found: &Found<'_, R>,
-) -> ToolResult<Tables> {
+) -> ToolResult<MemTableAccessor> {
     let (version, workers) = (version_of(words), workers_of(rt, words));
     let (source, sizes) = (&found.source, &found.sizes);
     let tables = read_tables(rt, rt.alloc(), source, version, sizes, workers);
@@ -86,7 +86,7 @@ fn print_regions<R: Threads + Sync + AllocGlobal, S: ReadFiles, W: Write>(
         sizes.now.rewrite.items (W.contents out.old) (W.contents out.new)) }
 {
     let tables = read_tables(rt, rt.alloc(), source, version, sizes, workers)?;
-    print_all(rt.alloc(), tables.accessor(), out)
+    print_all(rt.alloc(), &tables, out)
 }
 
 /// Prints all tables.

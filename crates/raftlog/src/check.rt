@@ -7,7 +7,7 @@ ghost use Rattle.raftlog.specs.Commands.{AreFilesChecked, IsCheckDone};
 use crate::errors::ToolResult;
 use crate::host::Host;
 use crate::options::{form_of, version_of, workers_of};
-use crate::source::find;
+use crate::source::find_files;
 use crate::tools::{DONE, WRONG};
 use clap::ArgMatches;
 use raft_base::Version;
@@ -30,7 +30,7 @@ pub(crate) fn check<'a, R: Host, W: Write>(
 ) -> ToolResult<u8>
     ensures { IfOk result (AreFilesChecked (R.gives rt.now)) }
 {
-    let found = find(rt, words, 2)?;
+    let found = find_files(rt, words, 2)?;
     let (version, workers, form) = (version_of(words), workers_of(rt, words), form_of(words));
     let mut out = found.source.over_bar(out);
     let checked = check_files(

@@ -7,7 +7,7 @@ ghost use Rattle.raftlog.specs.Commands.{AreRegionsPrinted};
 use crate::errors::{ToolError, ToolResult};
 use crate::host::Host;
 use crate::options::{form_of, version_of, workers_of};
-use crate::source::{Found, find};
+use crate::source::{Found, find_files};
 use crate::tools::DONE;
 use clap::ArgMatches;
 use raft_base::{Error, Version};
@@ -27,7 +27,7 @@ use std::thread::Threads;
 /// # Errors
 ///
 /// `Misused` where the words ask for values of no region; those of the files, of an opening, and of the output; `Memory`.
-pub(crate) fn regions<'a, R: Host, W: Write>(
+pub(crate) fn show_regions<'a, R: Host, W: Write>(
     rt: &'a R,
     words: &ArgMatches<'a>,
     out: &mut W,
@@ -36,7 +36,7 @@ pub(crate) fn regions<'a, R: Host, W: Write>(
     if values && region.is_none() {
         return Err(ToolError::Misused("--values is of the keys of a region: say --region"));
     }
-    let found = find(rt, words, 1)?;
+    let found = find_files(rt, words, 1)?;
     let form = form_of(words);
     match region {
         Some(region) => {

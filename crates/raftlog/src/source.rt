@@ -112,7 +112,7 @@ fn with_path(alloc: Global, path: &str, error: io::Error) -> io::Error {
 /// # Errors
 ///
 /// `Misused` where the words name none, or both; those of [`ReadFolder`]; `File` where a file can't be read; `Memory`.
-pub(crate) fn find<'a, R: Host>(
+pub(crate) fn find_files<'a, R: Host>(
     rt: &'a R,
     words: &ArgMatches<'a>,
     times: u64,
@@ -125,8 +125,8 @@ pub(crate) fn find<'a, R: Host>(
     match words.get_str("folder") {
         Some(path) if append.is_none() && rewrite.is_none() => in_folder(rt, path, times),
         None if append.is_some() || rewrite.is_some() => {
-            let append = named(rt, append.unwrap_or(&[]))?;
-            let rewrite = named(rt, rewrite.unwrap_or(&[]))?;
+            let append = named_files(rt, append.unwrap_or(&[]))?;
+            let rewrite = named_files(rt, rewrite.unwrap_or(&[]))?;
             take_files(rt, append, rewrite, None, times)
         }
         Some(_) => Err(ToolError::Misused(
@@ -188,7 +188,7 @@ pub(crate) fn refuse_file<R: Host>(rt: &R, path: &str) -> ToolResult<()> {
 }
 
 /// Returns the files that words name one by one, by their numbers.
-fn named<R: Host>(rt: &R, words: &[&str]) -> ToolResult<Paths> {
+fn named_files<R: Host>(rt: &R, words: &[&str]) -> ToolResult<Paths> {
     let mut paths: Paths = Vec::new(rt.alloc());
     for word in words {
         let Some((seq, path)) = named_file(word) else {

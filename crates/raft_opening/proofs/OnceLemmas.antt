@@ -1,15 +1,13 @@
 -- Files of which each byte was read once.
-use Rattle.std.proofs.Common.{◌≡◌, ◌⊎◌, inl, inr, ℕ, suc, ◌+◌, ◌-◌, ◌<◌, ◌≤◌, Option, Some, None, List, [], ◌∷◌, ◌++◌, Result, Ok, Err, IfOk, length, map, take, drop, refl, sym, ap, ◌∙◌, subst, arith, append_assoc, append-nil, length-append}
+use Rattle.std.proofs.Common.{◌≡◌, ◌⊎◌, inl, inr, ℕ, ◌+◌, ◌-◌, Option, Some, None, List, [], ◌∷◌, ◌++◌, Result, Ok, Err, IfOk, length, map, take, drop, refl, sym, ap, ◌∙◌, subst, arith, append_assoc, append-nil, length-append}
 use Rattle.std.specs.Prelude.{replicate}
 use Rattle.std.proofs.lemmas.List.{drop_at, length-replicate, nil_from_length, take_at}
 use Rattle.raft_base.specs.declared.errors.Error.{Error}
-use Rattle.raft_base.specs.declared.pipe_log.FileId.{FileId}
 use Rattle.raft_base.specs.declared.pipe_log.LogFileContext.{LogFileContext}
 use Rattle.raft_base.specs.declared.pipe_log.LogQueue.{LogQueue}
 use Rattle.raft_base.specs.declared.pipe_log.Version.{Version}
 use Rattle.raft_records.specs.FilePart.{Part, part_of}
 use Rattle.raft_files.specs.Asks.{NumberedBytes}
-use Rattle.raft_files.specs.Disk.{cut_last}
 use Rattle.raft_files.proofs.LastLemmas.{last_of}
 use Rattle.raft_history.specs.Batches.{Event}
 use Rattle.raft_history.specs.Histories.{Apart, IsSmall}
@@ -24,10 +22,8 @@ use Rattle.raft_reading.proofs.PieceLemmas.{read_more}
 use Rattle.raft_recover.specs.Files.{FilesHold, whole_file}
 use Rattle.raft_prefix.specs.Prefixes.{EndsOrStops, IsPrefix, IsPrefixReplayed, IsTailRead}
 use Rattle.raft_prefix.specs.declared.file_prefix.ReplayedPrefix.{ReplayedPrefix}
-use Rattle.raft_engine_prefixes.specs.Done.{AreConsecutive, numbers}
 use Rattle.raft_engine.specs.FoundFiles.{BeginsInOther, IsOfEngine, IsRefusedAt}
-use Rattle.raft_engine.specs.FoundQueues.{IsLastOf, IsMissingOf, left_by}
-use Rattle.raft_engine.specs.declared.missing.Missing.{Missing}
+use Rattle.raft_engine.specs.FoundQueues.{IsLastOf}
 use Rattle.raft_engine.specs.declared.missing.Missing.TheVariants.{Nothing, FirstFile, Cut}
 use Rattle.raft_engine.specs.declared.recovered.CutTail.{CutTail}
 use Rattle.raft_engine.specs.declared.recovery_mode.RecoveryMode.{RecoveryMode}

@@ -19,7 +19,7 @@ IN_RUST = {
     "Items": "Handle",
     "Batch": "Handle",
     "Engine": "Handle",
-    "Found": "Handle",
+    "Reader": "Handle",
     "OrderHead": "OrderNumbers",
     "Place": "PlaceNumbers",
     "Entry": "EntryNumbers",

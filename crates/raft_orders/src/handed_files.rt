@@ -48,23 +48,14 @@ impl Model for HandedFiles {
 
 impl HandedFiles {
     /// Makes files that are found when the machine starts: those of each queue, oldest first, all of whose bytes are on the disk.
-    pub fn found(
-        alloc: Global,
-        append: &Vec<(FileSeq, Vec<u8>)>,
-        rewrite: &Vec<(FileSeq, Vec<u8>)>,
-    ) -> HandedFiles
-        ensures asks { result.asks ≡ ask Rewrite (Found (map file_shown rewrite.now.items))
-            ∷ ask Append (Found (map file_shown append.now.items)) ∷ [] }
+    pub fn found(alloc: Global) -> HandedFiles
         ensures taken { result.taken ≡ 0 }
     {
-        let mut asked = Asked::new();
-        asked.found(LogQueue::Append, append);
-        asked.found(LogQueue::Rewrite, rewrite);
         HandedFiles {
             alloc,
             waiting: WaitingOrders::new(alloc),
             lent: LentBlocks::new(alloc),
-            asked,
+            asked: Asked::new(),
         }
     }
 

@@ -1,20 +1,16 @@
 //! Calls of an engine whose files the caller keeps: what changes it leaves orders behind, which the caller carries out in turn.
 
-ghost use Rattle.std.specs.Prelude.{◌≡◌, ◌≢◌, true, false, Some, None, IsTrue, is_some, IfErr, IfOk, OnErr, OnOk};
-ghost use Rattle.raft_ffi.specs.Words.{AllHold, AreAcceptedOncePlaced, AreBothAccepted, ArePurged, AreRewritesPurged, AreRewritesUnpurged, BothHold, HasText, HaveReadBoth, HaveReadFound, Holds, IsCodeForBoth, IsCodeOf, IsOpened, IsRead, IsRotated};
-ghost use Rattle.raft_ffi.specs.Words.{AreTailsIn, AreTailsToldIn, IsRecoveredOf, IsStopped, IsSynced, IsUnopenedAs, IsUnpurged, IsUnrotated, IsUnwrittenAs, IsWrittenOrNone, empty_batch, is_open, mode_of, version_of};
+ghost use Rattle.std.specs.Prelude.{◌≡◌, ◌≢◌, true, false, Some, None, IsTrue, is_some, IfOk};
+ghost use Rattle.raft_ffi.specs.Words.{AllHold, AreAcceptedOncePlaced, ArePurged, AreRewritesPurged, AreRewritesUnpurged, AreSomeReadAs, BothHold, HasText, Holds, IsCodeForBoth, IsCodeOf, IsOpenedAs, IsRead, IsRotated};
+ghost use Rattle.raft_ffi.specs.Words.{AreTailsIn, IsStopped, IsSynced, IsUnopenedAs, IsUnpurged, IsUnrotated, IsUnwrittenAs, IsWrittenOrNone, empty_batch, is_open, mode_of, version_of};
 
 use crate::handles::{Batch, Engine, Handle, Reader, told, with};
 use crate::held_engine::HeldEngine;
-use crate::queue_reader::QueueReader;
-use crate::read_queue::{ReadQueue, Size};
+use crate::opening::open_into;
+use crate::read_queue::Size;
 use crate::status::{Status, Tail, answered, recovery_mode, version};
-use raft_base::{Error, LogQueue, Result, Version};
-use raft_engine::both::Both;
-use raft_engine::group_rows::OUT_OF_ROW;
-use raft_engine::reading::Ready;
-use raft_engine::{Recovered, RecoveryMode};
-use raft_orders::HandedFiles;
+use raft_base::Result;
+use raft_engine::Recovered;
 use std::alloc::Global;
 
 /// Opens files in a mode that readers have read, by the numbers and lengths of each queue's, oldest first: the batches of its files, in
@@ -38,26 +34,28 @@ pub extern "C" fn raft_ffi_engine_open(
     rewrite_reason: &mut [u8],
     text: &mut [u8],
 ) -> Status
+    requires empty { engine.old.value ≡ None }
+    requires read { BothHold (AreSomeReadAs (version_of is_signed) append.now append_rest.now rewrite.now rewrite_rest.now)
+        appended.value rewritten.value }
+    ensures ok { result.code ≡ 0 → AllHold (λ a r e. (recovered : Recovered) × IsOpenedAs (mode_of mode) (version_of is_signed)
+        append.now append_rest.now rewrite.now rewrite_rest.now a r e recovered × AreTailsIn append_tail.new rewrite_tail.new
+        append_reason.old append_reason.new rewrite_reason.old rewrite_reason.new recovered) appended.value rewritten.value engine.new.value }
+    ensures err { result.code ≢ 0 → engine.new.value ≡ None }
+    ensures fault { result.code ≢ 0 → BothHold (λ a r. IsCodeOf (IsUnopenedAs (mode_of mode) (version_of is_signed) append.now
+        append_rest.now rewrite.now rewrite_rest.now a r) result.code) appended.value rewritten.value }
+    ensures text { HasText result text.old text.new }
 {
-    let append = ReadQueue {
-        queue: LogQueue::Append,
-        sizes: append,
-        rest: append_rest,
-    };
-    let rewrite = ReadQueue {
-        queue: LogQueue::Rewrite,
-        sizes: rewrite,
-        rest: rewrite_rest,
-    };
-    let appended = appended.into_held();
-    let rewritten = rewritten.into_held();
+    let appended = appended.into_held().into_both();
+    let rewritten = rewritten.into_held().into_both();
     let answer = open_into(
         engine,
         alloc,
         recovery_mode(mode),
         version(is_signed),
         append,
+        append_rest,
         rewrite,
+        rewrite_rest,
         appended,
         rewritten,
     );
@@ -89,38 +87,6 @@ fn tell(
         *append_tail = Tail::of(alloc, &recovered.append, append_reason);
         *rewrite_tail = Tail::of(alloc, &recovered.rewrite, rewrite_reason);
     }
-}
-
-/// Opens files that readers have read, and puts the engine into an empty handle. Returns what was cut off.
-///
-/// # Errors
-///
-/// Those of [`ReadQueue::ready`]; `InvalidArgument` where an atomic group of the rewrite files doesn't stand in a row, in one file;
-/// `Full` where what is to be told at once has 2^56 bytes or more; `Memory`. The handle is then empty, and the readers are gone.
-fn open_into(
-    engine: &mut Engine,
-    alloc: Global,
-    mode: RecoveryMode,
-    version: Version,
-    append: ReadQueue<'_>,
-    rewrite: ReadQueue<'_>,
-    appended: QueueReader,
-    rewritten: QueueReader,
-) -> Result<Recovered>
-{
-    let ready = Ready {
-        append: append.ready(alloc, mode, version)?,
-        rewrite: rewrite.ready(alloc, mode, version)?,
-    };
-    let Both { first, second } = rewritten.both;
-    if !second.stand() {
-        return Err(Error::invalid_argument(alloc, OUT_OF_ROW));
-    }
-    let reading = ready.with_contexts(alloc, appended.both.first, first)?;
-    let files = HandedFiles::found(alloc);
-    let opened = raft_engine::Engine::of_reading(version, files, reading)?;
-    engine.put_new(alloc, HeldEngine::of(opened.engine))?;
-    Ok(opened.recovered)
 }
 
 /// Tests whether the engine takes further calls.

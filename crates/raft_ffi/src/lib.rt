@@ -11,6 +11,7 @@ mod handles;
 mod held_engine;
 mod item_list;
 mod moving_calls;
+mod opening;
 mod order_calls;
 mod pair_calls;
 mod queue_reader;

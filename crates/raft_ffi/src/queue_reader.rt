@@ -1,20 +1,35 @@
 //! What is read of the files of a queue, in pieces.
 
-use raft_base::{Error, FileId, LogFileContext, LogQueue, Result};
+ghost use Rattle.std.specs.Prelude.{◌≡◌, ◌≢◌, ◌⊎◌, ◌+◌, ◌^◌, ◌<◌, [], length, take, drop, IfErr, IfOk, OnOk};
+ghost use Rattle.raft_ffi.specs.Words.{ArePassed, CannotFollow, HasNoFront, HaveBothRead, HaveBothReadExactly, HoldsFrom, IsReadable, IsReplayedBy, part_of, signature_of};
+ghost use Rattle.raft_ffi.specs.Words.{AreReadersUnsound, ReadersStand, ReadersStandExactly};
+
+use raft_base::{Error, LogFileContext, LogQueue, Result};
 use raft_contexts::MemTableRecoverContext;
 use raft_engine::both::Both;
 use raft_engine::group_rows::GroupRows;
 use raft_history::ReplayMachine;
-use raft_prefix::entry_blocks::check_entries;
-use raft_records::ReadBatch;
+use raft_prefix::readable::replay_readable;
 use raft_replay::replay_bytes;
-use raft_replay::segment::corruption_at;
 use std::alloc::Global;
+use std::marker::Model;
 
 /// What was read of a stretch of a queue's batches: their tables, and whether their atomic groups stand in rows.
 #[derive(Drop)]
 pub struct QueueReader {
-    pub(crate) both: Both<MemTableRecoverContext, GroupRows>,
+    both: Both<MemTableRecoverContext, GroupRows>,
+}
+
+impl Model for QueueReader {
+    ghost use Rattle.raft_ffi.specs.Readers.{ReaderSeen, reader_code};
+
+    ghost Value = { ReaderSeen };
+
+    ghost coded = { reader_code };
+
+    ghost use Rattle.raft_ffi.specs.ReadersView.{reader_seen};
+
+    ghost view = { reader_seen };
 }
 
 impl QueueReader {
@@ -23,12 +38,22 @@ impl QueueReader {
     /// # Errors
     ///
     /// `Memory`.
-    pub(crate) fn new(alloc: Global) -> Result<QueueReader> {
+    pub(crate) fn new(alloc: Global) -> Result<QueueReader>
+        ensures ok { IfOk result (λ r. HaveBothReadExactly r []) }
+        ensures memory { IfErr result (λ e. e ≡ Error.Memory) }
+    {
         let both = Both {
             first: MemTableRecoverContext::new(alloc)?,
             second: GroupRows::new(),
         };
         Ok(QueueReader { both })
+    }
+
+    /// Returns what was read.
+    pub(crate) fn into_both(self) -> Both<MemTableRecoverContext, GroupRows>
+        ensures { result ≡ self }
+    {
+        self.both
     }
 
     /// Replays the batches of bytes that stand in the file from `offset` on.
@@ -42,12 +67,17 @@ impl QueueReader {
         file: &LogFileContext,
         offset: u64,
         bytes: &[u8],
-    ) -> Result<()> {
+    ) -> Result<()>
+        requires ends { offset + length bytes.now < 2 ^ 64 }
+        ensures ok { OnOk result (IsReplayedBy (part_of file.now offset bytes.now) self.old self.new) }
+        ensures refused { IfErr result (λ e. e ≢ Error.Memory
+            → CannotFollow (HoldsFrom (part_of file.now offset bytes.now) 0) (HaveBothRead self.old)) }
+    {
         replay_bytes(&mut self.both, alloc, file, offset, bytes)
     }
 
     /// Replays the batches of bytes that stand in the last file of a queue from `offset` on, up to the first one that can't be read,
-    /// and returns where that is. In a rewrite file the entries of each batch are checked.
+    /// and returns how many bytes they have. In a rewrite file the entries of each batch are checked.
     ///
     /// # Errors
     ///
@@ -59,8 +89,17 @@ impl QueueReader {
         file: &LogFileContext,
         offset: u64,
         bytes: &[u8],
-    ) -> Result<usize> {
-        replay_readable(&mut self.both, alloc, file, offset, bytes)
+    ) -> Result<usize>
+        requires ends { offset + length bytes.now < 2 ^ 64 }
+        ensures ok { IfOk result (λ len. IsReplayedBy (part_of file.now offset (take len bytes.now)) self.old self.new) }
+        ensures passed { IfOk result (λ len. ArePassed file.now offset bytes.now len) }
+        ensures stops { IfOk result (λ len. (len ≡ length bytes.now)
+            ⊎ HasNoFront (λ xs. IsReadable xs (signature_of file.now)) (drop len bytes.now)) }
+    {
+        match replay_readable(&mut self.both, alloc, file, offset, bytes)? {
+            (len, None) => Ok(len),
+            (len, Some(_)) => Ok(len),
+        }
     }
 
     /// Takes in what was read of the batches that follow.
@@ -68,43 +107,11 @@ impl QueueReader {
     /// # Errors
     ///
     /// Those of `MemTableRecoverContext::merge`.
-    pub(crate) fn merge(&mut self, newer: QueueReader, queue: LogQueue) -> Result<()> {
+    pub(crate) fn merge(&mut self, newer: QueueReader, queue: LogQueue) -> Result<()>
+        ensures stands { OnOk result (ReadersStand newer self.old self.new) }
+        ensures exact { OnOk result (ReadersStandExactly newer self.old self.new) }
+        ensures refused { IfErr result (λ e. e ≢ Error.Memory → AreReadersUnsound queue self.old newer) }
+    {
         self.both.merge(newer.both, queue)
-    }
-}
-
-/// Replays batches up to the first one that can't be read, as [`QueueReader::replay_last`] does.
-fn replay_readable<M: ReplayMachine>(
-    machine: &mut M,
-    alloc: Global,
-    file: &LogFileContext,
-    offset: u64,
-    bytes: &[u8],
-) -> Result<usize> {
-    let mut batch = ReadBatch::new(alloc, file.id);
-    let mut at = 0;
-    loop {
-        match batch.read_next(file, offset, bytes, at) {
-            Ok(Some(next)) => {
-                let (_, own) = bytes.split_at(at);
-                let place = offset + at as u64;
-                check_entries(alloc, file.id, place, own)?;
-                if let Err(error) = machine.replay_read(&batch, file.id) {
-                    return Err(placed(alloc, error, file.id, place));
-                }
-                at = next;
-            }
-            Ok(None) => return Ok(at),
-            Err(Error::Memory) => return Err(Error::Memory),
-            Err(_) => return Ok(at),
-        }
-    }
-}
-
-/// Puts queue, file and offset of a batch in front of the text of a `Corruption`; other errors stay as they are.
-fn placed(alloc: Global, error: Error, id: FileId, offset: u64) -> Error {
-    match error {
-        Error::Corruption(reason) => corruption_at(alloc, id, offset, reason.as_str()),
-        kept => kept,
     }
 }

@@ -1,14 +1,24 @@
-//! The files of a queue that were read elsewhere, up to where the last one can't be read.
+//! The files of a queue that a reader has read, up to where the last one can't be read.
+
+ghost use Rattle.std.specs.Prelude.{◌≡◌, ◌≢◌, ◌⊎◌, ◌+◌, ◌^◌, ◌<◌, List, ◌++◌, ℕ, length, map, IfErr, IfOk};
+ghost use Rattle.raft_files.specs.Asks.{NumberedBytes};
+ghost use Rattle.raft_engine_prefixes.specs.Done.{AreConsecutive, numbers};
+ghost use Rattle.raft_opening.specs.SizedFiles.{IsPartFault, IsTailAccepted, size_of};
+ghost use Rattle.raft_ffi.specs.Words.{HasNoFront, IsFoundFault, IsFrontRead, IsLeftRead, IsNextFault, IsQueueReadAs, IsReadOnAs, IsReadTo, IsReadable, IsReadyAs, ReaderSeen, part_of, signature_of, size_in};
 
 use raft_base::{Error, FileId, LogFileContext, LogQueue, Result, Version};
+use raft_engine::found::unless_memory;
 use raft_engine::found_queue::ReadyQueue;
 use raft_engine::missing::Missing;
 use raft_engine::{CutTail, RecoveryMode};
-use raft_opening::file_rest::check_rest;
-use raft_opening::sized_files::{check_few_bytes, check_sizes, known_of, sizes_left};
+use raft_opening::check_rest;
+use raft_opening::sized_files::{SizedQueue, check_sizes, known_of, sizes_left};
 use raft_reading::FileSize;
 use raft_records::{FilePart, next_in};
 use std::alloc::Global;
+
+/// Why files are refused of which the last one can be read on.
+const READ_ON: &str = "a batch can be read where the reading of the last file ended";
 
 /// A file of a queue by its number, and how many bytes it has.
 #[repr(C)]
@@ -18,83 +28,139 @@ pub struct Size {
     pub len: u64,
 }
 
-/// The files of a queue that were read, oldest first, and what stands in the last one behind its batches.
-#[derive(Clone, Copy)]
-pub struct ReadQueue<'a> {
-    pub(crate) queue: LogQueue,
-    pub(crate) sizes: &'a [Size],
-    pub(crate) rest: &'a [u8],
+/// Makes the files of a queue ready in a mode, by their sizes, oldest first, and by what stands in the last one behind the batches
+/// that were read.
+///
+/// # Errors
+///
+/// `Corruption` where the number of a file isn't one above that of the file before it; those of [`tail_of`]; `Memory`.
+pub(crate) fn sized_queue(
+    alloc: Global,
+    mode: RecoveryMode,
+    queue: LogQueue,
+    version: Version,
+    sizes: &[Size],
+    rest: &[u8],
+) -> Result<SizedQueue>
+    ensures ok { (files : List NumberedBytes) (read : ReaderSeen) → IsQueueReadAs queue version sizes.now rest.now read files
+        → IfOk result (IsReadyAs mode queue version files read) }
+    ensures fault { (files : List NumberedBytes) (read : ReaderSeen) → IsQueueReadAs queue version sizes.now rest.now read files
+        → IfErr result (λ e. e ≢ Error.Memory → IsFoundFault mode queue version files e ⊎ IsReadOnAs e) }
+{
+    let sizes = file_sizes(alloc, sizes)?;
+    check_sizes(alloc, queue, sizes.as_slice())?;
+    let missing = missing_of(alloc, mode, queue, version, sizes.as_slice(), rest)?;
+    let left = sizes_left(alloc, sizes.as_slice(), &missing)?;
+    let known = known_of(alloc, left.as_slice())?;
+    let ready = ReadyQueue { missing, known };
+    Ok(SizedQueue { ready, left })
 }
 
-impl<'a> ReadQueue<'a> {
-    /// Makes the files ready in a mode.
-    ///
-    /// # Errors
-    ///
-    /// `Corruption` where the numbers of files don't rise by one, the mode refuses what stands behind the batches, or that is of the
-    /// other version; `InvalidArgument` where the file is of raft-engine; `Full` where the files have 2^63 bytes or more; `Memory`.
-    pub(crate) fn ready(
-        &self,
-        alloc: Global,
-        mode: RecoveryMode,
-        version: Version,
-    ) -> Result<ReadyQueue> {
-        let sizes = self.file_sizes(alloc)?;
-        check_sizes(alloc, self.queue, sizes.as_slice())?;
-        let missing = self.missing(alloc, mode, version)?;
-        let left = sizes_left(alloc, sizes.as_slice(), &missing)?;
-        check_few_bytes(left.as_slice())?;
-        let known = known_of(alloc, left.as_slice())?;
-        Ok(ReadyQueue { missing, known })
+/// Returns sizes as the reading of files takes them.
+///
+/// # Errors
+///
+/// `Memory`.
+fn file_sizes(alloc: Global, sizes: &[Size]) -> Result<Vec<FileSize>>
+    ensures ok { IfOk result (λ found. found.items ≡ map size_in sizes.now) }
+    ensures memory { IfErr result (λ e. e ≡ Error.Memory) }
+{
+    let mut found = Vec::with_capacity(alloc, sizes.len())?;
+    for size in sizes {
+        found.push(FileSize {
+            seq: size.seq,
+            len: size.len,
+        })?;
     }
+    Ok(found)
+}
 
-    /// Returns the sizes as the reading of files takes them.
-    ///
-    /// # Errors
-    ///
-    /// `Memory`.
-    fn file_sizes(&self, alloc: Global) -> Result<Vec<FileSize>> {
-        let mut sizes = Vec::new(alloc);
-        for size in self.sizes {
-            sizes.push(FileSize {
-                seq: size.seq,
-                len: size.len,
-            })?;
-        }
-        Ok(sizes)
+/// Returns what is missing of a queue's files, once a mode has accepted what stands in the last one behind the batches that were
+/// read.
+///
+/// # Errors
+///
+/// Those of [`tail_of`].
+fn missing_of(
+    alloc: Global,
+    mode: RecoveryMode,
+    queue: LogQueue,
+    version: Version,
+    sizes: &[FileSize],
+    rest: &[u8],
+) -> Result<Missing>
+    ensures ok { (files : List NumberedBytes) (read : ReaderSeen) → sizes.now ≡ map size_of files → IsReadTo queue version rest.now read files
+        → AreConsecutive (numbers files) → IfOk result (IsLeftRead mode queue version files read) }
+    ensures fault { (files : List NumberedBytes) (read : ReaderSeen) → sizes.now ≡ map size_of files → IsReadTo queue version rest.now read files
+        → IfErr result (λ e. e ≢ Error.Memory → IsFoundFault mode queue version files e ⊎ IsReadOnAs e) }
+{
+    let Some((last, _)) = sizes.split_last() else {
+        return Ok(Missing::FirstFile);
+    };
+    let file = LogFileContext::new(FileId::new(queue, last.seq), version);
+    match tail_of(alloc, mode, &file, last.len, rest)? {
+        None => Ok(Missing::Nothing),
+        Some(tail) => Ok(Missing::Cut(tail)),
     }
+}
 
-    /// Returns what is missing of the files, once a mode has accepted what stands behind the batches of the last one.
-    ///
-    /// # Errors
-    ///
-    /// Those of [`check_rest`].
-    fn missing(&self, alloc: Global, mode: RecoveryMode, version: Version) -> Result<Missing> {
-        let Some((last, _)) = self.sizes.split_last() else {
-            return Ok(Missing::FirstFile);
-        };
-        if self.rest.is_empty() {
-            return Ok(Missing::Nothing);
+/// Returns the tail of a file of `len` bytes, if it has one, by what stands in it behind the batches that were read, and a mode
+/// doesn't refuse it.
+///
+/// # Errors
+///
+/// `Corruption` where the mode refuses the tail, the file is of the other version, or a batch can be read there; `InvalidArgument`
+/// where the file is of raft-engine; `Memory`.
+fn tail_of(
+    alloc: Global,
+    mode: RecoveryMode,
+    file: &LogFileContext,
+    len: u64,
+    rest: &[u8],
+) -> Result<Option<CutTail>>
+    ensures ok { (front : List ℕ) → IsFrontRead file.now len rest.now front
+        → IfOk result (IsTailAccepted mode (part_of file.now 0 (front ++ rest.now))) }
+    ensures fault { (front : List ℕ) → IsFrontRead file.now len rest.now front → IfErr result (λ e. e ≢ Error.Memory
+        → IsPartFault mode (part_of file.now 0 (front ++ rest.now)) e ⊎ IsReadOnAs e) }
+{
+    if rest.is_empty() {
+        return Ok(None);
+    }
+    let rest_len = rest.len() as u64;
+    let offset = len.saturating_sub(rest_len);
+    let error = stop_of(alloc, file, offset, rest)?;
+    let part = FilePart::new(
+        file.id,
+        file.version,
+        offset,
+        Vec::from_slice(alloc, rest)?,
+    )?;
+    check_rest(mode, &part)?;
+    Ok(Some(CutTail {
+        file: file.id.seq,
+        offset,
+        len: rest_len,
+        error,
+    }))
+}
+
+/// Returns why no batch can be read in front of bytes that stand in a file from `offset` on.
+///
+/// # Errors
+///
+/// `Corruption` where one can, `Memory`.
+fn stop_of(alloc: Global, file: &LogFileContext, offset: u64, rest: &[u8]) -> Result<Error>
+    requires ends { offset + length rest.now < 2 ^ 64 }
+    ensures unreadable { IfOk result (λ e. HasNoFront (λ xs. IsReadable xs (signature_of file.now)) rest.now) }
+    ensures why { IfOk result (IsNextFault (signature_of file.now) rest.now) }
+    ensures not_memory { IfOk result (λ e. e ≢ Error.Memory) }
+    ensures fault { IfErr result (λ e. e ≢ Error.Memory → IsReadOnAs e) }
+{
+    match next_in(alloc, file, offset, rest, 0) {
+        Ok(_) => Err(Error::corruption(alloc, READ_ON)),
+        Err(error) => {
+            unless_memory(&error)?;
+            Ok(error)
         }
-        let file = LogFileContext::new(FileId::new(self.queue, last.seq), version);
-        let offset = last.len - self.rest.len() as u64;
-        let error = match next_in(alloc, &file, offset, self.rest, 0) {
-            Err(Error::Memory) => return Err(Error::Memory),
-            Err(error) => error,
-            Ok(_) => return Ok(Missing::Nothing),
-        };
-        let rest = FilePart::new(
-            file.id,
-            version,
-            offset,
-            Vec::from_slice(alloc, self.rest)?,
-        )?;
-        check_rest(mode, &rest)?;
-        Ok(Missing::Cut(CutTail {
-            file: last.seq,
-            offset,
-            len: self.rest.len() as u64,
-            error,
-        }))
     }
 }

@@ -1,5 +1,5 @@
 -- Files that readers have read, up to where the last one of a queue can't be read.
-use Rattle.std.specs.Prelude.{◌≡◌, ◌⊎◌, ℕ, ◌+◌, List, [], ◌∷◌, ◌++◌, length, map, codes}
+use Rattle.std.specs.Prelude.{◌≡◌, ◌⊎◌, ℕ, ◌+◌, List, [], ◌∷◌, ◌++◌, length, map, codes, Option, Some, None}
 use Rattle.raft_base.specs.Corruption.{IsCorruption}
 use Rattle.raft_base.specs.declared.errors.Error.{Error}
 use Rattle.raft_base.specs.declared.pipe_log.LogFileContext.{LogFileContext}
@@ -18,10 +18,11 @@ use Rattle.raft_engine.specs.ReadQueues.{HaveBothRead, HaveBothReadExactly}
 use Rattle.raft_engine.specs.SoundBlocks.{IsPartSound}
 use Rattle.raft_engine.specs.Unopened.{AreBothAccepted, AreUngroupedAs, IsUnopened}
 use Rattle.raft_engine.specs.declared.missing.Missing.{Missing}
+use Rattle.raft_engine.specs.declared.recovered.CutTail.{CutTail}
 use Rattle.raft_engine.specs.declared.recovered.Recovered.{Recovered}
 use Rattle.raft_engine.specs.declared.recovery_mode.RecoveryMode.{RecoveryMode}
 use Rattle.raft_opening.specs.ReadOnce.{IsStandingFor}
-use Rattle.raft_opening.specs.SizedFiles.{IsSizedQueue, size_of}
+use Rattle.raft_opening.specs.SizedFiles.{IsSizedQueue, IsTailAccepted, size_of}
 use Rattle.raft_opening.specs.declared.sized_files.SizedQueue.{SizedQueue}
 use Rattle.raft_orders.specs.Refusals.{IsUnordered}
 use Rattle.raft_ffi.specs.Readers.{ReaderSeen}
@@ -37,10 +38,20 @@ pub record IsFrontRead (file : LogFileContext) (len : ℕ) (rest front : List �
   pub batches : AreBatchesUpTo (part_of file 0 (front ++ rest)) (length front)
   pub sound : IsPartSound (part_of file 0 (front ++ rest))
 
--- there is no file, and nothing was read
-pub record IsNoneRead (rest : List ℕ) (read : ReaderSeen) (files : List NumberedBytes) : Type 0 where
+-- the tail behind this front of a file begins there, if it has one
+abbrev pub BeginsBehind : List ℕ → List ℕ → Option CutTail → Type 0
+BeginsBehind front rest None = rest ≡ []
+BeginsBehind front rest (Some tail) = tail.offset ≡ length front
+
+-- and a mode accepts it
+pub record IsTailBehind (mode : RecoveryMode) (file : LogFileContext) (rest front : List ℕ) (tail : Option CutTail) : Type 0 where
+  pub accepted : IsTailAccepted mode (part_of file 0 (front ++ rest)) tail
+  pub begins : BeginsBehind front rest tail
+
+-- there is no file, and a reader stands for no batch
+pub record IsNoneRead (queue : LogQueue) (version : Version) (read : ReaderSeen) (files : List NumberedBytes) : Type 0 where
   pub none : files ≡ []
-  pub nothing : HaveBothReadExactly read []
+  pub standing : IsStandingFor queue version HaveBothRead HaveBothReadExactly [] read
 
 -- the last one of these files ends in these bytes, behind batches; a reader stands for the batches of all files up to there
 pub record IsLastReadTo (queue : LogQueue) (version : Version) (rest : List ℕ) (read : ReaderSeen) (files : List NumberedBytes) : Type 0 where
@@ -54,7 +65,7 @@ pub record IsLastReadTo (queue : LogQueue) (version : Version) (rest : List ℕ)
 
 -- either
 abbrev pub IsReadTo : LogQueue → Version → List ℕ → ReaderSeen → List NumberedBytes → Type 0
-IsReadTo queue version rest read files = IsNoneRead rest read files ⊎ IsLastReadTo queue version rest read files
+IsReadTo queue version rest read files = IsNoneRead queue version read files ⊎ IsLastReadTo queue version rest read files
 
 -- the same of files of these sizes
 pub record IsQueueReadAs (queue : LogQueue) (version : Version) (sizes : List Size) (rest : List ℕ) (read : ReaderSeen) (files : List NumberedBytes) : Type 0 where

@@ -87,7 +87,7 @@ pub use Rattle.raft_ffi.specs.ItemLists.{IsHeadOf, entries_at, key_at, kind_of, 
 pub use Rattle.raft_ffi.specs.KeptNumbers.{AreKept, capped}
 pub use Rattle.raft_ffi.specs.Lengths.{HasLength}
 pub use Rattle.raft_ffi.specs.Pairs.{AreInKeyOrder, ArePairsIn, AreScanned, AreScannedIn, bound_in, bytes_of, lengths_of, pairs_of_both}
-pub use Rattle.raft_ffi.specs.ReadQueues.{AreBothReadAs, AreSomeReadAs, IsFrontRead, IsLastReadTo, IsLeftRead, IsOpenedAs, IsQueueReadAs, IsReadOnAs, IsReadTo, IsReadyAs, IsUnopenedAs, size_in}
+pub use Rattle.raft_ffi.specs.ReadQueues.{AreBothReadAs, AreSomeReadAs, IsFrontRead, IsLastReadTo, IsLeftRead, IsOpenedAs, IsQueueReadAs, IsReadOnAs, IsReadTo, IsReadyAs, IsTailBehind, IsUnopenedAs, size_in}
 pub use Rattle.raft_ffi.specs.Readers.{AreReadersUnsound, IsReplayedBy, ReaderSeen, ReadersStand, ReadersStandExactly, reader_code}
 pub use Rattle.raft_ffi.specs.Reads.{AreRegionsIn, IsEntryIn, IsFetched, IsSummaryIn, IsValueIn, value_in}
 pub use Rattle.raft_ffi.specs.Rooms.{AreEntriesIn, HasText, IsCopied, IsCopiedIfAny, IsRefusedFor, IsTextIn, IsTextOf, copied_over}

@@ -3,8 +3,8 @@
 ghost use Rattle.std.specs.Prelude.{◌≡◌, ◌≢◌, ◌⊎◌, ◌+◌, ◌^◌, ◌<◌, List, ◌++◌, ℕ, length, map, IfErr, IfOk};
 ghost use Rattle.raft_files.specs.Asks.{NumberedBytes};
 ghost use Rattle.raft_engine_prefixes.specs.Done.{AreConsecutive, numbers};
-ghost use Rattle.raft_opening.specs.SizedFiles.{IsPartFault, IsTailAccepted, size_of};
-ghost use Rattle.raft_ffi.specs.Words.{HasNoFront, IsFoundFault, IsFrontRead, IsLeftRead, IsNextFault, IsQueueReadAs, IsReadOnAs, IsReadTo, IsReadable, IsReadyAs, ReaderSeen, part_of, signature_of, size_in};
+ghost use Rattle.raft_opening.specs.SizedFiles.{IsPartFault, size_of};
+ghost use Rattle.raft_ffi.specs.Words.{HasNoFront, IsFoundFault, IsFrontRead, IsLeftRead, IsNextFault, IsQueueReadAs, IsReadOnAs, IsReadTo, IsReadable, IsReadyAs, IsTailBehind, ReaderSeen, part_of, signature_of, size_in};
 
 use raft_base::{Error, FileId, LogFileContext, LogQueue, Result, Version};
 use raft_engine::found::unless_memory;
@@ -119,7 +119,7 @@ fn tail_of(
     rest: &[u8],
 ) -> Result<Option<CutTail>>
     ensures ok { (front : List ℕ) → IsFrontRead file.now len rest.now front
-        → IfOk result (IsTailAccepted mode (part_of file.now 0 (front ++ rest.now))) }
+        → IfOk result (IsTailBehind mode file.now rest.now front) }
     ensures fault { (front : List ℕ) → IsFrontRead file.now len rest.now front → IfErr result (λ e. e ≢ Error.Memory
         → IsPartFault mode (part_of file.now 0 (front ++ rest.now)) e ⊎ IsReadOnAs e) }
 {

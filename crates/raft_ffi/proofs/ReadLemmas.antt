@@ -137,53 +137,53 @@ module _ (mode : RecoveryMode) (queue : LogQueue) (version : Version) (rest : Li
     the_last (inl n) = absurd (no_split closed last (sym (ap (map size_of) n.none) ∙ sym are ∙ split))
     the_last (inr l) = l
 
-    pub r : IsLastReadTo queue version rest read files
-    r = the_last up
+    pub last_read : IsLastReadTo queue version rest read files
+    last_read = the_last up
 
     l = last_sized files closed last (sym are ∙ split)
 
-    same : l.file ≡ (r.seq, r.front ++ rest)
-    same = one_last l.front r.closed l.file (r.seq, r.front ++ rest) (sym l.split ∙ r.split)
+    same : l.file ≡ (last_read.seq, last_read.front ++ rest)
+    same = one_last l.front last_read.closed l.file (last_read.seq, last_read.front ++ rest) (sym l.split ∙ last_read.split)
 
-    own : file ≡ record { id = file_of queue r.seq; version = version }
+    own : file ≡ record { id = file_of queue last_read.seq; version = version }
     own =
         let seq : last.seq ≡ l.file.0 = ap (λ (s : FileSize). s.seq) l.size in
         is ∙ ap (λ (n : ℕ). record { id = file_of queue n; version = version }) (seq ∙ ap (λ (f : NumberedBytes). f.0) same)
 
-    pub front_read : IsFrontRead file last.len rest r.front
+    pub front_read : IsFrontRead file last.len rest last_read.front
     front_read =
         let len : last.len ≡ length l.file.1 = ap (λ (s : FileSize). s.len) l.size in
-        let all : length l.file.1 ≡ length (r.front ++ rest) = ap (λ (f : NumberedBytes). length f.1) same in
-        let n = length-append r.front rest in
+        let all : length l.file.1 ≡ length (last_read.front ++ rest) = ap (λ (f : NumberedBytes). length f.1) same in
+        let n = length-append last_read.front rest in
         record {
           long = omega (arith, len, all, n);
-          batches = subst (λ (c : LogFileContext). AreBatchesUpTo (part_of c 0 (r.front ++ rest)) (length r.front)) (sym own) r.batches;
-          sound = subst (λ (c : LogFileContext). IsPartSound (part_of c 0 (r.front ++ rest))) (sym own) r.sound;
+          batches = subst (λ (c : LogFileContext). AreBatchesUpTo (part_of c 0 (last_read.front ++ rest)) (length last_read.front)) (sym own) last_read.batches;
+          sound = subst (λ (c : LogFileContext). IsPartSound (part_of c 0 (last_read.front ++ rest))) (sym own) last_read.sound;
         }
 
-    pub is_last : IsLastOf queue version files (part_of file 0 (r.front ++ rest))
-    is_last = record { closed = r.closed; last = (r.seq, r.front ++ rest); split = r.split; is = ap (λ (c : LogFileContext). part_of c 0 (r.front ++ rest)) own }
+    pub is_last : IsLastOf queue version files (part_of file 0 (last_read.front ++ rest))
+    is_last = record { closed = last_read.closed; last = (last_read.seq, last_read.front ++ rest); split = last_read.split; is = ap (λ (c : LogFileContext). part_of c 0 (last_read.front ++ rest)) own }
 
     module _ (consecutive : AreConsecutive (numbers files)) where
-      pub whole_left : (tail : Option CutTail) → tail ≡ None → IsTailBehind mode file rest r.front tail → IsLeftRead mode queue version files read Nothing
+      pub whole_left : (tail : Option CutTail) → tail ≡ None → IsTailBehind mode file rest last_read.front tail → IsLeftRead mode queue version files read Nothing
       whole_left tail none t =
-          let s = subst (IsTailBehind mode file rest r.front) none t in
-          let all : r.front ++ rest ≡ r.front = ap (λ (xs : List ℕ). r.front ++ xs) s.begins ∙ append-nil r.front in
+          let s = subst (IsTailBehind mode file rest last_read.front) none t in
+          let all : last_read.front ++ rest ≡ last_read.front = ap (λ (xs : List ℕ). last_read.front ++ xs) s.begins ∙ append-nil last_read.front in
           record {
-            missing_of = sized_missing mode queue version files (part_of file 0 (r.front ++ rest)) is_last consecutive None s.accepted Nothing (inl (refl, refl));
-            standing = subst (λ (fs : List NumberedBytes). IsStandingFor queue version HaveBothRead HaveBothReadExactly fs read) (ap (λ (xs : List ℕ). r.closed ++ (r.seq, xs) ∷ []) (sym all) ∙ sym r.split) r.standing;
+            missing_of = sized_missing mode queue version files (part_of file 0 (last_read.front ++ rest)) is_last consecutive None s.accepted Nothing (inl (refl, refl));
+            standing = subst (λ (fs : List NumberedBytes). IsStandingFor queue version HaveBothRead HaveBothReadExactly fs read) (ap (λ (xs : List ℕ). last_read.closed ++ (last_read.seq, xs) ∷ []) (sym all) ∙ sym last_read.split) last_read.standing;
           }
 
-      pub torn_left : (tail : Option CutTail) (cut : CutTail) → tail ≡ Some cut → IsTailBehind mode file rest r.front tail → IsLeftRead mode queue version files read (Cut cut)
+      pub torn_left : (tail : Option CutTail) (cut : CutTail) → tail ≡ Some cut → IsTailBehind mode file rest last_read.front tail → IsLeftRead mode queue version files read (Cut cut)
       torn_left tail cut some t =
-          let s = subst (IsTailBehind mode file rest r.front) some t in
-          let kept : take cut.offset (r.front ++ rest) ≡ r.front = take_at r.front rest cut.offset (sym s.begins) in
-          let left : cut_last cut.offset files ≡ r.closed ++ (r.seq, take cut.offset (r.front ++ rest)) ∷ [] =
-          ap (cut_last cut.offset) r.split ∙ last_of (λ (old : List ℕ). take cut.offset old) r.closed (r.seq, r.front ++ rest) in
+          let s = subst (IsTailBehind mode file rest last_read.front) some t in
+          let kept : take cut.offset (last_read.front ++ rest) ≡ last_read.front = take_at last_read.front rest cut.offset (sym s.begins) in
+          let left : cut_last cut.offset files ≡ last_read.closed ++ (last_read.seq, take cut.offset (last_read.front ++ rest)) ∷ [] =
+          ap (cut_last cut.offset) last_read.split ∙ last_of (λ (old : List ℕ). take cut.offset old) last_read.closed (last_read.seq, last_read.front ++ rest) in
           record {
-            missing_of = sized_missing mode queue version files (part_of file 0 (r.front ++ rest)) is_last consecutive (Some cut) s.accepted (Cut cut) (inr (cut, refl, refl));
+            missing_of = sized_missing mode queue version files (part_of file 0 (last_read.front ++ rest)) is_last consecutive (Some cut) s.accepted (Cut cut) (inr (cut, refl, refl));
             standing = subst (λ (fs : List NumberedBytes). IsStandingFor queue version HaveBothRead HaveBothReadExactly fs read)
-                (ap (λ (xs : List ℕ). r.closed ++ (r.seq, xs) ∷ []) (sym kept) ∙ sym left) r.standing;
+                (ap (λ (xs : List ℕ). last_read.closed ++ (last_read.seq, xs) ∷ []) (sym kept) ∙ sym left) last_read.standing;
           }
 
 -- ---- numbers
@@ -207,3 +207,23 @@ context_standing queue version files read s = record {
   stands = λ small. (s.stands small).0;
   exact = λ small apart. (s.exact small apart).0;
 }
+
+-- ---- refusals
+
+abbrev IsWant : Error → Type 0
+IsWant errors.Memory = Unit {0}
+IsWant _ = ⊥
+
+memory_or_not : (e : Error) → (e ≡ errors.Memory) ⊎ (e ≢ errors.Memory)
+memory_or_not errors.Memory = inl refl
+memory_or_not e = inr (λ is. subst IsWant (sym is) tt)
+
+-- a refusal that isn't for want of memory has one of two reasons
+pub either_on : (A X : Type 0) (e : Error) → (e ≢ errors.Memory → A ⊎ X) → (e ≢ errors.Memory → A) ⊎ X
+either_on A X e why = elim (memory_or_not e) [
+  | inl is ↦ inl (λ other. absurd (other is))
+  | inr other ↦ elim (why other) [
+    | inl a ↦ inl (λ _. a)
+    | inr x ↦ inr x
+  ]
+]

@@ -47,10 +47,11 @@ pub(crate) fn sized_queue(
     ensures fault { (files : List NumberedBytes) (read : ReaderSeen) → IsQueueReadAs queue version sizes.now rest.now read files
         → IfErr result (λ e. e ≢ Error.Memory → IsFoundFault mode queue version files e ⊎ IsReadOnAs e) }
 {
-    let sizes = file_sizes(alloc, sizes)?;
-    check_sizes(alloc, queue, sizes.as_slice())?;
-    let missing = missing_of(alloc, mode, queue, version, sizes.as_slice(), rest)?;
-    let left = sizes_left(alloc, sizes.as_slice(), &missing)?;
+    let found = file_sizes(alloc, sizes)?;
+    let files = found.as_slice();
+    check_sizes(alloc, queue, files)?;
+    let missing = missing_of(alloc, mode, queue, version, files, rest)?;
+    let left = sizes_left(alloc, files, &missing)?;
     let known = known_of(alloc, left.as_slice())?;
     let ready = ReadyQueue { missing, known };
     Ok(SizedQueue { ready, left })
@@ -123,18 +124,14 @@ fn tail_of(
     ensures fault { (front : List ℕ) → IsFrontRead file.now len rest.now front → IfErr result (λ e. e ≢ Error.Memory
         → IsPartFault mode (part_of file.now 0 (front ++ rest.now)) e ⊎ IsReadOnAs e) }
 {
-    if rest.is_empty() {
+    let rest_len = rest.len() as u64;
+    if rest_len == 0 {
         return Ok(None);
     }
-    let rest_len = rest.len() as u64;
     let offset = len.saturating_sub(rest_len);
     let error = stop_of(alloc, file, offset, rest)?;
-    let part = FilePart::new(
-        file.id,
-        file.version,
-        offset,
-        Vec::from_slice(alloc, rest)?,
-    )?;
+    let bytes = Vec::from_slice(alloc, rest)?;
+    let part = FilePart::new(file.id, file.version, offset, bytes)?;
     check_rest(mode, &part)?;
     Ok(Some(CutTail {
         file: file.id.seq,

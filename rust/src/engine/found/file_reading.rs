@@ -3,7 +3,7 @@
 use super::file_pieces::{FilePieces, PIECE, Piece, read_into};
 use crate::engine::locks;
 use crate::sys::ReaderHandle;
-use crate::{Error, FilePart, Files, LogFile, Result};
+use crate::{Error, ErrorKind, FilePart, Files, LogFile, Result, readable_front};
 use std::sync::Mutex;
 use std::sync::atomic::{AtomicU64, Ordering::Relaxed};
 
@@ -15,6 +15,8 @@ pub(super) struct FileReading<'a, F> {
     len: u64,
     /// Whether it is the last one of its queue, in which no batch is refused that can't be read.
     is_last: bool,
+    /// Whether a batch that doesn't fit those before it is to be named.
+    is_named: bool,
     pieces: Mutex<FilePieces<'a, F>>,
     /// How many bytes no piece has yet.
     left: AtomicU64,
@@ -22,12 +24,19 @@ pub(super) struct FileReading<'a, F> {
 
 impl<'a, F: Files> FileReading<'a, F> {
     /// Begins with the first byte of a file of `len` bytes, which may be the last one of its queue.
-    pub(super) fn new(files: &'a F, file: LogFile, len: u64, is_last: bool) -> FileReading<'a, F> {
+    pub(super) fn new(
+        files: &'a F,
+        file: LogFile,
+        len: u64,
+        is_last: bool,
+        is_named: bool,
+    ) -> FileReading<'a, F> {
         FileReading {
             files,
             file,
             len,
             is_last,
+            is_named,
             pieces: Mutex::new(FilePieces::new(files, file.into(), len)),
             left: AtomicU64::new(len),
         }
@@ -81,7 +90,10 @@ impl<'a, F: Files> FileReading<'a, F> {
         if !self.is_last {
             return Ok((reader.replay(part)?, None));
         }
-        let (reader, front) = reader.replay_last(part)?;
+        let (reader, front) = match self.is_named {
+            true => replay_front(reader, part)?,
+            false => reader.replay_last(part)?,
+        };
         match piece.bytes.split_at(front) {
             (_, []) => Ok((reader, None)),
             (_, rest) => Ok((
@@ -103,13 +115,27 @@ impl<'a, F: Files> FileReading<'a, F> {
         rest.try_reserve_exact(len).map_err(|_| memory())?;
         rest.extend_from_slice(read);
         rest.resize(len, 0);
-        let behind = offset + read.len() as u64;
-        read_into(
-            self.files,
-            self.file.into(),
-            behind,
-            &mut rest[read.len()..],
-        )?;
+        let behind = &mut rest[read.len()..];
+        if !behind.is_empty() {
+            let at = offset + read.len() as u64;
+            read_into(self.files, self.file.into(), at, behind)?;
+        }
         Ok(rest)
+    }
+}
+
+/// Replays the batches of a part of the last file of a queue, up to the first one that can't be read, and returns how many bytes they
+/// have, as [`ReaderHandle::replay_last`] does, but reads each of them twice, so that a refusal names the batch.
+///
+/// # Errors
+///
+/// The refusal of the first batch that is refused; `Memory`.
+fn replay_front(reader: ReaderHandle, part: FilePart<'_>) -> Result<(ReaderHandle, usize)> {
+    match readable_front(part)? {
+        (_, Some(e)) if e.kind == ErrorKind::Memory => Err(e),
+        (front, _) => {
+            let bytes = &part.bytes[..front];
+            Ok((reader.replay(FilePart { bytes, ..part })?, front))
+        }
     }
 }

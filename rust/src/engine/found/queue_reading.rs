@@ -17,7 +17,8 @@ const LEAST_SHARE: u64 = 1 << 20;
 /// # Errors
 ///
 /// The refusal of the first batch that is refused, but for the tail of the last file; `Io` with file and offset; `InvalidArgument`
-/// where a file is one of raft-engine; `Memory`.
+/// where a file is one of raft-engine; `Memory`. What several threads find first may vary, so files that they refuse are read once more
+/// by one, and where a refusal names no batch, once more to name it.
 pub(super) fn read_queue(
     files: &impl Files,
     queue: Queue,
@@ -25,23 +26,29 @@ pub(super) fn read_queue(
     options: &Options,
 ) -> Result<ReadFiles> {
     let threads = options.recovery_threads.max(1);
-    let read = |threads| QueueReading::new(files, queue, listed, options.version).read(threads);
-    let (reader, rest) = match read(threads) {
-        Err(e) if threads > 1 && is_to_be_named(&e) => read(1)?,
-        read => read?,
+    let read = |threads, is_named| {
+        let reading = QueueReading::new(files, queue, listed, options.version, is_named);
+        reading.read(threads)
     };
+    let again = |refused: Error, is_named| read(1, is_named).err().unwrap_or(refused);
+    let (reader, rest) = read(threads, false).map_err(|mut refused| {
+        if refused.kind == ErrorKind::Memory || refused.io_kind().is_some() {
+            return refused;
+        }
+        if threads > 1 {
+            refused = again(refused, false);
+        }
+        match refused.file {
+            Some(_) => refused,
+            None => again(refused, true),
+        }
+    })?;
     let sizes = listed.iter().map(|&(seq, len)| Size { seq, len });
     Ok(ReadFiles {
         reader,
         sizes: sizes.collect(),
         rest,
     })
-}
-
-/// Tests whether one thread is to say why several were refused: which batch is refused first, in a reading or a merge, may vary with
-/// how they divide the files.
-fn is_to_be_named(e: &Error) -> bool {
-    e.kind != ErrorKind::Memory && e.io_kind().is_none()
 }
 
 /// The files of a queue while they are read.
@@ -54,18 +61,20 @@ pub(super) struct QueueReading<'a, F> {
 }
 
 impl<'a, F: Files> QueueReading<'a, F> {
-    /// Begins with the first byte of each file.
+    /// Begins with the first byte of each file. What is refused may be to be named.
     fn new(
         files: &'a F,
         queue: Queue,
         listed: &[(u64, u64)],
         version: Version,
+        is_named: bool,
     ) -> QueueReading<'a, F> {
         let last = listed.last().map(|(seq, _)| *seq);
         let with_bytes = listed.iter().filter(|(_, len)| *len > 0);
         let reading = with_bytes.map(|&(seq, len)| {
             let file = LogFile::new(queue, seq, version);
-            FileReading::new(files, file, len, last == Some(seq))
+            let is_last = last == Some(seq);
+            FileReading::new(files, file, len, is_last, is_named)
         });
         QueueReading {
             files: reading.collect(),

@@ -1,28 +1,16 @@
-use Rattle.raft_ffi.proofs.Common.{◌≡◌, inl, List, refl, sym, subst, Error, RecoveryMode, Version, Ask, AreUngroupedAs, found_asks, IsUnopened, IsUnordered, IsUnopenedAs, FilesSeen, err_from_is_err_and}
-use Rattle.raft_ffi.proofs.Common.{◌∙◌, HaveReadFound, files_seen}
-use Rattle.raft_base.specs.declared.errors.Error.TheVariants as errors
-use Rattle.raft_ffi.proofs.engine_calls.open_into.Goals as goal
+use Rattle.std.proofs.Common.{◌∙◌, inl, inr, refl, subst, ap}
+use Rattle.std.proofs.lemmas.Result.{err_from_is_err_and}
+use Rattle.raft_orders.specs.Orders.{all_to_do}
+use Rattle.raft_ffi.proofs.opening.open_into.Goals as goal
 
-for_memory : (mode : RecoveryMode) (version : Version) (found : FilesSeen) (e : Error) → e ≡ errors.Memory → IsUnopenedAs mode version found e
-for_memory mode version found e is = (found_asks found.append found.rewrite, inl (refl, λ other. absurd (other is)))
+pub of_found-requires : goal.of_found-requires
+of_found-requires c = c.requires.read
 
-for_reason : (mode : RecoveryMode) (version : Version) (found : FilesSeen) (asks : List Ask) (u e : Error)
-    → IsUnopened (AreUngroupedAs version) (λ _ _. IsUnordered) mode version found.append found.rewrite asks u → e ≡ u
-    → IsUnopenedAs mode version found e
-for_reason mode version found asks u e why same = (asks, subst (IsUnopened (AreUngroupedAs version) (λ _ _. IsUnordered) mode version found.append found.rewrite asks) (sym same) why)
+pub found-files-requires : goal.found-files-requires
+found-files-requires c = ap all_to_do c.of_found-found.ensures.3
 
-pub open_over_telling-requires-clause-read : goal.open_over_telling-requires-clause-read
-open_over_telling-requires-clause-read c =
-    subst (λ (f : FilesSeen). HaveReadFound c.args.version f.append f.rewrite c.args.appended c.args.rewritten) (sym c.found.view_is) c.requires.read
+pub of_reading-requires-clause-to_be_told : goal.of_reading-requires-clause-to_be_told
+of_reading-requires-clause-to_be_told c = let f = c.of_found-found.ensures in (c.in_ok-reading.ensures.ok f.0 f.1 f.2).to_be_told
 
-pub returns-in_err-opened-clause-fault : goal.returns-in_err-opened-clause-fault
-returns-in_err-opened-clause-fault c =
-    let p = err_from_is_err_and c.from_residual.result c.from_residual.ensures.1 in
-    rw (p.1)
-    (subst (λ (f : FilesSeen). IsUnopenedAs c.args.mode c.args.version f p.0) c.found.view_is
-    (for_reason c.args.mode c.args.version (files_seen c.found.inside) _ _ p.0 c.in_err-opened.ensures.err p.2))
-
-pub returns-in_err-put_new-clause-fault : goal.returns-in_err-put_new-clause-fault
-returns-in_err-put_new-clause-fault c =
-    let p = err_from_is_err_and c.from_residual-in_err-put_new.result c.from_residual-in_err-put_new.ensures.1 in
-    rw (p.1) (for_memory c.args.mode c.args.version c.args.found p.0 (p.2 ∙ c.in_err-put_new.ensures.memory))
+pub of_reading-requires-clause-found : goal.of_reading-requires-clause-found
+of_reading-requires-clause-found c = let f = c.of_found-found.ensures in (f.0, f.1, c.found-files.ensures.asks ∙ f.3, c.in_ok-reading.ensures.ok f.0 f.1 f.2)

@@ -38,8 +38,8 @@ prefix_of_sound Rewrite version seq bytes n all = elim (cases_lt n (length bytes
   | inr long ↦ subst (λ (bs : List ℕ). AreBlocksSound (whole_file Rewrite version (seq, bs))) (sym (take_all n bytes (omega (arith, long)))) all
 ]
 
-prefix_of_sound : (queue : LogQueue) (version : Version) (seq : ℕ) (front rest : List ℕ) → IsFileSound queue version (seq, front ++ rest) → IsFileSound queue version (seq, front)
-prefix_of_sound queue version seq front rest all =
+sound_in_front : (queue : LogQueue) (version : Version) (seq : ℕ) (front rest : List ℕ) → IsFileSound queue version (seq, front ++ rest) → IsFileSound queue version (seq, front)
+sound_in_front queue version seq front rest all =
     subst (λ (bs : List ℕ). IsFileSound queue version (seq, bs)) (take_at front rest (length front) refl) (prefix_of_sound queue version seq (front ++ rest) (length front) all)
 
 -- a written batch behind one
@@ -110,7 +110,7 @@ module _ (queue : LogQueue) (version : Version) where
           let g = last_held queue version closed last h (subst (λ (files : List NumberedBytes). FilesHold queue version files h) is held) in
           let all = written_behind queue version last handle batch g.0 w id place g.1 (none (begun acts) (whole_stands acts) closed last is) in
           last_is_sound standing closed (last.0, last.1 ++ f.front) (f.put ∙ ap (put_behind f.front) is ∙ last_of (λ old. old ++ f.front) closed last)
-          (prefix_of_sound queue version last.0 (last.1 ++ f.front) f.rest
+          (sound_in_front queue version last.0 (last.1 ++ f.front) f.rest
           (subst (λ (bs : List ℕ). IsFileSound queue version (last.0, bs)) (ap (λ (bs : List ℕ). last.1 ++ bs) f.split ∙ sym (append_assoc last.1 f.front f.rest)) all))
 
 -- ---- a crash

@@ -6,17 +6,19 @@
 
 use raft_base::{FileId, FileSeq, LogQueue, Result, Version};
 use raft_engine::{Engine, RecoveryMode};
-use raft_folder::{FolderError, FolderFiles};
-use raft_opening::{OpeningHost, open_folder};
+use raft_folder::{FolderError, FolderFiles, FolderHost};
+use raft_opening::open_folder;
 use raft_records::{Command, LogBatch};
+use raft_recover::SharedFiles;
 use raft_samples::{Proposals, proposals_from};
 use std::fs::OpenOptions;
+use std::thread::Threads;
 use std::{env, fs};
 
 /// What the program asks of the machine.
-trait Host: OpeningHost + Print {}
+trait Host: FolderHost + SharedFiles + Threads + Sync + Print {}
 
-impl<R: OpeningHost + Print> Host for R {}
+impl<R: FolderHost + SharedFiles + Threads + Sync + Print> Host for R {}
 
 type FolderEngine<'a, R> = Engine<FolderFiles<'a, R>>;
 
@@ -68,7 +70,13 @@ fn run<R: Host>(rt: &R, folder: &str) -> Result<()> {
 
 /// Opens the engine of a folder, and prints what that cut off the files.
 fn open<'a, R: Host>(rt: &'a R, folder: &'a str) -> Result<FolderEngine<'a, R>> {
-    let opened = open_folder(rt, folder, RecoveryMode::TolerateTornTail, Version::V2, WORKERS)?;
+    let opened = open_folder(
+        rt,
+        folder,
+        RecoveryMode::TolerateTornTail,
+        Version::V2,
+        WORKERS,
+    )?;
     let engine = opened.engine;
     for tail in engine.files().kept() {
         println!(rt; "cut off: {} bytes, which {} keeps", tail.len, tail.kept)?;

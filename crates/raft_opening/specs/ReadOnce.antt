@@ -38,6 +38,10 @@ use Rattle.raft_opening.specs.declared.queue_read.QueueRead.{QueueRead}
 abbrev pub Giving : Type 1
 Giving = FileId → ℕ → List ℕ → Type 0
 
+-- a read at some path gave these bytes
+abbrev pub PathGives : (List ℕ → ℕ → List ℕ → Type 0) → Giving
+PathGives Gives file offset bytes = (path : List ℕ) × Gives path offset bytes
+
 -- ---- a queue
 
 -- the bytes of a file up to its tail

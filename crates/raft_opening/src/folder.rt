@@ -1,5 +1,9 @@
 //! An engine that is opened over a folder, whose files are read in pieces.
 
+ghost use Rattle.std.specs.Prelude.{List, IfOk};
+ghost use Rattle.raft_reading.specs.declared.queue_files.FileSize.{FileSize};
+ghost use Rattle.raft_opening.specs.ReadOnce.{IsOpenedOver, PathGives};
+
 use crate::opening::open_in_pieces;
 use crate::path_source::PathSource;
 use raft_base::{Error, LogQueue, Result, Version};
@@ -9,44 +13,35 @@ use raft_reading::FileSize;
 use raft_recover::SharedFiles;
 use std::thread::Threads;
 
-/// What the opening of a folder asks of the machine.
-pub trait OpeningHost: FolderHost + SharedFiles + Threads + Sync {}
-
-impl<R: FolderHost + SharedFiles + Threads + Sync> OpeningHost for R {}
-
 /// Opens the engine of a folder by so many workers, as `Engine::open_telling` does, and reads its files in pieces: see
 /// [`open_in_pieces`]. A folder that isn't there yet is made.
 ///
 /// # Errors
 ///
 /// Those of `FolderFiles::open`, and of [`open_in_pieces`]. The folder is closed then.
-pub fn open_folder<'a, R: OpeningHost>(
+pub fn open_folder<'a, R: FolderHost + SharedFiles + Threads>(
     rt: &'a R,
     path: &'a str,
     mode: RecoveryMode,
     version: Version,
     workers: usize,
-) -> Result<Opened<FolderFiles<'a, R>>> {
+) -> Result<Opened<FolderFiles<'a, R>>>
+    ensures { IfOk result (λ opened. (append : List FileSize) × (rewrite : List FileSize)
+        × IsOpenedOver (PathGives (R.gives rt.now)) mode version append rewrite opened.engine opened.recovered) }
+{
     let files = FolderFiles::open_unread(rt, path)?;
-    let (append, rewrite) = (
-        files.paths(LogQueue::Append)?,
-        files.paths(LogQueue::Rewrite)?,
-    );
-    let source = PathSource::new(rt, append, rewrite);
     let append = sizes_of(rt, &files, LogQueue::Append)?;
     let rewrite = sizes_of(rt, &files, LogQueue::Rewrite)?;
-    let opened = open_in_pieces(
-        rt,
-        rt.alloc(),
-        mode,
-        version,
-        files,
-        &source,
-        &append,
-        &rewrite,
-        workers,
-    );
-    match opened {
+    let source = PathSource {
+        disk: rt,
+        append: files.paths(LogQueue::Append)?,
+        rewrite: files.paths(LogQueue::Rewrite)?,
+    };
+    let (append, rewrite) = (append.as_slice(), rewrite.as_slice());
+    let alloc = rt.alloc();
+    match open_in_pieces(
+        rt, alloc, mode, version, files, &source, append, rewrite, workers,
+    ) {
         Ok(opened) => Ok(opened),
         Err(unopened) => Err(Error::from(unopened)),
     }

@@ -5,7 +5,7 @@ mod file_rest;
 pub mod folder;
 mod last_file;
 pub mod opening;
-pub mod path_source;
+mod path_source;
 #[doc(hidden)]
 pub mod piece_reading;
 #[doc(hidden)]
@@ -16,6 +16,5 @@ mod sized_reading;
 
 #[doc(hidden)]
 pub use file_rest::check_rest;
-pub use folder::{OpeningHost, open_folder};
+pub use folder::open_folder;
 pub use opening::open_in_pieces;
-pub use path_source::PathSource;

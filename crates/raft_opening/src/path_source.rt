@@ -10,45 +10,33 @@ use std::io::ErrorKind;
 
 /// The files of both queues by their numbers, which rise, and their paths.
 #[derive(Drop)]
-pub struct PathSource<'a, D: SharedFiles> {
-    disk: &'a D,
-    append: Vec<(FileSeq, String)>,
-    rewrite: Vec<(FileSeq, String)>,
-}
-
-impl<'a, D: SharedFiles> PathSource<'a, D> {
-    /// Makes a source of the files at these paths.
-    pub fn new(
-        disk: &'a D,
-        append: Vec<(FileSeq, String)>,
-        rewrite: Vec<(FileSeq, String)>,
-    ) -> PathSource<'a, D> {
-        PathSource {
-            disk,
-            append,
-            rewrite,
-        }
-    }
-
-    /// Returns the paths of a queue's files.
-    fn paths(&self, queue: LogQueue) -> &Vec<(FileSeq, String)> {
-        match queue {
-            LogQueue::Append => &self.append,
-            LogQueue::Rewrite => &self.rewrite,
-        }
-    }
+pub(crate) struct PathSource<'a, D: SharedFiles> {
+    pub(crate) disk: &'a D,
+    pub(crate) append: Vec<(FileSeq, String)>,
+    pub(crate) rewrite: Vec<(FileSeq, String)>,
 }
 
 impl<D: SharedFiles> ReadFiles for PathSource<'_, D> {
-    ghost gives = { λ source file offset bytes. (path : List ℕ) × D.gives source.disk.now path offset bytes };
+    ghost use Rattle.raft_opening.specs.ReadOnce.{PathGives};
+
+    ghost gives = { λ source. PathGives (D.gives source.disk.now) };
 
     fn read(&self, file: FileId, offset: u64, len: usize, bytes: &mut Vec<u8>) -> io::Result<()> {
-        let paths = self.paths(file.queue);
-        match paths.binary_search_by_key(&file.seq, |named| named.0) {
-            Ok(index) => self
-                .disk
-                .read_file(paths[index].1.as_str(), offset, len, bytes),
-            Err(_) => Err(io::Error::from(ErrorKind::NotFound)),
+        let paths = match file.queue {
+            LogQueue::Append => &self.append,
+            LogQueue::Rewrite => &self.rewrite,
+        };
+        match path_of(paths, file.seq) {
+            Some(path) => self.disk.read_file(path, offset, len, bytes),
+            None => Err(io::Error::from(ErrorKind::NotFound)),
         }
+    }
+}
+
+/// Returns the path of the file with this number, of files whose numbers rise.
+fn path_of(paths: &Vec<(FileSeq, String)>, seq: FileSeq) -> Option<&str> {
+    match paths.binary_search_by_key(&seq, |named| named.0) {
+        Ok(index) => Some(paths[index].1.as_str()),
+        Err(_) => None,
     }
 }

@@ -1,11 +1,13 @@
 //! The files of an engine in a folder, from `raft_folder`.
 
-use raft_base::{Error, FileId, FileSeq, LogQueue};
-use raft_files::EngineFiles;
+use raft_base::{Error, FileId, FileSeq, LogQueue, Result, Version};
+use raft_engine::{Opened, RecoveryMode};
+use raft_files::{EngineFiles, NotesFound};
 use raft_folder::{
     FolderError, FolderFile, FolderFiles, FolderHost, FolderResult, FoundFolder, KeptTail,
     ReadFolder,
 };
+use raft_opening::open_folder;
 
 type LogFiles = Vec<(FileSeq, Vec<u8>)>;
 
@@ -33,11 +35,22 @@ fn found(rt: &HostRuntime, path: &str) -> FolderResult<(LogFiles, LogFiles)> {
 
 fn is_of_engine<F: EngineFiles>(_files: &F) {}
 
+/// Opens a folder without reading its files, and the engine of a folder.
+fn open_unread(rt: &HostRuntime, path: &str) -> Result<Opened<FolderFiles<'_, HostRuntime>>> {
+    let files: FolderFiles<'_, HostRuntime> = FolderFiles::open_unread(rt, path)?;
+    notes_found(&files);
+    let _paths: Vec<(FileSeq, String)> = FolderFiles::paths(&files, LogQueue::Append)?;
+    open_folder(rt, path, RecoveryMode::TolerateTornTail, Version::V2, 1)
+}
+
+fn notes_found<F: NotesFound>(_files: &F) {}
+
 /// Opens a folder to read it.
 fn read<'a, R: FolderHost>(rt: &'a R, path: &'a str) -> FolderResult<LogFiles> {
     let folder: ReadFolder<'a, R> = ReadFolder::open(rt, path)?;
     let _listed: Vec<FolderFile> = ReadFolder::list(&folder, LogQueue::Append)?;
     let _path: String = ReadFolder::path_of(&folder, FileId::new(LogQueue::Append, 1))?;
+    let _paths: Vec<(FileSeq, String)> = ReadFolder::paths(&folder, LogQueue::Append)?;
     ReadFolder::bytes_of_files(&folder, LogQueue::Rewrite)
 }
 
@@ -57,6 +70,7 @@ fn path_in(error: FolderError) -> Option<String> {
 fn folders_are_handed_on(rt: HostRuntime) {
     let opened: FolderResult<(LogFiles, LogFiles)> = found(&rt, "no_such_folder/folder");
     assert!(rt; matches!(opened, Err(FolderError::System(_, _))));
+    assert!(rt; open_unread(&rt, "no_such_folder/folder").is_err());
     assert!(rt; path_in(FolderError::Memory).is_none());
     let refused = read(&rt, "no_such_folder");
     assert!(rt; matches!(refused, Err(FolderError::System(_, _))));

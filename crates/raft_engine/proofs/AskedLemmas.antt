@@ -6,24 +6,29 @@ use Rattle.raft_base.specs.declared.pipe_log.LogQueue.TheVariants.{Rewrite}
 use Rattle.raft_base.specs.declared.pipe_log.Version.{Version}
 use Rattle.raft_records.specs.Item.{Item}
 use Rattle.raft_records.specs.LogBatch.{Batch}
-use Rattle.raft_files.specs.Asks.{Ask, Begin, Cut, MayBeAsked, Put, Sync, ask}
+use Rattle.raft_files.specs.Asks.{Act, Ask, Begin, Cut, Delete, Found, MayBeAsked, Put, Read, Sync, Unsynced, ask, failed_act, failed_ask}
 use Rattle.raft_engine.specs.BatchBytes.{bytes_for}
 use Rattle.raft_engine.specs.OpeningAsks.{Failures, FailsAmong, asks_that_tell, missing_asks}
 use Rattle.raft_engine.specs.StoredFound.{told_asks}
 use Rattle.raft_engine.specs.declared.missing.Missing.{Missing}
 use Rattle.raft_engine.specs.declared.missing.Missing.TheVariants as missings
 use Rattle.raft_engine.specs.declared.recovered.CutTail.{CutTail}
+use Rattle.raft_engine.specs.WrittenBatch.{AreMissing}
 
--- of what is wanted, newest first, some, none or all was asked, the oldest first
+-- of what is wanted, newest first, some, none or all was asked, the oldest first, and it may be noted that a sync failed behind it
 pub record AreAskedInPart (wanted old new : List Ask) : Type 0 where
   pub missing : List Ask
   pub made : List Ask
   pub split : wanted ≡ missing ++ made
-  pub asked : new ≡ made ++ old
+  pub asked : AreMissing missing (made ++ old) new
 
 -- of two
-pub asked_of_two : (P : List Ask → Type 0) (b a : Ask) (old new : List Ask) → AreAskedInPart (b ∷ a ∷ []) old new → P old → P (a ∷ old) → P (b ∷ a ∷ old) → P new
-asked_of_two P b a old new p none one two = subst P (sym p.asked) (go p.missing p.made p.split)
+pub asked_of_two : (P : List Ask → Type 0) (b a : Ask) (old new : List Ask) → AreAskedInPart (b ∷ a ∷ []) old new → ((queue : LogQueue) (l : List Ask) → P l → P (ask queue Unsynced ∷ l))
+    → P old → P (a ∷ old) → P (b ∷ a ∷ old) → P new
+asked_of_two P b a old new p unsynced none one two = elim p.asked [
+  | inl e ↦ subst P (sym e) (go p.missing p.made p.split)
+  | inr u ↦ subst P (sym u.noted) (unsynced u.queue (p.made ++ old) (go p.missing p.made p.split))
+]
   where
     go : (missing made : List Ask) → b ∷ a ∷ [] ≡ missing ++ made → P (made ++ old)
     go [] made e = subst (λ (l : List Ask). P (l ++ old)) e two
@@ -31,19 +36,59 @@ asked_of_two P b a old new p none one two = subst P (sym p.asked) (go p.missing 
     go (x ∷ y ∷ []) made e = let is : [] ≡ made = cc in subst (λ (l : List Ask). P (l ++ old)) is none
     go (x ∷ y ∷ z ∷ missing) made e = absurd cc
 
+-- where the call for one failed
+none_of : (queue : LogQueue) (act : Act) (later earlier wanted old new : List Ask) → wanted ≡ later ++ ask queue act ∷ earlier → new ≡ earlier ++ old → AreAskedInPart wanted old new
+none_of queue act later earlier wanted old new split none = record {
+  missing = later ++ ask queue act ∷ [];
+  made = earlier;
+  split = split ∙ sym (append_assoc later (ask queue act ∷ []) earlier);
+  asked = inl none;
+}
+
+one_of : (queue : LogQueue) (act : Act) (later earlier wanted old new : List Ask) → wanted ≡ later ++ ask queue act ∷ earlier → new ≡ ask queue act ∷ (earlier ++ old) → AreAskedInPart wanted old new
+one_of queue act later earlier wanted old new split one = record { missing = later; made = ask queue act ∷ earlier; split = split; asked = inl one }
+
+part_of : (queue : LogQueue) (act : Act) (later earlier wanted old new : List Ask) → wanted ≡ later ++ ask queue act ∷ earlier → MayBeAsked (ask queue (failed_act act)) (earlier ++ old) new → AreAskedInPart wanted old new
+part_of queue act later earlier wanted old new split (inl none) = none_of queue act later earlier wanted old new split none
+part_of queue Sync later earlier wanted old new split (inr one) = record {
+  missing = later ++ ask queue Sync ∷ [];
+  made = earlier;
+  split = split ∙ sym (append_assoc later (ask queue Sync ∷ []) earlier);
+  asked = inr (record { later = later; queue = queue; next = refl; noted = one });
+}
+part_of queue (Put bytes) later earlier wanted old new split (inr one) = one_of queue (Put bytes) later earlier wanted old new split one
+part_of queue (Begin seq) later earlier wanted old new split (inr one) = one_of queue (Begin seq) later earlier wanted old new split one
+part_of queue Unsynced later earlier wanted old new split (inr one) = one_of queue Unsynced later earlier wanted old new split one
+part_of queue Delete later earlier wanted old new split (inr one) = one_of queue Delete later earlier wanted old new split one
+part_of queue (Cut len) later earlier wanted old new split (inr one) = one_of queue (Cut len) later earlier wanted old new split one
+part_of queue (Found files) later earlier wanted old new split (inr one) = one_of queue (Found files) later earlier wanted old new split one
+part_of queue (Read place bytes) later earlier wanted old new split (inr one) = one_of queue (Read place bytes) later earlier wanted old new split one
+
+-- more that is missing behind what is
+pub more_missing : (more missing between new : List Ask) → AreMissing missing between new → AreMissing (more ++ missing) between new
+more_missing more missing between new (inl e) = inl e
+more_missing more missing between new (inr u) = inr (record {
+  later = more ++ u.later;
+  queue = u.queue;
+  next = ap (λ (l : List Ask). more ++ l) u.next ∙ sym (append_assoc more u.later (ask u.queue Sync ∷ []));
+  noted = u.noted;
+})
+
+-- a sync is missing, and may have failed
+pub sync_missing : (queue : LogQueue) (later between new : List Ask) → MayBeAsked (ask queue Unsynced) between new → AreMissing (later ++ ask queue Sync ∷ []) between new
+sync_missing queue later between new (inl none) = inl none
+sync_missing queue later between new (inr one) = inr (record { later = later; queue = queue; next = refl; noted = one })
+
 module _ (MayFail : Failures) where
   pub asked_part : (wanted old new : List Ask) (e : Error) → FailsAmong MayFail wanted old new e → AreAskedInPart wanted old new
-  asked_part wanted old new e f = elim f.asked [
-    | inl none ↦ record { missing = f.later ++ f.failed ∷ []; made = f.earlier; split = f.split ∙ sym (append_assoc f.later (f.failed ∷ []) f.earlier); asked = none }
-    | inr one ↦ record { missing = f.later; made = f.failed ∷ f.earlier; split = f.split; asked = one }
-  ]
+  asked_part wanted old new e f = part_of f.failed.queue f.failed.act f.later f.earlier wanted old new f.split f.asked
 
   -- ---- one ask
 
-  pub one_failed : (a : Ask) (old new : List Ask) (e : Error) → MayBeAsked a old new → MayFail old a e → FailsAmong MayFail (a ∷ []) old new e
+  pub one_failed : (a : Ask) (old new : List Ask) (e : Error) → MayBeAsked (failed_ask a) old new → MayFail old a e → FailsAmong MayFail (a ∷ []) old new e
   one_failed a old new e may why = record { later = []; failed = a; earlier = []; split = refl; asked = may; why = why }
 
-  one_so : {T : Type 0} (r : Result T Error) (a : Ask) (old new : List Ask) → OnErr r (MayBeAsked a old new) → IfErr r (MayFail old a) → IfErr r (FailsAmong MayFail (a ∷ []) old new)
+  one_so : {T : Type 0} (r : Result T Error) (a : Ask) (old new : List Ask) → OnErr r (MayBeAsked (failed_ask a) old new) → IfErr r (MayFail old a) → IfErr r (FailsAmong MayFail (a ∷ []) old new)
   one_so (Ok t) a old new may why = tt
   one_so (Err e) a old new may why = one_failed a old new e may why
 
@@ -80,7 +125,7 @@ module _ (MayFail : Failures) where
         failed = f.failed;
         earlier = f.earlier ++ first;
         split = ap (λ (l : List Ask). l ++ first) f.split ∙ append_assoc f.later (f.failed ∷ f.earlier) first;
-        asked = subst (λ (l : List Ask). MayBeAsked f.failed l new) same f.asked;
+        asked = subst (λ (l : List Ask). MayBeAsked (failed_ask f.failed) l new) same f.asked;
         why = subst (λ (l : List Ask). MayFail l f.failed e) same f.why;
       }
 
@@ -103,13 +148,15 @@ module _ (MayFail : Failures) where
       → a ≡ ask Rewrite (Put (bytes_for (record { id = record { queue = Rewrite; seq = seq }; version = version }) told))
       → MayBeAsked a old new → MayFail old a e → FailsAmong MayFail (asks_that_tell version seq told told.items) old new e
   put_failed version seq told old new a e some is may why =
-      subst (λ (l : List Ask). FailsAmong MayFail l old new e) (ap (λ (x : Ask). ask Rewrite Sync ∷ x ∷ []) is ∙ sym (some_tell version seq told told.items some))
-      (part_failed MayFail (ask Rewrite Sync ∷ []) (a ∷ []) old new e (one_failed MayFail a old new e may why))
+      let put : Ask = ask Rewrite (Put (bytes_for (record { id = record { queue = Rewrite; seq = seq }; version = version }) told)) in
+      subst (λ (l : List Ask). FailsAmong MayFail l old new e) (sym (some_tell version seq told told.items some))
+      (part_failed MayFail (ask Rewrite Sync ∷ []) (put ∷ []) old new e
+      (one_failed MayFail put old new e (subst (λ (x : Ask). MayBeAsked x old new) is may) (subst (λ (x : Ask). MayFail old x e) is why)))
 
   -- the sync that follows it, in any case
   pub told_so : (r : Result Unit Error) (version : Version) (seq : ℕ) (told : Batch) (old between new : List Ask) → told.items ≢ []
       → between ≡ ask Rewrite (Put (bytes_for (record { id = record { queue = Rewrite; seq = seq }; version = version }) told)) ∷ old
-      → OnOk r (new ≡ ask Rewrite Sync ∷ between) → OnErr r (new ≡ between) → IfErr r (MayFail between (ask Rewrite Sync))
+      → OnOk r (new ≡ ask Rewrite Sync ∷ between) → OnErr r (MayBeAsked (ask Rewrite Unsynced) between new) → IfErr r (MayFail between (ask Rewrite Sync))
       → OnOk r (new ≡ asks_that_tell version seq told told.items ++ old) × IfErr r (FailsAmong MayFail (asks_that_tell version seq told told.items) old new)
   told_so (Ok u) version seq told old between new some put all none why =
       (all ∙ ap (λ (l : List Ask). ask Rewrite Sync ∷ l) put ∙ ap (λ (l : List Ask). l ++ old) (sym (some_tell version seq told told.items some)), tt)
@@ -121,7 +168,7 @@ module _ (MayFail : Failures) where
           failed = ask Rewrite Sync;
           earlier = ask Rewrite (Put (bytes_for (record { id = record { queue = Rewrite; seq = seq }; version = version }) told)) ∷ [];
           split = refl;
-          asked = inl (none ∙ put);
+          asked = subst (λ (l : List Ask). MayBeAsked (ask Rewrite Unsynced) l new) put none;
           why = subst (λ (l : List Ask). MayFail l (ask Rewrite Sync) e) put why;
         }),
   )

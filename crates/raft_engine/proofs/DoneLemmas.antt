@@ -10,7 +10,7 @@ use Rattle.raft_records.specs.LogBatch.{Batch, log_batch_bytes}
 use Rattle.raft_history.specs.Batches.{Event}
 use Rattle.raft_history.specs.Histories.{HaveStatus}
 use Rattle.raft_files.specs.Asks as asks
-use Rattle.raft_files.specs.Asks.{Act, Begin, NumberedBytes, Put, Sync}
+use Rattle.raft_files.specs.Asks.{Act, Begin, NumberedBytes, Put, Sync, Unsynced}
 use Rattle.raft_files.specs.Disk.{begun, deletions}
 use Rattle.raft_replay.specs.WrittenParts.{written_event}
 use Rattle.raft_recover.specs.Files.{whole_file}
@@ -24,7 +24,7 @@ use Rattle.raft_engine.specs.Stored.{AreAllDone}
 use Rattle.raft_engine.specs.StoredAsks.{IsWritableBatch}
 use Rattle.raft_engine.proofs.LastingLemmas.{all_synced, synced_prefix}
 use Rattle.raft_engine.proofs.SealedLemmas.{put_is_sound}
-use Rattle.raft_engine.proofs.WellPutLemmas.{begin_well, delete_well, none_well, put_well, sync_well}
+use Rattle.raft_engine.proofs.WellPutLemmas.{begin_well, delete_well, none_well, put_well, sync_well, unsynced_well}
 
 -- ---- what is synced
 
@@ -77,6 +77,15 @@ sync_done done put queue version acts deeds a = record {
   done = done queue version acts deeds a.done;
   put = record { put = put queue version acts (queue_deeds.synced deeds) (written deeds) a.put.put; whole = a.put.whole };
   well = sync_well queue version acts a.well;
+}
+
+-- one that failed
+pub unsynced_done : ((queue : LogQueue) (version : Version) (acts : List Act) (deeds : List Deed) → AreDoneWhole queue version acts deeds → AreDoneWhole queue version (Unsynced ∷ acts) deeds)
+    → (queue : LogQueue) (version : Version) (acts : List Act) (deeds : List Deed) → AreAllDone queue version acts deeds → AreAllDone queue version (Unsynced ∷ acts) deeds
+unsynced_done done queue version acts deeds a = record {
+  done = done queue version acts deeds a.done;
+  put = record { put = a.put.put; whole = a.put.whole };
+  well = unsynced_well queue version acts a.well;
 }
 
 -- ---- a new file

@@ -6,14 +6,14 @@ use Rattle.raft_base.specs.declared.pipe_log.LogQueue.{LogQueue}
 use Rattle.raft_base.specs.declared.pipe_log.LogQueue.TheVariants.{Append, Rewrite}
 use Rattle.raft_records.specs.Item.{Item}
 use Rattle.raft_records.specs.LogBatch.{Batch, encoded}
-use Rattle.raft_files.specs.Asks.{Ask, Delete, MayBeAsked, Put, Sync, ask}
+use Rattle.raft_files.specs.Asks.{Ask, Delete, MayBeAsked, Put, Sync, Unsynced, ask, failed_ask}
 use Rattle.raft_engine.specs.BatchBytes.{bytes_for}
 use Rattle.raft_engine.specs.Faults.{Breaks, IsPurgeFault, IsSyncFault, IsTellingFault, IsWritingFault, telling_asks}
 use Rattle.raft_engine.specs.KeptEngine.{IsLastFile, KeptEngine}
 use Rattle.raft_engine.specs.Moved.{IsTold}
 use Rattle.raft_engine.specs.OpeningAsks.{Failures, FailsAmong}
 use Rattle.raft_engine.specs.Purged.{AreExpired, asks_of_items, delete_asks, put_asks}
-use Rattle.raft_engine.specs.WrittenBatch.{file_of, synced_if}
+use Rattle.raft_engine.specs.WrittenBatch.{IsUnsynced, file_of, synced_if}
 use Rattle.raft_engine.proofs.AskedLemmas.{more_failed, one_failed, part_failed}
 
 -- a batch that has items is put
@@ -58,11 +58,11 @@ module _ (MayFail : Failures) where
   -- ---- two asks
 
   -- the first of two
-  pub first_of_two : (b a : Ask) (old new : List Ask) (e : Error) → new ≡ old → MayFail old a e → FailsAmong MayFail (b ∷ a ∷ []) old new e
-  first_of_two b a old new e none why = record { later = b ∷ []; failed = a; earlier = []; split = refl; asked = inl none; why = why }
+  pub first_of_two : (b a : Ask) (old new : List Ask) (e : Error) → MayBeAsked (failed_ask a) old new → MayFail old a e → FailsAmong MayFail (b ∷ a ∷ []) old new e
+  first_of_two b a old new e may why = record { later = b ∷ []; failed = a; earlier = []; split = refl; asked = may; why = why }
 
   -- the second one
-  pub second_of_two : (b a : Ask) (old half new : List Ask) (e : Error) → half ≡ a ∷ old → MayBeAsked b half new → MayFail half b e → FailsAmong MayFail (b ∷ a ∷ []) old new e
+  pub second_of_two : (b a : Ask) (old half new : List Ask) (e : Error) → half ≡ a ∷ old → MayBeAsked (failed_ask b) half new → MayFail half b e → FailsAmong MayFail (b ∷ a ∷ []) old new e
   second_of_two b a old half new e is may why = more_failed MayFail (b ∷ []) (a ∷ []) old half new e is (one_failed MayFail b half new e may why)
 
   -- ---- a batch
@@ -92,15 +92,15 @@ module _ (MayFail : Failures) where
 
   -- ---- a sync that may be wanted
 
-  pub sync_so : {T : Type 0} (r : Result T Error) (sync : Bool) (old new : List Ask) → sync ≡ true → OnErr r (new ≡ old) → IfErr r (MayFail old (ask Append Sync)) → IfErr r (FailsAmong MayFail (synced_if sync []) old new)
+  pub sync_so : {T : Type 0} (r : Result T Error) (sync : Bool) (old new : List Ask) → sync ≡ true → OnErr r (MayBeAsked (ask Append Unsynced) old new) → IfErr r (MayFail old (ask Append Sync)) → IfErr r (FailsAmong MayFail (synced_if sync []) old new)
   sync_so (Ok u) sync old new is none why = tt
-  sync_so (Err e) sync old new is none why = subst (λ (s : Bool). FailsAmong MayFail (synced_if s []) old new e) (sym is) (one_failed MayFail (ask Append Sync) old new e (inl none) why)
+  sync_so (Err e) sync old new is may why = subst (λ (s : Bool). FailsAmong MayFail (synced_if s []) old new e) (sym is) (one_failed MayFail (ask Append Sync) old new e may why)
 
   -- an error of a sync that was wanted, of an intact engine
-  pub wanted_sync : (sync : Bool) (old new : KeptEngine) (e : Error) → old.intact ≡ true → new.asks ≡ old.asks → (sync ≡ true) × IsSyncFault MayFail old e → FailsAmong MayFail (synced_if sync []) old.asks new.asks e
-  wanted_sync sync old new e intact none f = subst (λ (s : Bool). FailsAmong MayFail (synced_if s []) old.asks new.asks e) (sym f.0) (elim f.1 [
+  pub wanted_sync : (sync : Bool) (old new : KeptEngine) (e : Error) → old.intact ≡ true → MayBeAsked (ask Append Unsynced) old.asks new.asks → (sync ≡ true) × IsSyncFault MayFail old e → FailsAmong MayFail (synced_if sync []) old.asks new.asks e
+  wanted_sync sync old new e intact may f = subst (λ (s : Bool). FailsAmong MayFail (synced_if s []) old.asks new.asks e) (sym f.0) (elim f.1 [
     | inl failed ↦ absurd (never (sym intact ∙ failed.0))
-    | inr of_files ↦ one_failed MayFail (ask Append Sync) old.asks new.asks e (inl none) of_files.1
+    | inr of_files ↦ one_failed MayFail (ask Append Sync) old.asks new.asks e may of_files.1
   ])
     where
       never : true ≡ false → ⊥
@@ -164,8 +164,8 @@ module _ (MayFail : Failures) where
         }
 
   -- the sync before the deletions, or one of them
-  pub sync_before : (queue : LogQueue) (count : ℕ) (old new : List Ask) (e : Error) → new ≡ old → MayFail old (ask Rewrite Sync) e → FailsAmong MayFail (delete_asks queue count ++ ask Rewrite Sync ∷ []) old new e
-  sync_before queue count old new e none why = part_failed MayFail (delete_asks queue count) (ask Rewrite Sync ∷ []) old new e (one_failed MayFail (ask Rewrite Sync) old new e (inl none) why)
+  pub sync_before : (queue : LogQueue) (count : ℕ) (old new : List Ask) (e : Error) → MayBeAsked (ask Rewrite Unsynced) old new → MayFail old (ask Rewrite Sync) e → FailsAmong MayFail (delete_asks queue count ++ ask Rewrite Sync ∷ []) old new e
+  sync_before queue count old new e may why = part_failed MayFail (delete_asks queue count) (ask Rewrite Sync ∷ []) old new e (one_failed MayFail (ask Rewrite Sync) old new e may why)
 
   pub deletion_behind : (queue : LogQueue) (count : ℕ) (old half new : List Ask) (e : Error) → half ≡ ask Rewrite Sync ∷ old → FailsAmong MayFail (delete_asks queue count) half new e
       → FailsAmong MayFail (delete_asks queue count ++ ask Rewrite Sync ∷ []) old new e
@@ -195,11 +195,11 @@ module _ (MayFail : Failures) where
 
   -- an error of the sync that is wanted, where nothing is put
   pub writing_of_none : {T : Type 0} (r : Result T Error) (sync : Bool) (batch : Batch) (old new : KeptEngine) (seq : ℕ) (bytes : List ℕ) → IsLastFile Append old.asks seq bytes → old.intact ≡ true → batch.items ≡ []
-      → OnErr r (new ≡ record old { intact = false }) → IfErr r (λ e. (sync ≡ true) × IsSyncFault MayFail old e) → IfErr r (λ e. Breaks old new → IsWritingFault MayFail sync batch old new e)
+      → OnErr r (IsUnsynced old new) → IfErr r (λ e. (sync ≡ true) × IsSyncFault MayFail old e) → IfErr r (λ e. Breaks old new → IsWritingFault MayFail sync batch old new e)
   writing_of_none (Ok t) sync batch old new seq bytes last intact none is f = tt
   writing_of_none (Err e) sync batch old new seq bytes last intact none is f = λ broken. record {
     seq = seq;
     bytes = bytes;
     last = last;
-    why = inl (writing_none (file_of Append old seq) batch sync old.asks new.asks e none (wanted_sync sync old new e intact (ap (λ (o : KeptEngine). o.asks) is) f));
+    why = inl (writing_none (file_of Append old seq) batch sync old.asks new.asks e none (wanted_sync sync old new e intact is.asked f));
   }

@@ -19,7 +19,7 @@ use Rattle.raft_history.specs.RegionSteps.{Tables}
 use Rattle.raft_table.specs.Table.{Table}
 use Rattle.raft_accessor.specs.Accessor.{Accessor}
 use Rattle.raft_accessor.specs.Writes.{AreWritten, Rewriting}
-use Rattle.raft_files.specs.Asks.{Ask, Put, acts_on, ask}
+use Rattle.raft_files.specs.Asks.{Ask, NoSyncFailed, Put, acts_on, ask}
 use Rattle.raft_files.specs.Disk.{begun, deletions}
 use Rattle.raft_engine_laws.specs.Crashes as queue_deeds
 use Rattle.raft_engine.specs.BatchBytes.{bytes_for, placed_at}
@@ -43,6 +43,7 @@ use Rattle.raft_engine.proofs.GroupReadBack.{puts_append}
 use Rattle.raft_engine.proofs.KeptMoves.{kept_read, read_last, read_synced}
 use Rattle.raft_engine.proofs.PartLemmas.{parts_only}
 use Rattle.raft_engine.proofs.ReadBackLemmas.{none_before}
+use Rattle.raft_engine.proofs.TrustLemmas.{puts_unfailed, unfailed_trusted}
 
 -- ---- batches of a group, as they are made
 
@@ -199,6 +200,9 @@ module _ (read : ReadsAreStored) (version : Version) (asks : List Ask) (append r
       between_kept : IsKeptBy version between append rewrite untold accessor intact
       between_kept = kept_read read version asks append rewrite untold accessor intact k between group_reads
 
+      between_unfailed : NoSyncFailed between
+      between_unfailed = (between_kept.whole is_intact).unfailed
+
       nothing : between_kept.untold ≡ []
       nothing = sym (ap (λ (b : Batch). b.items) (between_kept.whole is_intact).are_untold) ∙ none
 
@@ -223,6 +227,7 @@ module _ (read : ReadsAreStored) (version : Version) (asks : List Ask) (append r
         untold = [];
         tables = stored.put.0;
         stored = subst (λ (l : List Ask). AreKeptStored version l between_kept.base [] stored.put.0) (sym e) stored.put.1;
+        trusted = unfailed_trusted new (subst NoSyncFailed (sym e) (puts_unfailed file batches between between_unfailed));
         whole = λ no. absurd cc;
       }
 
@@ -236,6 +241,7 @@ module _ (read : ReadsAreStored) (version : Version) (asks : List Ask) (append r
           untold = [];
           tables = accessor.tables;
           stored = subst (λ (l : List Ask). AreKeptStored version l between_kept.base [] accessor.tables) (sym f.asked) (stored.begun f.count less);
+          trusted = unfailed_trusted new (subst NoSyncFailed (sym f.asked) (puts_unfailed file (take f.count batches) between between_unfailed));
           whole = λ no. absurd cc;
         }
       ]
@@ -250,6 +256,7 @@ module _ (read : ReadsAreStored) (version : Version) (asks : List Ask) (append r
           untold = [];
           tables = accessor'.tables;
           stored = subst (λ (l : List Ask). AreKeptStored version l between_kept.base [] accessor'.tables) (sym is_new) (stored.moved accessor'.tables applied.tables);
+          trusted = unfailed_trusted new (subst NoSyncFailed (sym is_new) (puts_unfailed file batches between between_unfailed));
           whole = λ i. record {
             are_tables = refl;
             are_untold = (between_kept.whole is_intact).are_untold ∙ ap (λ (items : List Item). record empty_batch { items = items }) nothing;
@@ -258,6 +265,7 @@ module _ (read : ReadsAreStored) (version : Version) (asks : List Ask) (append r
                 (files_same Append between (puts_asks file batches between) append append (ap begun (puts_append version rewrite.seq batches between)) (ap deletions (puts_append version rewrite.seq batches between))
                 refl refl refl (between_kept.whole is_intact).append_files);
             rewrite_files = subst (λ (l : List Ask). AreFilesOf Rewrite l rewrite') (sym is_new) (files_puts version batches between rewrite rewrite' closed seq len (between_kept.whole is_intact).rewrite_files);
+            unfailed = subst NoSyncFailed (sym is_new) (puts_unfailed file batches between between_unfailed);
             read_back = λ found.
                 let more = puts_more file batches between in
                 let before = (between_kept.whole is_intact).read_back (none_before Rewrite version more.0 between (subst (NoneFound Rewrite version) (is_new ∙ more.1) found)) in

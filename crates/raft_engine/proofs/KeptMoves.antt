@@ -18,7 +18,7 @@ use Rattle.raft_table.specs.Table.{Table}
 use Rattle.raft_table.specs.TableEntries.{AreTableEntries}
 use Rattle.raft_accessor.specs.Accessor.{Accessor}
 use Rattle.raft_accessor.specs.Writes.{AreWritten, Rewriting, after_items}
-use Rattle.raft_files.specs.Asks.{Ask, MayBeAsked, Put, Read, acts_on, ask}
+use Rattle.raft_files.specs.Asks.{Ask, MayBeAsked, NoSyncFailed, Put, Read, acts_on, ask}
 use Rattle.raft_files.specs.Disk.{begun, deletions}
 use Rattle.raft_engine_laws.specs.Crashes as queue_deeds
 use Rattle.raft_engine.specs.BatchBytes.{bytes_for, placed_at}
@@ -40,6 +40,7 @@ use Rattle.raft_engine.proofs.DrainLemmas.{none_first}
 use Rattle.raft_engine.proofs.FilesLemmas.{files_last, files_same, files_told}
 use Rattle.raft_engine.proofs.ReadBackLemmas.{none_before, same_read_back}
 use Rattle.raft_engine.proofs.ReadKept.{none_read, read_only}
+use Rattle.raft_engine.proofs.TrustLemmas.{reads_trusted, reads_unfailed, unfailed_trusted}
 
 -- ---- reads
 
@@ -114,12 +115,14 @@ module _ (read : ReadsAreStored) (version : Version) (asks : List Ask) (append r
     untold = k.untold;
     tables = k.tables;
     stored = subst (λ (l : List Ask). AreKeptStored version l k.base k.untold k.tables) (sym r.asked) (reads_stored read version k.base k.untold k.tables r.reads asks r.only k.stored);
+    trusted = reads_trusted asks new r k.trusted;
     whole = λ i. let w = k.whole i in record {
       are_tables = w.are_tables;
       are_untold = w.are_untold;
       take_away = w.take_away;
       append_files = read_files Append asks new append r w.append_files;
       rewrite_files = read_files Rewrite asks new rewrite r w.rewrite_files;
+      unfailed = reads_unfailed asks new r w.unfailed;
       read_back = reads_read_back version asks new accessor r w.read_back;
     };
   }
@@ -160,6 +163,9 @@ module _ (read : ReadsAreStored) (version : Version) (asks : List Ask) (append r
 
     between_kept : IsKeptBy version between append rewrite untold accessor intact
     between_kept = kept_read between reads
+
+    between_unfailed : NoSyncFailed between
+    between_unfailed = (between_kept.whole is_intact).unfailed
 
     stored_between : AreKeptStored version between k.base [] accessor.tables
     stored_between =
@@ -221,6 +227,7 @@ module _ (read : ReadsAreStored) (version : Version) (asks : List Ask) (append r
             untold = [];
             tables = stored.0;
             stored = subst (λ (l : List Ask). AreKeptStored version l k.base [] stored.0) (sym e) stored.1;
+            trusted = unfailed_trusted new (subst NoSyncFailed (sym e) (tt, between_unfailed));
             whole = λ no. absurd cc;
           }
 
@@ -232,6 +239,7 @@ module _ (read : ReadsAreStored) (version : Version) (asks : List Ask) (append r
         untold = [];
         tables = accessor.tables;
         stored = subst (λ (l : List Ask). AreKeptStored version l k.base [] accessor.tables) (sym e) stored_between;
+        trusted = unfailed_trusted new (subst NoSyncFailed (sym e) between_unfailed);
         whole = λ no. absurd cc;
       }
       may_broken put new append' rewrite' untold' accessor' (inr e) = put_broken put new append' rewrite' untold' accessor' e
@@ -261,6 +269,7 @@ module _ (read : ReadsAreStored) (version : Version) (asks : List Ask) (append r
           untold = [];
           tables = accessor'.tables;
           stored = subst (λ (l : List Ask). AreKeptStored version l k.base [] accessor'.tables) (sym is_new) (stored_put accessor'.tables applied.tables);
+          trusted = unfailed_trusted new (subst NoSyncFailed (sym is_new) (tt, between_unfailed));
           whole = λ i. record {
             are_tables = refl;
             are_untold = (k.whole is_intact).are_untold ∙ ap (λ (items : List Item). record empty_batch { items = items }) nothing;
@@ -271,6 +280,7 @@ module _ (read : ReadsAreStored) (version : Version) (asks : List Ask) (append r
                 (files_told between (bytes_for file batch) rewrite rewrite' closed seq
                 (is ∙ ap (λ (n : ℕ). rewrite.len + n) (is_len ∙ sym (log_batch_length (signature_in version rewrite.seq) batch.items batch.entry_bytes)))
                 (between_kept.whole is_intact).rewrite_files);
+            unfailed = subst NoSyncFailed (sym is_new) (tt, between_unfailed);
             read_back = λ none.
                 let back = (between_kept.whole is_intact).read_back (none_before Rewrite version (ask Rewrite (Put (bytes_for file batch)) ∷ []) between (subst (NoneFound Rewrite version) is_new none)) in
                 subst (λ (l : List Ask). IsReadBack version l accessor') (sym is_new)

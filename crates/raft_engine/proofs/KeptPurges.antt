@@ -12,7 +12,7 @@ use Rattle.raft_records.specs.Item.{Item}
 use Rattle.raft_records.specs.LogBatch.{Batch, empty_batch, encoded, encoded_length}
 use Rattle.raft_history.specs.RegionSteps.{Tables}
 use Rattle.raft_accessor.specs.Accessor.{Accessor}
-use Rattle.raft_files.specs.Asks.{Ask, Sync, acts_on, ask}
+use Rattle.raft_files.specs.Asks.{Ask, MayBeAsked, NoSyncFailed, Sync, Unsynced, acts_on, ask}
 use Rattle.raft_files.specs.Disk.{begun, deletions}
 use Rattle.raft_engine_prefixes.specs.Done.{AreRisingFrom, numbers}
 use Rattle.raft_engine_laws.specs.Telling.{TakeAway}
@@ -27,11 +27,13 @@ use Rattle.raft_engine.specs.QueueFilesOf.{IsQueueShorterBy, files_known}
 use Rattle.raft_engine.specs.ReadBack.{IsReadBackAlone}
 use Rattle.raft_engine.specs.Stored.{AreKeptStored, Bases}
 use Rattle.raft_engine.specs.StoredAsks.{DeletionsAreStored, IsWritableBatch, SyncsAreStored, ToldBatchesAreStored}
-use Rattle.raft_engine.specs.WrittenBatch.{IsHalfDone, file_of}
+use Rattle.raft_engine.specs.WrittenBatch.{AreMissing, IsHalfDone, file_of}
 use Rattle.raft_engine.specs.declared.queue_files.QueueFiles.{QueueFiles}
 use Rattle.raft_engine.proofs.FilesLemmas.{files_same, files_told}
 use Rattle.raft_engine.proofs.ReadBackLemmas.{append_deletes_begun, rewrite_deletes_begun, same_read_back}
 use Rattle.raft_engine.proofs.PurgeLemmas.{all_deleted, append_deletes_others, are_expired, closed_expired, closed_few, delete_fewer, few_expired, files_deleted, rewrite_deletes_others, take_fewer}
+use Rattle.raft_engine.proofs.AskedLemmas.{more_missing, sync_missing}
+use Rattle.raft_engine.proofs.TrustLemmas.{delete_unfailed, unfailed_trusted}
 
 -- a file of the rewrite queue
 abbrev pub rewrite_file : Version → ℕ → LogFileContext
@@ -134,7 +136,7 @@ module _ (queue : LogQueue) (count : ℕ) (old : KeptEngine) (expired : AreExpir
       missing = rest ++ half.missing;
       made = half.made;
       split = ap (λ (l : List Ask). rest ++ l) half.split ∙ sym (append_assoc rest half.missing half.made);
-      asked = half.asked;
+      asked = more_missing rest half.missing (half.made ++ old.asks) new.asks half.asked;
     };
     tables = h.half.tables;
   }))
@@ -153,7 +155,7 @@ module _ (queue : LogQueue) (count : ℕ) (old : KeptEngine) (expired : AreExpir
         missing = half.missing;
         made = half.made ++ telling t.seq;
         split = ap (λ (l : List Ask). l ++ telling t.seq) half.split ∙ append_assoc half.missing half.made (telling t.seq);
-        asked = half.asked ∙ ap (λ (l : List Ask). half.made ++ l) told_asks ∙ sym (append_assoc half.made (telling t.seq) old.asks);
+        asked = subst (λ (l : List Ask). AreMissing half.missing l new.asks) (ap (λ (l : List Ask). half.made ++ l) told_asks ∙ sym (append_assoc half.made (telling t.seq) old.asks)) half.asked;
       };
       tables = h.tables ∙ ap (λ (o : KeptEngine). o.accessor) t.told;
     })
@@ -226,6 +228,9 @@ module _
   pub few : count ≤ length files.closed.items
   few = few_expired queue engine files its_files count x
 
+  one_unfailed : NoSyncFailed one
+  one_unfailed = (tt, (k.whole ready.intact).unfailed)
+
   nothing : k.untold ≡ []
   nothing = sym (ap (λ (b : Batch). b.items) (k.whole ready.intact).are_untold) ∙ ready.told
 
@@ -247,12 +252,12 @@ module _
 
   -- ---- where it fails
 
-  half_deleted : (new missing made : List Ask) → delete_asks queue count ++ (ask Rewrite Sync ∷ []) ≡ missing ++ made → new ≡ made ++ asks → AreHalfDeleted queue count engine (record engine { asks = new; intact = false })
+  half_deleted : (new missing made : List Ask) → delete_asks queue count ++ (ask Rewrite Sync ∷ []) ≡ missing ++ made → AreMissing missing (made ++ asks) new → AreHalfDeleted queue count engine (record engine { asks = new; intact = false })
   half_deleted new missing made split asked = record { half = record { was = ready.intact; is = refl; same = refl; missing = missing; made = made; split = split; asked = asked }; tables = refl }
 
-  -- not even the sync was asked
-  pub none_half : (new : List Ask) → new ≡ asks → AreHalfDeleted queue count engine (record engine { asks = new; intact = false })
-  none_half new e = half_deleted new (delete_asks queue count ++ (ask Rewrite Sync ∷ [])) [] (sym (append-nil _)) e
+  -- not even the sync was asked, or it failed
+  pub none_half : (new : List Ask) → MayBeAsked (ask Rewrite Unsynced) asks new → AreHalfDeleted queue count engine (record engine { asks = new; intact = false })
+  none_half new may = half_deleted new (delete_asks queue count ++ (ask Rewrite Sync ∷ [])) [] (sym (append-nil _)) (sync_missing Rewrite (delete_asks queue count) asks new may)
 
   module _ (first : List Ask) (is_first : first ≡ one) where
     -- some files were deleted
@@ -262,6 +267,7 @@ module _
       untold = [];
       tables = k.tables;
       stored = subst (λ (l : List Ask). AreKeptStored version l k.base [] k.tables) (sym (d.asked ∙ ap (λ (l : List Ask). delete_asks queue d.made ++ l) is_first)) (stored_deleted d.made d.at_most);
+      trusted = unfailed_trusted new (subst NoSyncFailed (sym (d.asked ∙ ap (λ (l : List Ask). delete_asks queue d.made ++ l) is_first)) (delete_unfailed queue d.made one one_unfailed));
       whole = λ no. absurd cc;
     }
 
@@ -270,7 +276,7 @@ module _
         let last : List Ask = ask Rewrite Sync ∷ [] in
         half_deleted new (delete_asks queue (count - d.made)) (delete_asks queue d.made ++ last)
         (ap (λ (l : List Ask). l ++ last) (delete_fewer queue d.made count d.at_most) ∙ append_assoc (delete_asks queue (count - d.made)) (delete_asks queue d.made) last)
-        (d.asked ∙ ap (λ (l : List Ask). delete_asks queue d.made ++ l) is_first ∙ sym (append_assoc (delete_asks queue d.made) last asks))
+        (inl (d.asked ∙ ap (λ (l : List Ask). delete_asks queue d.made ++ l) is_first ∙ sym (append_assoc (delete_asks queue d.made) last asks)))
 
     -- ---- where it succeeds
 
@@ -288,12 +294,14 @@ module _
             untold = [];
             tables = k.tables;
             stored = subst (λ (m : List Ask). AreKeptStored version m k.base [] k.tables) (sym are_new) (stored_deleted count (omega arith));
+            trusted = unfailed_trusted new (subst NoSyncFailed (sym are_new) (delete_unfailed queue count one one_unfailed));
             whole = λ i. record {
               are_tables = w.are_tables;
               are_untold = w.are_untold ∙ ap (λ (items : List Item). record empty_batch { items = items }) nothing;
               take_away = tt;
               append_files = subst (λ (m : List Ask). AreFilesOf Append m append') (sym are_new) left.0;
               rewrite_files = subst (λ (m : List Ask). AreFilesOf Rewrite m rewrite') (sym are_new) left.1;
+              unfailed = subst NoSyncFailed (sym are_new) (delete_unfailed queue count one one_unfailed);
               read_back = subst (λ (m : List Ask). IsReadBackAlone version m accessor) (sym are_new)
                   (same_read_back version one (delete_asks queue count) accessor (deletes_begun queue Append count one) (deletes_begun queue Rewrite count one)
                   (same_read_back version asks (ask Rewrite Sync ∷ []) accessor refl refl w.read_back));

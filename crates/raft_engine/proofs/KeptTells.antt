@@ -6,7 +6,8 @@ use Rattle.raft_base.specs.declared.pipe_log.Version.{Version}
 use Rattle.raft_records.specs.Item.{Item}
 use Rattle.raft_records.specs.LogBatch.{Batch, empty_batch, encoded, encoded_length}
 use Rattle.raft_accessor.specs.Accessor.{Accessor}
-use Rattle.raft_files.specs.Asks.{Ask, Sync, ask}
+use Rattle.raft_files.specs.Asks.{Ask, MayBeAsked, NoSyncFailed, Sync, Unsynced, ask}
+use Rattle.raft_engine.specs.WrittenBatch.{AreMissing}
 use Rattle.raft_files.specs.Disk.{begun, deletions}
 use Rattle.raft_engine_laws.specs.Telling.{TakeAway}
 use Rattle.raft_engine.specs.KeptEngine.{IsLastFile, KeptEngine}
@@ -20,6 +21,8 @@ use Rattle.raft_engine.proofs.FilesLemmas.{files_last, files_same}
 use Rattle.raft_engine.specs.ReadBack.{IsReadBackAlone}
 use Rattle.raft_engine.proofs.ReadBackLemmas.{same_read_back, told_read_back}
 use Rattle.raft_engine.proofs.KeptPurges.{items_made, items_others, rewrite_file, told_files, told_stored}
+use Rattle.raft_engine.proofs.AskedLemmas.{sync_missing}
+use Rattle.raft_engine.proofs.TrustLemmas.{put_unfailed, unfailed_trusted}
 
 module _
     (synced : SyncsAreStored) (told : ToldBatchesAreStored)
@@ -52,10 +55,17 @@ module _
       told_stored told version one k.base k.tables rewrite.seq _ untold tt (record { closed = its_last.closed; files = its_last.files }) writable
       (subst TakeAway (sym same_items) (k.whole is_intact).take_away) stored_one
 
-  broken : (new : List Ask) (append' rewrite' : QueueFiles) (untold' : Batch) (accessor' : Accessor) (items : List Item) → AreKeptStored version new k.base items k.tables → IsKeptBy version new append' rewrite' untold' accessor' false
-  broken new append' rewrite' untold' accessor' items s = record { base = k.base; untold = items; tables = k.tables; stored = s; whole = λ no. absurd cc }
+  broken : (new : List Ask) (append' rewrite' : QueueFiles) (untold' : Batch) (accessor' : Accessor) (items : List Item) → AreKeptStored version new k.base items k.tables → NoSyncFailed new
+      → IsKeptBy version new append' rewrite' untold' accessor' false
+  broken new append' rewrite' untold' accessor' items s none = record { base = k.base; untold = items; tables = k.tables; stored = s; trusted = unfailed_trusted new none; whole = λ no. absurd cc }
 
-  half_by : (new : List Ask) (untold' : Batch) (missing made : List Ask) → put_asks file untold ++ ask Append Sync ∷ [] ≡ missing ++ made → new ≡ made ++ asks
+  one_unfailed : NoSyncFailed one
+  one_unfailed = (tt, (k.whole is_intact).unfailed)
+
+  two_unfailed : NoSyncFailed two
+  two_unfailed = put_unfailed file untold one one_unfailed
+
+  half_by : (new : List Ask) (untold' : Batch) (missing made : List Ask) → put_asks file untold ++ ask Append Sync ∷ [] ≡ missing ++ made → AreMissing missing (made ++ asks) new
       → IsHalfTold engine (record { version = version; asks = new; untold = untold'; accessor = accessor; intact = false })
   half_by new untold' missing made split asked = record {
     seq = rewrite.seq;
@@ -64,9 +74,9 @@ module _
     half = record { half = record { was = is_intact; is = refl; same = refl; missing = missing; made = made; split = split; asked = asked }; tables = refl };
   }
 
-  -- not even the sync was asked
-  pub none_told : (new : List Ask) (untold' : Batch) → new ≡ asks → IsHalfTold engine (record { version = version; asks = new; untold = untold'; accessor = accessor; intact = false })
-  none_told new untold' e = half_by new untold' (put_asks file untold ++ ask Append Sync ∷ []) [] (sym (append-nil _)) e
+  -- not even the sync was asked, or it failed
+  pub none_told : (new : List Ask) (untold' : Batch) → MayBeAsked (ask Append Unsynced) asks new → IsHalfTold engine (record { version = version; asks = new; untold = untold'; accessor = accessor; intact = false })
+  none_told new untold' may = half_by new untold' (put_asks file untold ++ ask Append Sync ∷ []) [] (sym (append-nil _)) (sync_missing Append (put_asks file untold) asks new may)
 
   module _ (context : LogFileContext) (is_file : context ≡ rewrite_file version rewrite.seq) (made : Batch) (is_made : made ≡ record untold { stage = encoded }) (first : List Ask) (is_first : first ≡ one) where
     put_made : put_asks context made ++ first ≡ two
@@ -77,13 +87,13 @@ module _
     -- what is untold was put or not
     pub tell_broken : (new : List Ask) (append' rewrite' : QueueFiles) (untold' : Batch) (accessor' : Accessor) → (new ≡ first) ⊎ (new ≡ put_asks context made ++ first) → IsKeptBy version new append' rewrite' untold' accessor' false
     tell_broken new append' rewrite' untold' accessor' (inl e) =
-        broken new append' rewrite' untold' accessor' untold.items (subst (λ (l : List Ask). AreKeptStored version l k.base untold.items k.tables) (sym (e ∙ is_first)) stored_one)
+        broken new append' rewrite' untold' accessor' untold.items (subst (λ (l : List Ask). AreKeptStored version l k.base untold.items k.tables) (sym (e ∙ is_first)) stored_one) (subst NoSyncFailed (sym (e ∙ is_first)) one_unfailed)
     tell_broken new append' rewrite' untold' accessor' (inr e) =
-        broken new append' rewrite' untold' accessor' [] (subst (λ (l : List Ask). AreKeptStored version l k.base [] k.tables) (sym (e ∙ put_made)) stored_two)
+        broken new append' rewrite' untold' accessor' [] (subst (λ (l : List Ask). AreKeptStored version l k.base [] k.tables) (sym (e ∙ put_made)) stored_two) (subst NoSyncFailed (sym (e ∙ put_made)) two_unfailed)
 
     pub half_told : (new : List Ask) (untold' : Batch) → (new ≡ first) ⊎ (new ≡ put_asks context made ++ first) → IsHalfTold engine (record { version = version; asks = new; untold = untold'; accessor = accessor; intact = false })
-    half_told new untold' (inl e) = half_by new untold' (put_asks file untold) (ask Append Sync ∷ []) refl (e ∙ is_first)
-    half_told new untold' (inr e) = half_by new untold' [] (put_asks file untold ++ ask Append Sync ∷ []) refl (e ∙ put_made ∙ sym (append_assoc (put_asks file untold) (ask Append Sync ∷ []) asks))
+    half_told new untold' (inl e) = half_by new untold' (put_asks file untold) (ask Append Sync ∷ []) refl (inl (e ∙ is_first))
+    half_told new untold' (inr e) = half_by new untold' [] (put_asks file untold ++ ask Append Sync ∷ []) refl (inl (e ∙ put_made ∙ sym (append_assoc (put_asks file untold) (ask Append Sync ∷ []) asks)))
 
     module _ (second : List Ask) (is_second : second ≡ put_asks context made ++ first) (untold' : Batch) (emptied : untold' ≡ empty_batch) where
       are_two : second ≡ two
@@ -96,6 +106,7 @@ module _
         untold = [];
         tables = k.tables;
         stored = subst (λ (l : List Ask). AreKeptStored version l k.base [] k.tables) (sym are_two) stored_two;
+        trusted = unfailed_trusted second (subst NoSyncFailed (sym are_two) two_unfailed);
         whole = λ i. let w = k.whole is_intact in record {
           are_tables = w.are_tables;
           are_untold = emptied;
@@ -104,6 +115,7 @@ module _
               (files_same Append asks two append append (ap begun (items_others version rewrite.seq untold untold.items one)) (ap deletions (items_others version rewrite.seq untold untold.items one)) refl refl refl w.append_files);
           rewrite_files = subst (λ (l : List Ask). AreFilesOf Rewrite l rewrite') (sym are_two)
               (told_files version one untold rewrite rewrite' len is_len closed seq is (files_same Rewrite asks one rewrite rewrite refl refl refl refl refl w.rewrite_files));
+          unfailed = subst NoSyncFailed (sym are_two) two_unfailed;
           read_back = subst (λ (l : List Ask). IsReadBackAlone version l accessor) (sym are_two)
               (told_read_back version one rewrite.seq _ untold accessor (record { closed = its_last.closed; files = its_last.files }) writable
               (same_read_back version asks (ask Append Sync ∷ []) accessor refl refl w.read_back));

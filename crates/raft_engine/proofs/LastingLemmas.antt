@@ -5,7 +5,7 @@ use Rattle.raft_base.specs.declared.pipe_log.LogQueue.TheVariants.{Append, Rewri
 use Rattle.raft_base.specs.declared.pipe_log.Version.{Version}
 use Rattle.raft_history.specs.Batches.{Event}
 use Rattle.raft_files.specs.Asks as asks
-use Rattle.raft_files.specs.Asks.{Act, Ask, Begin, Cut, Found, NumberedBytes, Put, Read, Sync, acts_on}
+use Rattle.raft_files.specs.Asks.{Act, Ask, Begin, Cut, Found, NumberedBytes, Put, Read, Sync, Unsynced, acts_on}
 use Rattle.raft_files.specs.Disk.{begun, IsLeftOf}
 use Rattle.raft_engine_laws.specs.Crashes as queue_deeds
 use Rattle.raft_engine_laws.specs.Crashes.{Deed, Write, Delete, Crash, in_files_from, written, MayStand}
@@ -69,6 +69,7 @@ held_at_sync queue version (asks.Delete ∷ earlier) synced h p = held_at_sync q
 held_at_sync queue version (Cut len ∷ earlier) synced h p = held_at_sync queue version earlier synced h p.0
 held_at_sync queue version (Found files ∷ earlier) synced h p = subst (λ (l : List Event). FilesHoldTorn queue version files l) (sym p.0) p.1
 held_at_sync queue version (Read place bytes ∷ earlier) synced h p = held_at_sync queue version earlier synced h p
+held_at_sync queue version (Unsynced ∷ earlier) synced h p = held_at_sync queue version earlier synced h p
 
 -- where nothing was put since, all is synced
 pub all_synced : (queue : LogQueue) (version : Version) (acts : List Act) (synced h : List Event) → ArePut queue version acts synced h → AreSynced acts → synced ≡ h
@@ -80,6 +81,7 @@ all_synced queue version (asks.Delete ∷ earlier) synced h p s = all_synced que
 all_synced queue version (Cut len ∷ earlier) synced h p s = all_synced queue version earlier synced h p.0 s
 all_synced queue version (Found files ∷ earlier) synced h p s = p.0
 all_synced queue version (Read place bytes ∷ earlier) synced h p s = all_synced queue version earlier synced h p s
+all_synced queue version (Unsynced ∷ earlier) synced h p s = all_synced queue version earlier synced h p s
 
 pub done_lasts : ((queue : LogQueue) (version : Version) (asked : List Ask) (deeds : List Deed) (files : List NumberedBytes)
     → AreDone queue version (acts_on queue asked) deeds → IsLeftOf queue asked files → HoldLeft queue version deeds files)

@@ -8,7 +8,7 @@ use Rattle.raft_records.specs.FilePart.{AreBatchesUpTo, Part, StandBetween}
 use Rattle.raft_records.specs.Item.{Item}
 use Rattle.raft_records.proofs.PartLemmas.{batch_inside}
 use Rattle.raft_history.specs.Batches.{Event}
-use Rattle.raft_files.specs.Asks.{Act, Ask, Begin, Cut, Delete, Found, NumberedBytes, Put, Read, Sync, acts_on}
+use Rattle.raft_files.specs.Asks.{Act, Ask, Begin, Cut, Delete, Found, NumberedBytes, Put, Read, Sync, Unsynced, acts_on}
 use Rattle.raft_files.specs.Disk.{IsLeftOf, MayStand, begun, cut_last, put_behind}
 use Rattle.raft_files.proofs.HeldLemmas.{length_on_last}
 use Rattle.raft_files.proofs.LastLemmas.{last_of}
@@ -142,6 +142,7 @@ module _ (queue : LogQueue) (version : Version) where
   stand_prefix (Cut len ∷ acts) synced h files left p (inr is) c = cut_front files left (cut_last len (begun acts)) c (same_front files (cut_last len (begun acts)) is)
   stand_prefix (Found found ∷ acts) synced h files left p s c = cut_front files left found c (same_front files found s)
   stand_prefix (Read place bytes ∷ acts) synced h files left p s c = stand_prefix acts synced h files left p s c
+  stand_prefix (Unsynced ∷ acts) synced h files left p s c = stand_prefix acts synced h files left p s c
 
   -- ---- what is left
 

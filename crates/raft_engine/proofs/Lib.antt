@@ -78,4 +78,5 @@ mod MomentLemmas
 mod EntryLemmas
 mod LifeLemmas
 mod OwnFileLemmas
+mod TrustLemmas
 mod WellPutLemmas

@@ -8,7 +8,7 @@ use Rattle.raft_base.specs.declared.pipe_log.LogQueue.TheVariants.{Append, Rewri
 use Rattle.raft_base.specs.declared.pipe_log.Version.{Version}
 use Rattle.raft_history.specs.Batches.{Event}
 use Rattle.raft_history.proofs.EffectLemmas.{each_weaker}
-use Rattle.raft_files.specs.Asks.{Act, Ask, Begin, Cut, Delete, Found, NumberedBytes, Put, Read, Sync, acts_on, ask, is_same_queue}
+use Rattle.raft_files.specs.Asks.{Act, Ask, Begin, Cut, Delete, Found, NumberedBytes, Put, Read, Sync, Unsynced, acts_on, ask, is_same_queue}
 use Rattle.raft_files.specs.Disk.{begun, deletions}
 use Rattle.raft_engine_laws.specs.Crashes.{in_files_from}
 use Rattle.raft_engine_laws.proofs.CrashLemmas.{from_none}
@@ -115,6 +115,7 @@ module _ (queue : LogQueue) (version : Version) where
   within_act (Put bytes) acts goes w = w
   within_act (Begin seq) acts goes w = w
   within_act Sync acts goes w = w
+  within_act Unsynced acts goes w = w
   within_act Delete acts goes w = w
   within_act (Cut len) acts goes w = w
   within_act (Found files) acts goes w = absurd goes

@@ -8,7 +8,7 @@ use Rattle.raft_base.specs.declared.pipe_log.Version.{Version}
 use Rattle.raft_records.specs.FilePart.{Part}
 use Rattle.raft_records.specs.Item.{Item}
 use Rattle.raft_records.specs.LogBatch.{Batch}
-use Rattle.raft_files.specs.Asks.{Act, Ask, Begin, Cut, Delete, Found, NumberedBytes, Put, Read, Sync, acts_on, ask}
+use Rattle.raft_files.specs.Asks.{Act, Ask, Begin, Cut, Delete, Found, NumberedBytes, Put, Read, Sync, Unsynced, acts_on, ask}
 use Rattle.raft_recover.specs.Files.{whole_file}
 use Rattle.raft_engine_prefixes.specs.Prefixes.{GoesOn}
 use Rattle.raft_engine_prefixes.specs.TornTails.{AreUndamaged, FoundUndamaged, IsDamagedAt, StopsAt}
@@ -76,6 +76,7 @@ module _ (version : Version) where
   act_found q (Put bytes) acts goes u = u
   act_found q (Begin seq) acts goes u = u
   act_found q Sync acts goes u = u
+  act_found q Unsynced acts goes u = u
   act_found q Delete acts goes u = u
   act_found q (Cut len) acts goes u = u
   act_found q (Found files) acts goes u = absurd goes

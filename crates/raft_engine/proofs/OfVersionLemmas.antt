@@ -12,7 +12,7 @@ use Rattle.raft_records.proofs.Names.{part_signature}
 use Rattle.raft_records.proofs.FrameLemmas.{readable}
 use Rattle.raft_records.proofs.HeaderLemmas.{unknown_type}
 use Rattle.raft_history.specs.Batches.{Event}
-use Rattle.raft_files.specs.Asks.{Act, Begin, Cut, Delete, Found, NumberedBytes, Put, Read, Sync}
+use Rattle.raft_files.specs.Asks.{Act, Begin, Cut, Delete, Found, NumberedBytes, Put, Read, Sync, Unsynced}
 use Rattle.raft_files.specs.Disk.{IsFrontPut, MayStand, begun, put_behind}
 use Rattle.raft_files.proofs.LastLemmas.{last_of}
 use Rattle.raft_replay.specs.Segments.{HoldsFrom}
@@ -142,6 +142,7 @@ whole_stands (Delete ∷ acts) = whole_stands acts
 whole_stands (Cut len ∷ acts) = inr refl
 whole_stands (Found files ∷ acts) = refl
 whole_stands (Read place bytes ∷ acts) = whole_stands acts
+whole_stands (Unsynced ∷ acts) = whole_stands acts
 
 pub stays : (queue : LogQueue) (version : Version) (acts : List Act) → StaysOfVersion queue version acts
 stays queue version acts = record {
@@ -158,6 +159,7 @@ stays queue version acts = record {
   synced = λ none standing stands o. all_not_other none (subst (IsLastOfOther queue version) stands o);
   deleted = λ none standing stands o. none standing stands o;
   read = λ place bytes none standing stands o. none standing stands o;
+  unsynced = λ none standing stands o. none standing stands o;
 }
   where
     all_not_other : NoneIsOther queue version acts → ¬ (IsLastOfOther queue version (begun acts))

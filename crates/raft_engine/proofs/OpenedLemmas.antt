@@ -1,7 +1,8 @@
 -- What an engine is made of when it is opened.
-use Rattle.std.proofs.Common.{◌≡◌, ◌≢◌, ℕ, ◌+◌, List, [], ◌∷◌, ◌++◌, true, refl, sym, ap, ◌∙◌, subst, append_assoc, arith}
+use Rattle.std.proofs.Common.{◌≡◌, ◌≢◌, inl, inr, ℕ, ◌+◌, List, [], ◌∷◌, ◌++◌, true, refl, sym, ap, ◌∙◌, subst, append_assoc, arith}
 use Rattle.raft_base.specs.Signature.{signature_in}
 use Rattle.raft_base.specs.declared.errors.Error.{Error}
+use Rattle.raft_base.specs.declared.pipe_log.LogQueue.{LogQueue}
 use Rattle.raft_base.specs.declared.pipe_log.LogQueue.TheVariants.{Append, Rewrite}
 use Rattle.raft_base.specs.declared.pipe_log.Version.{Version}
 use Rattle.raft_records.specs.Item.{Item}
@@ -9,8 +10,10 @@ use Rattle.raft_records.specs.LogBatch.{Batch, empty_batch, encoded, encoded_len
 use Rattle.raft_records.proofs.FrameLemmas.{log_batch_length}
 use Rattle.raft_history.specs.Batches.{Event}
 use Rattle.raft_accessor.specs.Accessor.{Accessor}
-use Rattle.raft_files.specs.Asks.{Ask, NumberedBytes, Put, acts_on, ask}
-use Rattle.raft_files.specs.Disk.{begun}
+use Rattle.raft_files.specs.Asks.{Ask, NoSyncFailed, NumberedBytes, Put, Unsynced, acts_on, ask}
+use Rattle.raft_files.specs.Disk.{IsLeftOf, begun}
+use Rattle.raft_files.proofs.LeftLemmas.{other_left, unsynced_left}
+use Rattle.raft_engine.specs.Lasting.{HaveBothBegun}
 use Rattle.raft_recover.specs.Files.{FilesHold}
 use Rattle.raft_engine_laws.specs.Telling.{TakeAway}
 use Rattle.raft_engine.specs.BatchBytes.{bytes_for}
@@ -28,6 +31,8 @@ use Rattle.raft_engine.proofs.FilesLemmas.{files_same, files_told}
 use Rattle.raft_engine.proofs.AloneLemmas.{opened_read_back}
 use Rattle.raft_engine.proofs.AskedLemmas.{AreAskedInPart, asked_part}
 use Rattle.raft_engine.proofs.ReadyLemmas.{both_ready, opening_split}
+use Rattle.raft_engine.proofs.MomentLemmas.{both_more}
+use Rattle.raft_engine.proofs.TrustLemmas.{opening_unfailed, unfailed_trusted}
 
 -- what an engine is made of when it is opened
 pub record AreOpened (version : Version) (append rewrite : List NumberedBytes) (asks : List Ask) (append_files rewrite_files : QueueFiles) (accessor : Accessor) (untold : Batch) : Type 0 where
@@ -35,8 +40,26 @@ pub record AreOpened (version : Version) (append rewrite : List NumberedBytes) (
   pub still_open : untold ≡ record empty_batch { items = untold.items }
   pub away : TakeAway untold.items
   pub stored : AreStoredBeside version asks untold.items accessor.tables
+  pub unfailed : NoSyncFailed asks
   pub append_known : AreFilesOf Append asks append_files
   pub rewrite_known : AreFilesOf Rewrite asks rewrite_files
+
+-- ---- a sync that failed
+
+-- it leaves what may be left
+left_before : (queue other : LogQueue) (asks : List Ask) (files : List NumberedBytes) → IsLeftOf queue (ask other Unsynced ∷ asks) files → IsLeftOf queue asks files
+left_before Append Append asks files l = unsynced_left Append asks files l
+left_before Append Rewrite asks files l = other_left Append Rewrite asks Unsynced files refl l
+left_before Rewrite Append asks files l = other_left Rewrite Append asks Unsynced files refl l
+left_before Rewrite Rewrite asks files l = unsynced_left Rewrite asks files l
+
+ever_unsynced : (version : Version) (asks : List Ask) (records : Bases) (other : LogQueue) → HaveBothBegun asks → HaveEverRecords version asks records → HaveEverRecords version (ask other Unsynced ∷ asks) records
+ever_unsynced version asks records other begun ever content [] earlier e both append rewrite a r =
+    ever content [] asks refl begun append rewrite
+    (left_before Append other asks append (subst (λ (l : List Ask). IsLeftOf Append l append) (sym e) a))
+    (left_before Rewrite other asks rewrite (subst (λ (l : List Ask). IsLeftOf Rewrite l rewrite) (sym e) r))
+ever_unsynced version asks records other begun ever content (x ∷ later) earlier e both append rewrite a r =
+    let rest : asks ≡ later ++ earlier = cc in ever content later earlier rest both append rewrite a r
 
 -- a batch tells the same once it is encoded
 same_tell : (version : Version) (seq : ℕ) (told : Batch) (items : List Item) → asks_that_tell version seq (record told { stage = encoded }) items ≡ asks_that_tell version seq told items
@@ -177,6 +200,7 @@ module _ (ready : FoundFilesAreReady) (stored : FoundFilesAreStored) (lasting : 
     still_open = f.recovered.untold_open;
     away = f.recovered.untold_away;
     stored = all_known.stored;
+    unfailed = opening_unfailed version r.rewrite.seq r.told Rewrite Append r.append_missing r.rewrite_missing first (tt, (tt, tt));
     append_known = all_known.append_known;
     rewrite_known = all_known.rewrite_known;
   }
@@ -196,10 +220,11 @@ module _ (ready : FoundFilesAreReady) (stored : FoundFilesAreStored) (lasting : 
     are_wanted = are_wanted;
     failed = failed;
     records = all.0;
-    ever = λ content more earlier e begun.
-        all.1 content (half.missing ++ more) earlier
-        (sym all_asked ∙ ap (λ (l : List Ask). l ++ first) half.split ∙ append_assoc half.missing half.made first ∙ ap (λ (l : List Ask). half.missing ++ l) (sym half.asked ∙ e)
-        ∙ sym (append_assoc half.missing more earlier)) begun;
+    ever = elim half.asked [
+      | inl e ↦ subst (λ (l : List Ask). HaveEverRecords version l all.0) (sym e) ever_made
+      | inr u ↦ subst (λ (l : List Ask). HaveEverRecords version l all.0) (sym u.noted)
+          (ever_unsynced version (half.made ++ first) all.0 u.queue (both_more half.made first ((λ none. absurd cc), (λ none. absurd cc))) ever_made)
+    ];
   }
     where
       half : AreAskedInPart (reading_asks version r) first later
@@ -207,6 +232,12 @@ module _ (ready : FoundFilesAreReady) (stored : FoundFilesAreStored) (lasting : 
 
       all : (records : Bases) × HaveEverRecords version (asks_that_tell version r.rewrite.seq f.told f.told.items ++ asked) records
       all = lasting version asked append rewrite f.append_left f.rewrite_left r.accessor f.told r.untold are_ready f.recovered f.rewrite_of.closed r.rewrite.seq f.rewrite_of.bytes f.rewrite_of.split f.writable
+
+      ever_made : HaveEverRecords version (half.made ++ first) all.0
+      ever_made content more earlier e begun =
+          all.1 content (half.missing ++ more) earlier
+          (sym all_asked ∙ ap (λ (l : List Ask). l ++ first) half.split ∙ append_assoc half.missing half.made first ∙ ap (λ (l : List Ask). half.missing ++ l) e
+          ∙ sym (append_assoc half.missing more earlier)) begun
 
 -- an engine that was opened
 pub kept_opened : (version : Version) (append rewrite : List NumberedBytes) (asks : List Ask) (append_known rewrite_known : QueueFiles) (untold : Batch) (accessor : Accessor)
@@ -216,12 +247,14 @@ kept_opened version append rewrite asks append_known rewrite_known untold access
   untold = untold.items;
   tables = accessor.tables;
   stored = o.stored.1;
+  trusted = unfailed_trusted asks o.unfailed;
   whole = λ intact. record {
     are_tables = refl;
     are_untold = o.still_open;
     take_away = o.away;
     append_files = o.append_known;
     rewrite_files = o.rewrite_known;
+    unfailed = o.unfailed;
     read_back = opened_read_back version append rewrite asks accessor untold o.read;
   };
 }

@@ -6,7 +6,7 @@ use Rattle.raft_base.specs.declared.pipe_log.LogQueue.TheVariants.{Append, Rewri
 use Rattle.raft_base.specs.declared.pipe_log.Version.{Version}
 use Rattle.raft_records.specs.LogBatch.{Batch}
 use Rattle.raft_accessor.specs.Accessor.{Accessor}
-use Rattle.raft_files.specs.Asks.{Ask, Begin, Sync, ask}
+use Rattle.raft_files.specs.Asks.{Ask, Begin, NoSyncFailed, Sync, ask}
 use Rattle.raft_engine.specs.KeptEngine.{IsLastFile, KeptEngine}
 use Rattle.raft_engine.specs.KeptEngineView.{AreFilesOf, IsKeptBy}
 use Rattle.raft_engine.specs.MovedAgain.{IsRewriteHalfRotated, IsRewriteRotated, IsRewriteRotationRefusal, next_rewrite_asks}
@@ -18,6 +18,7 @@ use Rattle.raft_engine.proofs.AskedLemmas.{AreAskedInPart}
 use Rattle.raft_engine.proofs.FilesLemmas.{files_begun, files_last, files_same}
 use Rattle.raft_engine.proofs.KeptLemmas.{stored_next}
 use Rattle.raft_engine.proofs.ReadBackLemmas.{rewrite_begun_read_back, same_read_back}
+use Rattle.raft_engine.proofs.TrustLemmas.{unfailed_trusted}
 
 module _ (version : Version) (asks : List Ask) (append rewrite : QueueFiles) (untold : Batch) (accessor : Accessor) (intact : Bool) (k : IsKeptBy version asks append rewrite untold accessor intact) where
   abbrev engine : KeptEngine
@@ -30,12 +31,14 @@ module _ (version : Version) (asks : List Ask) (append rewrite : QueueFiles) (un
     untold = k.untold;
     tables = k.tables;
     stored = k.stored;
+    trusted = k.trusted;
     whole = λ i. let w = k.whole i in record {
       are_tables = w.are_tables;
       are_untold = w.are_untold;
       take_away = w.take_away;
       append_files = w.append_files;
       rewrite_files = files_same Rewrite asks asks rewrite rewrite' refl refl closed seq len w.rewrite_files;
+      unfailed = w.unfailed;
       read_back = w.read_back;
     };
   }
@@ -71,6 +74,7 @@ module _ (version : Version) (asks : List Ask) (append rewrite : QueueFiles) (un
             tables = k.tables;
             stored = subst (λ (l : List Ask). AreKeptStored version l k.base k.untold k.tables) (sym are_asked)
                 (stored_next version asks append rewrite untold accessor intact k synced begun Rewrite rewrite.seq _ last_rewrite);
+            trusted = unfailed_trusted new (subst NoSyncFailed (sym are_asked) (tt, (tt, w.unfailed)));
             whole = λ i. record {
               are_tables = w.are_tables;
               are_untold = w.are_untold;
@@ -78,6 +82,7 @@ module _ (version : Version) (asks : List Ask) (append rewrite : QueueFiles) (un
               append_files = subst (λ (l : List Ask). AreFilesOf Append l append) (sym are_asked)
                   (files_same Append asks (ask Rewrite (Begin (rewrite.seq + 1)) ∷ ask Rewrite Sync ∷ asks) append append refl refl refl refl refl w.append_files);
               rewrite_files = subst (λ (l : List Ask). AreFilesOf Rewrite l rewrite') (ap (λ (n : ℕ). ask Rewrite (Begin n) ∷ ask Rewrite Sync ∷ asks) seq ∙ sym are_asked) next;
+              unfailed = subst NoSyncFailed (sym are_asked) (tt, (tt, w.unfailed));
               read_back = subst (λ (l : List Ask). IsReadBackAlone version l accessor) (sym are_asked)
                   (rewrite_begun_read_back version (ask Rewrite Sync ∷ asks) (rewrite.seq + 1) accessor (same_read_back version asks (ask Rewrite Sync ∷ []) accessor refl refl w.read_back));
             };

@@ -10,7 +10,7 @@ use Rattle.raft_base.specs.declared.pipe_log.Version.{Version}
 use Rattle.raft_records.specs.LogBatch.{Batch, log_batch_bytes}
 use Rattle.raft_records.specs.FilePart.{Part}
 use Rattle.raft_history.specs.Batches.{Event}
-use Rattle.raft_files.specs.Asks.{Act, Ask, Begin, Cut, Delete, Found, NumberedBytes, Put, Read, Sync, acts_on}
+use Rattle.raft_files.specs.Asks.{Act, Ask, Begin, Cut, Delete, Found, NumberedBytes, Put, Read, Sync, Unsynced, acts_on}
 use Rattle.raft_files.specs.Disk.{IsLeftOf, begun, cut_last, put_behind}
 use Rattle.raft_files.proofs.LastLemmas.{last_of}
 use Rattle.raft_replay.specs.Segments.{HoldsFrom}
@@ -90,6 +90,9 @@ module _ (queue : LogQueue) (version : Version) where
 
       pub read_sound : (place : FileBlockHandle) (bytes : List ℕ) → NoneIsUnsound queue version (Read place bytes ∷ acts)
       read_sound place bytes standing stands = none standing stands
+
+      pub unsynced_sound : NoneIsUnsound queue version (Unsynced ∷ acts)
+      unsynced_sound standing stands = none standing stands
 
       pub cut_sound : (len : ℕ) → NoneIsUnsound queue version (Cut len ∷ acts)
       cut_sound len standing (inl stands) = none standing stands

@@ -19,7 +19,7 @@ use Rattle.raft_history.specs.RegionSteps.{RegionStep, Tables, steps_of_items, s
 use Rattle.raft_table.specs.Steps.{Step}
 use Rattle.raft_accessor.specs.Writes.{Appending, after_items}
 use Rattle.raft_files.specs.Asks as asks
-use Rattle.raft_files.specs.Asks.{Act, Ask, Begin, NumberedBytes, Put, Sync, acts_on, ask}
+use Rattle.raft_files.specs.Asks.{Act, Ask, Begin, IsTrusted, NoSyncFailed, NumberedBytes, Put, Sync, Unsynced, acts_on, ask}
 use Rattle.raft_files.specs.Disk.{begun, deletions}
 use Rattle.raft_replay.specs.WrittenParts.{written_event}
 use Rattle.raft_recover.specs.Files.{whole_file}
@@ -35,7 +35,7 @@ use Rattle.raft_engine.specs.BatchBytes.{bytes_for, place_at, placed_at}
 use Rattle.raft_engine.specs.KeptEngine.{KeptEngine}
 use Rattle.raft_engine.specs.Lasting.{AreSynced, IsBegunOrFound, IsLasting, IsLastingAfter}
 use Rattle.raft_engine.specs.Stored.{AreAllDone, AreEverLasting, AreKeptStored, AreStored, Bases}
-use Rattle.raft_engine.specs.StoredAsks.{DeletionsAreStored, FirstFilesAreStored, IsWritableBatch, NewFilesAreStored, SyncsAreStored, ToldBatchesAreStored, WhatIsDoneLasts, WrittenBatchesAreStored}
+use Rattle.raft_engine.specs.StoredAsks.{DeletionsAreStored, FailedSyncsAreStored, FirstFilesAreStored, IsWritableBatch, NewFilesAreStored, SyncsAreStored, ToldBatchesAreStored, WhatIsDoneLasts, WrittenBatchesAreStored}
 use Rattle.raft_engine.proofs.DoneLemmas.{deeds_synced}
 use Rattle.raft_engine_laws.proofs.InRows.{rows_alone}
 use Rattle.raft_engine_laws.proofs.OwnPrefixes.{own_joins}
@@ -98,10 +98,13 @@ module _
 
   -- what lasts of an engine
   pub stored_is_lasting : (content : EntryIndex → List ℕ) (engine : KeptEngine) → AreBothTold engine.asks content → (base : Bases) (untold : List Item) (tables : Tables) → AreKeptStored engine.version engine.asks base untold tables
+      → IsTrusted engine.asks → (engine.intact ≡ true → NoSyncFailed engine.asks)
       → (engine.intact ≡ true → engine.accessor.tables ≡ tables) → IsLasting content engine
-  stored_is_lasting content engine told base untold tables k are =
+  stored_is_lasting content engine told base untold tables k trusted unfailed are =
       let l = lasting_stored engine.version engine.asks base untold tables k.now content told in record {
         first = k.first;
+        trusted = trusted;
+        unfailed = unfailed;
         base = base content;
         now = l.0;
         has = λ intact. subst (λ (h : List Event). HaveRecords content engine.accessor.tables (live content (base content) h)) (sym l.1)
@@ -156,6 +159,30 @@ module _
           rows = s.rows;
           safe = λ content told. safe_rewrite content (base content) s.appended s.rewritten (steps_of_items untold) tables (s.safe content (keep asked (ask Rewrite Sync) content tt told));
         })
+
+  -- ---- a sync that failed
+
+  pub unsynced_stored : ((queue : LogQueue) (version : Version) (acts : List Act) (deeds : List Deed) → AreAllDone queue version acts deeds → AreAllDone queue version (Unsynced ∷ acts) deeds) → FailedSyncsAreStored
+  unsynced_stored done Append version asked base untold tables k =
+      let s = k.now in
+      goes_on version (ask Append Unsynced) asked base untold tables tt k.first k.ever (record {
+        appended = s.appended;
+        rewritten = s.rewritten;
+        append_done = done Append version (acts_on Append asked) s.appended s.append_done;
+        rewrite_done = s.rewrite_done;
+        rows = s.rows;
+        safe = λ content told. s.safe content (keep asked (ask Append Unsynced) content tt told);
+      })
+  unsynced_stored done Rewrite version asked base untold tables k =
+      let s = k.now in
+      goes_on version (ask Rewrite Unsynced) asked base untold tables tt k.first k.ever (record {
+        appended = s.appended;
+        rewritten = s.rewritten;
+        append_done = s.append_done;
+        rewrite_done = done Rewrite version (acts_on Rewrite asked) s.rewritten s.rewrite_done;
+        rows = s.rows;
+        safe = λ content told. s.safe content (keep asked (ask Rewrite Unsynced) content tt told);
+      })
 
   -- ---- a new file
 

@@ -5,7 +5,7 @@ use Rattle.raft_base.specs.declared.pipe_log.LogQueue.{LogQueue}
 use Rattle.raft_base.specs.declared.pipe_log.LogQueue.TheVariants.{Append, Rewrite}
 use Rattle.raft_base.specs.declared.pipe_log.Version.{Version}
 use Rattle.raft_history.specs.Batches.{Event}
-use Rattle.raft_files.specs.Asks.{Act, Ask, Begin, Cut, Delete, Found, NumberedBytes, Put, Read, Sync, acts_on}
+use Rattle.raft_files.specs.Asks.{Act, Ask, Begin, Cut, Delete, Found, NumberedBytes, Put, Read, Sync, Unsynced, acts_on}
 use Rattle.raft_files.specs.Disk.{begun}
 use Rattle.raft_recover.specs.Files.{FilesHold}
 use Rattle.raft_engine_prefixes.specs.EntryPlaces.{EntriesEndWithin}
@@ -15,7 +15,7 @@ use Rattle.raft_engine.specs.FoundFiles.{IsLastOfOther}
 use Rattle.raft_engine.specs.SoundBlocks.{IsLastSound, NoneIsUnsound}
 use Rattle.raft_engine.specs.WellPut.{AreWellPut}
 use Rattle.raft_engine.proofs.OfVersionLemmas.{nothing_other, stays}
-use Rattle.raft_engine.proofs.SealedLemmas.{begin_sound, cut_sound, delete_sound, found_sound, none_unsound, read_sound, sync_sound}
+use Rattle.raft_engine.proofs.SealedLemmas.{begin_sound, cut_sound, delete_sound, found_sound, none_unsound, read_sound, unsynced_sound, sync_sound}
 
 module _ (queue : LogQueue) (version : Version) where
   pub none_well : AreWellPut queue version []
@@ -35,6 +35,9 @@ module _ (queue : LogQueue) (version : Version) where
 
   pub read_well : (acts : List Act) (place : FileBlockHandle) (bytes : List ℕ) → AreWellPut queue version acts → AreWellPut queue version (Read place bytes ∷ acts)
   read_well acts place bytes w = record { of_version = (stays queue version acts).read place bytes w.of_version; within = w.within; sealed = read_sound queue version acts w.sealed place bytes }
+
+  pub unsynced_well : (acts : List Act) → AreWellPut queue version acts → AreWellPut queue version (Unsynced ∷ acts)
+  unsynced_well acts w = record { of_version = (stays queue version acts).unsynced w.of_version; within = w.within; sealed = unsynced_sound queue version acts w.sealed }
 
   pub put_well : (acts : List Act) (bytes : List ℕ) (h : List Event) (e : Event) → FilesHold queue version (begun acts) h → FilesHold queue version (begun (Put bytes ∷ acts)) (h ++ e ∷ [])
       → EntriesEndWithin (e ∷ []) → (NoneIsUnsound queue version acts → NoneIsUnsound queue version (Put bytes ∷ acts)) → AreWellPut queue version acts → AreWellPut queue version (Put bytes ∷ acts)

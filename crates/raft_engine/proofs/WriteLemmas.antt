@@ -17,24 +17,26 @@ use Rattle.raft_history.specs.RegionSteps.{Tables}
 use Rattle.raft_accessor.specs.Accessor.{Accessor}
 use Rattle.raft_accessor.specs.AppendChecks.{AreAccepted, AreAcceptedOncePlaced}
 use Rattle.raft_accessor.specs.Writes.{Appending, AreWritten, after_items}
-use Rattle.raft_files.specs.Asks.{Ask, MayBeAsked, NumberedBytes, Put, Sync, acts_on, ask}
+use Rattle.raft_files.specs.Asks.{Ask, IsTrusted, MayBeAsked, NoSyncFailed, NumberedBytes, Put, Sync, Unsynced, acts_on, ask}
 use Rattle.raft_files.specs.Disk.{begun, deletions}
 use Rattle.raft_recover.specs.Files.{FilesHold}
 use Rattle.raft_engine_laws.specs.Crashes as queue_deeds
 use Rattle.raft_engine_laws.specs.Telling.{TakeAway, taking_items, told_items}
 use Rattle.raft_engine_prefixes.specs.Prefixes.{ArePutWhole, WrittenBatchIsPut}
 use Rattle.raft_engine_prefixes.proofs.TornLemmas.{whole_torn}
-use Rattle.raft_engine.specs.BatchBytes.{bytes_for, event_at, place_at, placed_at}
+use Rattle.raft_engine.specs.BatchBytes.{asks_of_items, bytes_for, event_at, place_at, placed_at}
 use Rattle.raft_engine.specs.KeptEngine.{IsLastFile, KeptEngine}
 use Rattle.raft_engine.specs.KeptEngineView.{AreFilesOf, IsKeptBy}
 use Rattle.raft_engine.specs.ReadBack.{IsReadBackAlone, WrittenBatchesAreReadBack}
 use Rattle.raft_engine.specs.Stored.{AreKeptStored}
-use Rattle.raft_engine.specs.StoredAsks.{IsWritableBatch, SyncsAreStored, WrittenBatchesAreStored}
-use Rattle.raft_engine.specs.WrittenBatch.{AreCutShort, IsHalfWritten, IsOneMore, IsUnwritten, file_of, synced_if}
+use Rattle.raft_engine.specs.StoredAsks.{FailedSyncsAreStored, IsWritableBatch, SyncsAreStored, WrittenBatchesAreStored}
+use Rattle.raft_engine.specs.WrittenBatch.{AreCutShort, AreMissing, IsHalfWritten, IsOneMore, IsUnsynced, IsUnwritten, file_of, synced_if}
 use Rattle.raft_engine.specs.declared.queue_files.QueueFiles.{QueueFiles}
 use Rattle.raft_engine.proofs.FilesLemmas.{files_last, files_put, files_same}
 use Rattle.raft_engine.proofs.ReadBackLemmas.{none_before, same_read_back}
 use Rattle.raft_engine.proofs.UntoldLemmas.{away-append, raised_same}
+use Rattle.raft_engine.proofs.AskedLemmas.{sync_missing}
+use Rattle.raft_engine.proofs.TrustLemmas.{may_trusted, synced_unfailed, unfailed_trusted}
 
 -- a batch that can be put, and that the tables accept
 pub record IsReady (tables : Tables) (batch : Batch) : Type 0 where
@@ -114,11 +116,18 @@ module _
       ap (λ (f : LogFileContext). ask f.id.queue (Put (bytes_for f made)) ∷ asks) is_file
       ∙ ap (λ (b : Batch). ask Append (Put (bytes_for (record { id = id; version = version }) b)) ∷ asks) is_made
 
+  put_unfailed : NoSyncFailed (its_ask ∷ asks)
+  put_unfailed = (tt, (k.whole is_intact).unfailed)
+
   placed_made : placed_at file.id append.len made ≡ placed_at id append.len batch
   placed_made = ap (λ (f : LogFileContext). placed_at f.id append.len made) is_file ∙ ap (λ (b : Batch). placed_at id append.len b) is_made
 
+  some_asks : (items : List Item) → items ≢ [] → asks_of_items (file_of Append engine append.seq) batch items ≡ its_ask ∷ []
+  some_asks [] some = absurd (some refl)
+  some_asks (item ∷ items) some = refl
+
   -- the batch is half written
-  half_by : (sync : Bool) (new : List Ask) (untold' : Batch) (other : Accessor) (error : Error) (missing part : List Ask) → synced_if sync (its_ask ∷ []) ≡ missing ++ part → new ≡ part ++ asks
+  half_by : (sync : Bool) (new : List Ask) (untold' : Batch) (other : Accessor) (error : Error) (missing part : List Ask) → synced_if sync (its_ask ∷ []) ≡ missing ++ part → AreMissing missing (part ++ asks) new
       → (other ≡ accessor) ⊎ ((missing ≡ []) × AreCutShort batch (placed_at id (length old_bytes) batch) engine (record { version = version; asks = new; untold = untold'; accessor = other; intact = false }) error)
       → IsHalfWritten sync batch engine (record { version = version; asks = new; untold = untold'; accessor = other; intact = false }) error
   half_by sync new untold' other error missing part split e tables = record {
@@ -126,7 +135,7 @@ module _
     bytes = old_bytes;
     last = its_last;
     accepted = ready.accepted;
-    half = record { was = is_intact; is = refl; same = refl; missing = missing; made = part; split = split; asked = e };
+    half = record { was = is_intact; is = refl; same = refl; missing = missing; made = part; split = ap (synced_if sync) (some_asks batch.items ready.writable.some) ∙ split; asked = e };
     tables = tables;
   }
 
@@ -144,8 +153,15 @@ module _
   module _ (sync : Bool) (new : List Ask) (untold' : Batch) (other : Accessor) (error : Error) where
     pub half_written : MayBeAsked (ask file.id.queue (Put (bytes_for file made))) asks new → other ≡ accessor
         → IsHalfWritten sync batch engine (record { version = version; asks = new; untold = untold'; accessor = other; intact = false }) error
-    half_written (inl e) same = half_by sync new untold' other error _ [] (sym (append-nil _)) e (inl same)
-    half_written (inr e) same = half_by sync new untold' other error (synced_if sync []) (its_ask ∷ []) (parts_if sync its_ask) (e ∙ ask_made) (inl same)
+    half_written (inl e) same = half_by sync new untold' other error _ [] (sym (append-nil _)) (inl e) (inl same)
+    half_written (inr e) same = half_by sync new untold' other error (synced_if sync []) (its_ask ∷ []) (parts_if sync its_ask) (inl (e ∙ ask_made)) (inl same)
+
+    -- the bytes are put, and the sync that is wanted fails
+    pub unsynced_written : (half : List Ask) → half ≡ ask file.id.queue (Put (bytes_for file made)) ∷ asks → sync ≡ true → MayBeAsked (ask Append Unsynced) half new → other ≡ accessor
+        → IsHalfWritten sync batch engine (record { version = version; asks = new; untold = untold'; accessor = other; intact = false }) error
+    unsynced_written half is_half wanted may same =
+        half_by sync new untold' other error (ask Append Sync ∷ []) (its_ask ∷ []) (ap (λ (s : Bool). synced_if s (its_ask ∷ [])) wanted)
+        (sync_missing Append [] (its_ask ∷ asks) new (subst (λ (l : List Ask). MayBeAsked (ask Append Unsynced) l new) (is_half ∙ ask_made) may)) (inl same)
 
     pub whole_asked : new ≡ synced_if sync (ask file.id.queue (Put (bytes_for file made)) ∷ asks)
         → (items : List Item) → items ≡ placed_at file.id append.len made
@@ -153,7 +169,7 @@ module _
         → IsHalfWritten sync batch engine (record { version = version; asks = new; untold = untold'; accessor = other; intact = false }) error
     whole_asked e items placed cut =
         let broken : KeptEngine = record { version = version; asks = new; untold = untold'; accessor = other; intact = false } in
-        half_by sync new untold' other error [] _ refl (e ∙ ap (synced_if sync) ask_made ∙ prefix_if sync its_ask asks) (inr (refl, placed_cut items broken error placed cut))
+        half_by sync new untold' other error [] _ refl (inl (e ∙ ap (synced_if sync) ask_made ∙ prefix_if sync its_ask asks)) (inr (refl, placed_cut items broken error placed cut))
 
   -- the bytes were put or not, and the engine isn't intact any more
   pub kept_half : (new : List Ask) (append' rewrite' : QueueFiles) (untold' : Batch) (other : Accessor) → MayBeAsked (ask file.id.queue (Put (bytes_for file made))) asks new → IsKeptBy version new append' rewrite' untold' other false
@@ -162,6 +178,7 @@ module _
     untold = k.untold;
     tables = k.tables;
     stored = subst (λ (l : List Ask). AreKeptStored version l k.base k.untold k.tables) (sym e) k.stored;
+    trusted = subst IsTrusted (sym e) k.trusted;
     whole = λ no. absurd cc;
   }
   kept_half new append' rewrite' untold' other (inr e) = record {
@@ -169,8 +186,28 @@ module _
     untold = k.untold ++ told;
     tables = accepted.after;
     stored = subst (λ (l : List Ask). AreKeptStored version l k.base (k.untold ++ told) accepted.after) (sym (e ∙ ask_made)) put_stored;
+    trusted = unfailed_trusted new (subst NoSyncFailed (sym (e ∙ ask_made)) put_unfailed);
     whole = λ no. absurd cc;
   }
+
+  -- they were put, and the sync failed
+  pub kept_unsynced : FailedSyncsAreStored → (half new : List Ask) (append' rewrite' : QueueFiles) (untold' : Batch) (other : Accessor) → half ≡ ask file.id.queue (Put (bytes_for file made)) ∷ asks
+      → MayBeAsked (ask Append Unsynced) half new → IsKeptBy version new append' rewrite' untold' other false
+  kept_unsynced unsynced half new append' rewrite' untold' other is_half may = record {
+    base = k.base;
+    untold = k.untold ++ told;
+    tables = accepted.after;
+    stored = elim put_may [
+      | inl e ↦ subst (λ (l : List Ask). AreKeptStored version l k.base (k.untold ++ told) accepted.after) (sym e) put_stored
+      | inr e ↦ subst (λ (l : List Ask). AreKeptStored version l k.base (k.untold ++ told) accepted.after) (sym e)
+          (unsynced Append version (its_ask ∷ asks) k.base (k.untold ++ told) accepted.after put_stored)
+    ];
+    trusted = may_trusted Append (its_ask ∷ asks) new put_may put_unfailed;
+    whole = λ no. absurd cc;
+  }
+    where
+      put_may : MayBeAsked (ask Append Unsynced) (its_ask ∷ asks) new
+      put_may = subst (λ (l : List Ask). MayBeAsked (ask Append Unsynced) l new) (is_half ∙ ask_made) may
 
   module _ (sync : Bool) (half new : List Ask) (is_half : half ≡ ask file.id.queue (Put (bytes_for file made)) ∷ asks) (is_new : new ≡ synced_if sync half) (other : Accessor) where
     are_new : new ≡ synced_if sync (its_ask ∷ asks)
@@ -183,9 +220,12 @@ module _
     new_stored : AreKeptStored version new k.base (k.untold ++ told) accepted.after
     new_stored = subst (λ (l : List Ask). AreKeptStored version l k.base (k.untold ++ told) accepted.after) (sym are_new) (stored_if sync)
 
+    new_unfailed : NoSyncFailed new
+    new_unfailed = subst NoSyncFailed (sym are_new) (synced_unfailed sync (its_ask ∷ asks) put_unfailed)
+
     -- the bytes were put, and synced where that was wanted, and the engine isn't intact any more
     pub kept_put : (append' rewrite' : QueueFiles) (untold' : Batch) → IsKeptBy version new append' rewrite' untold' other false
-    kept_put append' rewrite' untold' = record { base = k.base; untold = k.untold ++ told; tables = accepted.after; stored = new_stored; whole = λ no. absurd cc }
+    kept_put append' rewrite' untold' = record { base = k.base; untold = k.untold ++ told; tables = accepted.after; stored = new_stored; trusted = unfailed_trusted new new_unfailed; whole = λ no. absurd cc }
 
     -- the append files hold the batch behind those that they held
     held_more : (put : WrittenBatchIsPut) (h : List Event) → FilesHold Append version (begun (acts_on Append asks)) h
@@ -220,12 +260,14 @@ module _
             untold = k.untold ++ told;
             tables = accepted.after;
             stored = new_stored;
+            trusted = unfailed_trusted new new_unfailed;
             whole = λ i. record {
               are_tables = same_after other.tables accepted.after (sym written_too.tables ∙ accepted.taken);
               are_untold = untold_more ∙ ap (λ (b : Batch). record b { items = b.items ++ told }) w.are_untold;
               take_away = away-append k.untold told w.take_away away;
               append_files = subst (λ (l : List Ask). AreFilesOf Append l append') (sym are_new) files;
               rewrite_files = subst (λ (l : List Ask). AreFilesOf Rewrite l rewrite) (sym are_new) others;
+              unfailed = new_unfailed;
               read_back = subst (λ (l : List Ask). IsReadBackAlone version l other) (sym are_new) (synced_back sync (written_back w.read_back));
             };
           }
@@ -293,21 +335,21 @@ none_tested (Err e) tables items none = tt
 
 -- nothing is asked for it where its sync fails
 pub none_written : {X : Type 0} (r : Result X Error) (sync : Bool) (batch left : Batch) (old new : KeptEngine) (seq : ℕ) (bytes : List ℕ) → IsLastFile Append old.asks seq bytes
-    → old.intact ≡ true → batch.items ≡ [] → OnErr r (new ≡ record old { intact = false }) → IfErr r (IsUnwritten sync batch left old new)
-none_written (Ok x) sync batch left old new seq bytes last intact none e = tt
-none_written (Err x) sync batch left old new seq bytes last intact none e = inr (record {
+    → old.intact ≡ true → batch.items ≡ [] → OnErr r (IsUnsynced old new) → OnErr r (sync ≡ true) → IfErr r (IsUnwritten sync batch left old new)
+none_written (Ok x) sync batch left old new seq bytes last intact none u wanted = tt
+none_written (Err x) sync batch left old new seq bytes last intact none u wanted = inr (record {
   seq = seq;
   bytes = bytes;
   last = last;
   accepted = none_accepted old.accessor.tables batch.items none;
   half = record {
     was = intact;
-    is = ap (λ (o : KeptEngine). o.intact) e;
-    same = ap (λ (o : KeptEngine). o.version) e;
-    missing = synced_if sync (ask Append (Put (bytes_for (file_of Append old seq) batch)) ∷ []);
+    is = ap (λ (o : KeptEngine). o.intact) u.others;
+    same = ap (λ (o : KeptEngine). o.version) u.others;
+    missing = ask Append Sync ∷ [];
     made = [];
-    split = sym (append-nil _);
-    asked = ap (λ (o : KeptEngine). o.asks) e;
+    split = ap (λ (items : List Item). synced_if sync (asks_of_items (file_of Append old seq) batch items)) none ∙ ap (λ (s : Bool). synced_if s []) wanted;
+    asked = sync_missing Append [] old.asks new.asks u.asked;
   };
-  tables = inl (ap (λ (o : KeptEngine). o.accessor) e);
+  tables = inl (ap (λ (o : KeptEngine). o.accessor) u.others);
 })

@@ -8,7 +8,7 @@ use Rattle.raft_history.specs.Batches.{Event}
 use Rattle.raft_history.specs.BothQueues.{IsReadingOfBoth}
 use Rattle.raft_history.specs.Histories.{Apart, IsSoundIn}
 use Rattle.raft_history.specs.RegionSteps.{Tables}
-use Rattle.raft_files.specs.Asks.{Act, Ask, Begin, Cut, Delete, Found, NumberedBytes, Put, Read, Sync, acts_on, ask}
+use Rattle.raft_files.specs.Asks.{Act, Ask, Begin, Cut, Delete, Found, IsTrusted, NoSyncFailed, NumberedBytes, Put, Read, Sync, Unsynced, acts_on, ask}
 use Rattle.raft_files.specs.Disk.{IsLeftOf, begun, deletions, files_of}
 use Rattle.raft_engine_laws.specs.GroupsInRows.{AreGroupsInRows}
 use Rattle.raft_engine_laws.specs.Records.{Records, HaveRecords, live}
@@ -71,6 +71,7 @@ AreSynced (Delete ∷ earlier) = AreSynced earlier
 AreSynced (Cut len ∷ earlier) = AreSynced earlier
 AreSynced (Found files ∷ earlier) = Unit {0}
 AreSynced (Read place bytes ∷ earlier) = AreSynced earlier
+AreSynced (Unsynced ∷ earlier) = AreSynced earlier
 
 -- What lasts once all this was asked, where these records were there before the batches that are known. The batches that
 -- were written are those that the append files hold if nothing is lost, in deleted files too, and the synced ones those
@@ -110,9 +111,12 @@ IsBegunOrFound asks =
     ((since : List Ask) × (asks ≡ since ++ ask Rewrite (Begin 1) ∷ ask Append (Begin 1) ∷ []))
     ⊎ ((since : List Ask) × (append : List NumberedBytes) × (rewrite : List NumberedBytes) × (asks ≡ since ++ ask Rewrite (Found rewrite) ∷ ask Append (Found append) ∷ []))
 
--- what lasts of an engine, now, where an intact one's tables have the records of all batches, and whenever the machine crashes: after each ask, once files were begun or found in both queues
+-- What lasts of an engine, now, where an intact one's tables have the records of all batches, and whenever the machine crashes: after each ask, once files were begun or found in both queues. Since a sync
+-- failed nothing was asked but reads, so that what is said of a disk may be believed; and of an intact engine none failed.
 pub record IsLasting (content : EntryIndex → List ℕ) (engine : KeptEngine) : Type 0 where
   pub first : IsBegunOrFound engine.asks
+  pub trusted : IsTrusted engine.asks
+  pub unfailed : engine.intact ≡ true → NoSyncFailed engine.asks
   pub base : ℕ → Records
   pub now : IsLastingAfter content engine.version base engine.asks
   pub has : engine.intact ≡ true → HaveRecords content engine.accessor.tables (live content base now.batches)

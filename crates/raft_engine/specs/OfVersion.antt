@@ -6,7 +6,7 @@ use Rattle.raft_base.specs.declared.pipe_log.Version.{Version}
 use Rattle.raft_records.specs.FilePart.{Part, IsBatchAt}
 use Rattle.raft_records.specs.Item.{Item}
 use Rattle.raft_history.specs.Batches.{Event}
-use Rattle.raft_files.specs.Asks.{Act, Ask, Begin, Cut, Delete, Found, NumberedBytes, Put, Read, Sync, acts_on}
+use Rattle.raft_files.specs.Asks.{Act, Ask, Begin, Cut, Delete, Found, NumberedBytes, Put, Read, Sync, Unsynced, acts_on}
 use Rattle.raft_files.specs.Disk.{IsLeftOf, MayStand, begun}
 use Rattle.raft_recover.specs.Files.{FilesHold}
 use Rattle.raft_engine.specs.FoundFiles.{IsLastOfOther, IsOfOther}
@@ -28,6 +28,7 @@ pub record StaysOfVersion (queue : LogQueue) (version : Version) (acts : List Ac
   pub synced : NoneIsOther queue version acts → NoneIsOther queue version (Sync ∷ acts)
   pub deleted : NoneIsOther queue version acts → NoneIsOther queue version (Delete ∷ acts)
   pub read : (place : FileBlockHandle) (bytes : List ℕ) → NoneIsOther queue version acts → NoneIsOther queue version (Read place bytes ∷ acts)
+  pub unsynced : NoneIsOther queue version acts → NoneIsOther queue version (Unsynced ∷ acts)
 
 -- so the last of the files that a crash leaves isn't of the other version
 abbrev pub WhatIsLeftIsNotOther : Type 0

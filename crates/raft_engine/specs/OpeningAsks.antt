@@ -8,7 +8,7 @@ use Rattle.raft_records.specs.Item.{Item}
 use Rattle.raft_records.specs.LogBatch.{Batch}
 use Rattle.raft_accessor.specs.Accessor.{Accessor}
 use Rattle.raft_files.specs.Asks as asks
-use Rattle.raft_files.specs.Asks.{Ask, Begin, MayBeAsked, NumberedBytes, ask}
+use Rattle.raft_files.specs.Asks.{Ask, Begin, MayBeAsked, NumberedBytes, ask, failed_ask}
 use Rattle.raft_engine.specs.FoundFiles.{AreReadyBy}
 use Rattle.raft_engine.specs.Opening.{AreRecovered}
 use Rattle.raft_engine.specs.StoredFound.{told_asks}
@@ -25,13 +25,13 @@ missing_asks queue (Cut tail) = ask queue (asks.Cut tail.offset) ∷ []
 abbrev pub Failures : Type 1
 Failures = List Ask → Ask → Error → Type 0
 
--- The wanted asks, newest first, were made in order up to one; the call for that one failed with this error, and may have made it or not.
+-- The wanted asks, newest first, were made in order up to one; the call for that one failed with this error, and may have made it or not; of a sync it may be noted that it failed.
 pub record FailsAmong (MayFail : Failures) (wanted old new : List Ask) (e : Error) : Type 0 where
   pub later : List Ask
   pub failed : Ask
   pub earlier : List Ask
   pub split : wanted ≡ later ++ failed ∷ earlier
-  pub asked : MayBeAsked failed (earlier ++ old) new
+  pub asked : MayBeAsked (failed_ask failed) (earlier ++ old) new
   pub why : MayFail (earlier ++ old) failed e
 
 -- what tells the rewrite queue a batch of these items, behind the last file of this number

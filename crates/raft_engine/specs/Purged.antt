@@ -15,7 +15,7 @@ use Rattle.raft_files.specs.Asks.{Ask, Delete, Put, Sync, ask}
 use Rattle.raft_files.specs.Disk.{files_of}
 use Rattle.raft_engine_prefixes.specs.Done.{numbers}
 use Rattle.raft_engine_laws.specs.DeletedFiles.{AreLeastFrom}
-use Rattle.raft_engine.specs.BatchBytes.{bytes_for}
+pub use Rattle.raft_engine.specs.BatchBytes.{asks_of_items, put_asks}
 use Rattle.raft_engine.specs.KeptEngine.{IsLastFile, KeptEngine}
 use Rattle.raft_engine.specs.WrittenBatch.{IsHalfDone, IsLastFull, file_of}
 
@@ -66,15 +66,6 @@ abbrev pub AreSomeExpired : LogQueue → KeptEngine → Type 0
 AreSomeExpired queue engine = (count : ℕ) × AreExpired queue engine count × (0 < count)
 
 -- ---- what is asked
-
--- a batch of these items is put behind the bytes of a file, if there are any
-abbrev pub asks_of_items : LogFileContext → Batch → List Item → List Ask
-asks_of_items file batch [] = []
-asks_of_items file batch (item ∷ items) = ask file.id.queue (Put (bytes_for file batch)) ∷ []
-
--- a batch is put there, if it has items
-abbrev pub put_asks : LogFileContext → Batch → List Ask
-put_asks file batch = asks_of_items file batch batch.items
 
 -- so many of the queue's oldest files are deleted
 abbrev pub delete_asks : LogQueue → ℕ → List Ask

@@ -11,7 +11,7 @@ use Rattle.raft_records.specs.Range.{AreInRange}
 use Rattle.raft_history.specs.Batches.{Event}
 use Rattle.raft_history.specs.RegionSteps.{Tables}
 use Rattle.raft_accessor.specs.Writes.{Appending, after_items}
-use Rattle.raft_files.specs.Asks.{Ask, Begin, Delete, NumberedBytes, Put, Sync, acts_on, ask}
+use Rattle.raft_files.specs.Asks.{Ask, Begin, Delete, NumberedBytes, Put, Sync, Unsynced, acts_on, ask}
 use Rattle.raft_files.specs.Disk.{begun, deletions}
 use Rattle.raft_engine_laws.specs.DeletedFiles.{AreLeastFrom}
 use Rattle.raft_engine_laws.specs.Records.{Records, no_base}
@@ -48,6 +48,12 @@ abbrev pub SyncsAreStored : Type 0
 SyncsAreStored =
     (queue : LogQueue) (version : Version) (asks : List Ask) (base : Bases) (untold : List Item) (tables : Tables)
     → AreKeptStored version asks base untold tables → AreKeptStored version (ask queue Sync ∷ asks) base untold tables
+
+-- so does one that failed
+abbrev pub FailedSyncsAreStored : Type 0
+FailedSyncsAreStored =
+    (queue : LogQueue) (version : Version) (asks : List Ask) (base : Bases) (untold : List Item) (tables : Tables)
+    → AreKeptStored version asks base untold tables → AreKeptStored version (ask queue Unsynced ∷ asks) base untold tables
 
 -- so does a new file of a queue that is synced
 abbrev pub NewFilesAreStored : Type 0

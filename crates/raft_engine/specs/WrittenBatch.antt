@@ -11,11 +11,11 @@ use Rattle.raft_history.specs.Batches.{Event}
 use Rattle.raft_accessor.specs.Accessor.{Accessor}
 use Rattle.raft_accessor.specs.AppendChecks.{AreAcceptedOncePlaced, AreRefusedOncePlaced}
 use Rattle.raft_accessor.specs.Writes.{Appending, AreItemsRefused, AreWritten, Writing}
-use Rattle.raft_files.specs.Asks.{Ask, Begin, Put, Sync, acts_on, ask}
+use Rattle.raft_files.specs.Asks.{Ask, Begin, MayBeAsked, Put, Sync, Unsynced, acts_on, ask}
 use Rattle.raft_files.specs.Disk.{begun}
 use Rattle.raft_recover.specs.Files.{FilesHold}
 use Rattle.raft_engine_laws.specs.Telling.{taking_items, told_items}
-use Rattle.raft_engine.specs.BatchBytes.{bytes_for, event_at, placed_at}
+use Rattle.raft_engine.specs.BatchBytes.{bytes_for, event_at, placed_at, put_asks}
 use Rattle.raft_engine.specs.KeptEngine.{IsLastFile, KeptEngine}
 
 -- a file of a queue
@@ -30,6 +30,12 @@ synced_if false asks = asks
 -- only a sync of the append queue is asked, if it is wanted
 abbrev pub IsOnlySynced : Bool → KeptEngine → KeptEngine → Type 0
 IsOnlySynced sync old new = new ≡ record old { asks = synced_if sync old.asks }
+
+-- a sync fails: it may be noted that it did, and the engine isn't intact any more; of an engine that wasn't none is asked; nothing else is changed
+pub record IsUnsynced (old new : KeptEngine) : Type 0 where
+  pub asked : MayBeAsked (ask Append Unsynced) old.asks new.asks
+  pub none : old.intact ≡ false → new.asks ≡ old.asks
+  pub others : new ≡ record old { asks = new.asks; intact = false }
 
 -- one batch more is written: its bytes, signed for the last file, are put behind those that it has, and synced, if that is
 -- wanted, so that the append files, which held batches and no torn tail, hold it behind these; its items, with their places there,
@@ -47,6 +53,17 @@ pub record IsOneMore (sync : Bool) (batch : Batch) (old new : KeptEngine) : Type
   pub untold : new.untold ≡ record old.untold { items = old.untold.items ++ told_items (taking_items old.accessor.tables batch.items) }
   pub others : new ≡ record old { asks = new.asks; untold = new.untold; accessor = new.accessor }
 
+-- the next one of these missing asks, the oldest, is a sync, and it is noted that it failed
+pub record IsNextUnsynced (missing between new : List Ask) : Type 0 where
+  pub later : List Ask
+  pub queue : LogQueue
+  pub next : missing ≡ later ++ ask queue Sync ∷ []
+  pub noted : new ≡ ask queue Unsynced ∷ between
+
+-- of these missing asks nothing is noted; or that the next one failed, if it is a sync
+abbrev pub AreMissing : List Ask → List Ask → List Ask → Type 0
+AreMissing missing between new = (new ≡ between) ⊎ IsNextUnsynced missing between new
+
 -- of the asks that were wanted, newest first, some were made, the oldest first, and the engine isn't intact any more
 pub record IsHalfAsked (wanted : List Ask) (old new : KeptEngine) : Type 0 where
   pub was : old.intact ≡ true
@@ -55,7 +72,7 @@ pub record IsHalfAsked (wanted : List Ask) (old new : KeptEngine) : Type 0 where
   pub missing : List Ask
   pub made : List Ask
   pub split : wanted ≡ missing ++ made
-  pub asked : new.asks ≡ made ++ old.asks
+  pub asked : AreMissing missing (made ++ old.asks) new.asks
 
 -- so much was asked, and the tables are as they were
 pub record IsHalfDone (wanted : List Ask) (old new : KeptEngine) : Type 0 where
@@ -89,14 +106,14 @@ abbrev pub AreCutShort : Batch → List Item → KeptEngine → KeptEngine → E
 AreCutShort batch items old new e = (LacksRoom e × IsNextRefused Appending items old.accessor new.accessor e)
     ⊎ ((e ≡ errors.Memory) × AreWritten Appending items old.accessor new.accessor × IsUnnoted batch old new)
 
--- a batch that the tables would take is put and synced in part, and the tables are as they were; or it is put, and
+-- a batch that the tables would take is put, if it has items, and synced in part, and the tables are as they were; or it is put, and
 -- synced if that is wanted, and the writing of its items, with their places there, to the tables is cut short
 pub record IsHalfWritten (sync : Bool) (batch : Batch) (old new : KeptEngine) (e : Error) : Type 0 where
   pub seq : ℕ
   pub bytes : List ℕ
   pub last : IsLastFile Append old.asks seq bytes
   pub accepted : AreAcceptedOncePlaced old.accessor.tables batch.items
-  pub half : IsHalfAsked (synced_if sync (ask Append (Put (bytes_for (file_of Append old seq) batch)) ∷ [])) old new
+  pub half : IsHalfAsked (synced_if sync (put_asks (file_of Append old seq) batch)) old new
   pub tables : (new.accessor ≡ old.accessor)
       ⊎ ((half.missing ≡ []) × AreCutShort batch (placed_at (file_of Append old seq).id (length bytes) batch) old new e)
 

@@ -23,7 +23,7 @@ ghost use Rattle.raft_engine.specs.StoredFound.{found_asks};
 ghost use Rattle.raft_engine.specs.Unopened.{AreBothAccepted, AreUnrecoveredAs, IsHalfOpened, IsUnopened};
 ghost use Rattle.raft_engine.specs.declared.recovery_mode.RecoveryMode.TheVariants.{TolerateTornTail};
 ghost use Rattle.raft_engine.specs.Purged.{ArePurged, IsUnpurged};
-ghost use Rattle.raft_engine.specs.WrittenBatch.{IsNextRefused, IsOneMore, IsOnlySynced, IsRotated, IsUnrotated, IsUnwritten, LacksRoom};
+ghost use Rattle.raft_engine.specs.WrittenBatch.{IsNextRefused, IsOneMore, IsOnlySynced, IsRotated, IsUnrotated, IsUnsynced, IsUnwritten, LacksRoom};
 
 use crate::limits::{FIRST_SEQ, LAST_OFFSET};
 use crate::opened::complete;
@@ -331,12 +331,12 @@ impl<F: EngineFiles> Engine<F> {
     ///
     /// # Errors
     ///
-    /// `Failed` where the engine isn't intact, and those of `EngineFiles::sync`: it isn't intact any more.
+    /// `Failed` where the engine isn't intact, and those of `EngineFiles::sync`: it isn't intact any more, and asks nothing of its files again but reads.
     pub fn sync(&mut self) -> Result<()>
         ensures ok { OnOk result (self.new
             ≡ record self.old { asks = ask Append Sync ∷ self.old.asks }) }
         ensures accepted { OnOk result (self.old.intact ≡ true) }
-        ensures err { OnErr result (self.new ≡ record self.old { intact = false }) }
+        ensures err { OnErr result (IsUnsynced self.old self.new) }
         ensures refused { self.old.intact ≡ false → IfErr result (λ e. e ≡ Error.Failed) }
         ensures fault { IfErr result (IsSyncFault F.may_fail self.old) }
     {
@@ -357,7 +357,8 @@ impl<F: EngineFiles> Engine<F> {
     /// Those of [`Engine::sync`], where it is wanted.
     fn sync_if_wanted(&mut self, sync: bool) -> Result<()>
         ensures ok { OnOk result (IsOnlySynced sync self.old self.new) }
-        ensures err { OnErr result (self.new ≡ record self.old { intact = false }) }
+        ensures err { OnErr result (IsUnsynced self.old self.new) }
+        ensures wanted { OnErr result (sync ≡ true) }
         ensures fault { IfErr result (λ e. (sync ≡ true) × IsSyncFault F.may_fail self.old e) }
     {
         if sync {

@@ -1,7 +1,7 @@
 //! Laws of what is stored of an engine.
 
 ghost use Rattle.raft_base.specs.declared.pipe_log.LogQueue.TheVariants.{Append, Rewrite};
-ghost use Rattle.raft_engine.specs.StoredAsks.{DeletionsAreStored, FirstFilesAreStored, NewFilesAreStored, SyncsAreStored, ToldBatchesAreStored, WhatIsDoneLasts, WrittenBatchesAreStored};
+ghost use Rattle.raft_engine.specs.StoredAsks.{DeletionsAreStored, FailedSyncsAreStored, FirstFilesAreStored, NewFilesAreStored, SyncsAreStored, ToldBatchesAreStored, WhatIsDoneLasts, WrittenBatchesAreStored};
 
 use raft_engine_laws::crashes::{
     deleting_is_safe, empty_queues_are_safe, nothing_is_lost, syncing_is_safe, telling_is_safe,
@@ -27,14 +27,15 @@ pub fn what_is_done_lasts()
     files_that_stand_hold_a_prefix();
 }
 
-/// States what each ask makes of what is stored: the first files are stored as no tables; a sync and a new file change
-/// nothing of it; a batch that is put behind the append queue's last file is stored as the tables that take it, and what
+/// States what each ask makes of what is stored: the first files are stored as no tables; a sync, also one that fails, and a new
+/// file change nothing of it; a batch that is put behind the append queue's last file is stored as the tables that take it, and what
 /// it takes away is untold; once the append queue is synced, the rewrite queue may be told; and then, with both queues
 /// synced, files of either may be deleted that no table needs. No group of the rewrite queue ends in another file than that in
 /// which it begins, so none is torn by it.
 pub fn asks_are_stored()
     ensures first { FirstFilesAreStored }
     ensures synced { SyncsAreStored }
+    ensures unsynced { FailedSyncsAreStored }
     ensures begun { NewFilesAreStored }
     ensures written { WrittenBatchesAreStored }
     ensures told { ToldBatchesAreStored }

@@ -5,7 +5,7 @@ use Rattle.std.proofs.lemmas.List.{take_all, drop_all, take-append-le}
 use Rattle.raft_base.specs.declared.pipe_log.LogQueue.{LogQueue}
 use Rattle.raft_base.specs.declared.pipe_log.Version.{Version}
 use Rattle.raft_history.specs.Batches.{Event}
-use Rattle.raft_files.specs.Asks.{Act, Put, Begin, Sync, Delete, Cut, Found, Read, Ask, acts_on}
+use Rattle.raft_files.specs.Asks.{Act, Put, Begin, Sync, Unsynced, Delete, Cut, Found, Read, Ask, acts_on}
 use Rattle.raft_files.specs.Disk.{IsAnyPut, IsLeftUnordered, MayStandUnordered, NumberedBytes, put_behind, cut_last, begun, deletions, synced_files}
 use Rattle.raft_files.proofs.HeldLemmas.{length_on_last}
 use Rattle.raft_recover.specs.Files.{FilesHold}
@@ -50,6 +50,7 @@ any_stand (Cut len ∷ acts) files s =
     ]
 any_stand (Found found ∷ acts) files s = none_lost (numbers found) (numbers files) (ap numbers (sym s))
 any_stand (Read place bytes ∷ acts) files s = any_stand acts files s
+any_stand (Unsynced ∷ acts) files s = any_stand acts files s
 
 -- files before the last one stand as they were begun
 oldest_behind : (acts : List Act) (files : List NumberedBytes) (n : ℕ) → IsAnyPut (synced_files acts) files → n < length (begun acts) → take n files ≡ take n (begun acts)
@@ -80,6 +81,7 @@ any_oldest (Cut len ∷ acts) files n s lt =
     ]
 any_oldest (Found found ∷ acts) files n s lt = ap (take n) s
 any_oldest (Read place bytes ∷ acts) files n s lt = any_oldest acts files n s lt
+any_oldest (Unsynced ∷ acts) files n s lt = any_oldest acts files n s lt
 
 module _ (queue : LogQueue) (version : Version) where
   record OldestPrefix (n : ℕ) (files : List NumberedBytes) (h : List Event) : Type 0 where

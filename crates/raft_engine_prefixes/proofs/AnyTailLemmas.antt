@@ -8,7 +8,7 @@ use Rattle.raft_base.specs.declared.pipe_log.Version.{Version}
 use Rattle.raft_records.specs.FilePart.{Part}
 use Rattle.raft_records.proofs.PartLemmas.{batch_inside}
 use Rattle.raft_history.specs.Batches.{Event}
-use Rattle.raft_files.specs.Asks.{Act, Put, Begin, Sync, Delete, Cut, Found, Read}
+use Rattle.raft_files.specs.Asks.{Act, Put, Begin, Sync, Unsynced, Delete, Cut, Found, Read}
 use Rattle.raft_files.specs.Disk.{IsAnyPut, MayStand, MayStandUnordered, NumberedBytes, begun, cut_last, on_last, put_behind, synced_files}
 use Rattle.raft_files.proofs.HeldLemmas.{length_on_last}
 use Rattle.raft_replay.specs.Cuts.{bytes_before}
@@ -98,6 +98,7 @@ synced_more (Cut len ∷ acts) =
     record { rest = c.rest; put = ap (cut_last len) k.put ∙ c.put }
 synced_more (Found files ∷ acts) = nothing_behind files
 synced_more (Read place bytes ∷ acts) = synced_more acts
+synced_more (Unsynced ∷ acts) = synced_more acts
 
 -- a disk that leaves a prefix of what was put leaves what any disk may
 pub may_stand : (acts : List Act) (files : List NumberedBytes) → MayStand acts files → MayStandUnordered acts files
@@ -119,6 +120,7 @@ may_stand (Cut len ∷ acts) files s =
     ]
 may_stand (Found found ∷ acts) files s = s
 may_stand (Read place bytes ∷ acts) files s = may_stand acts files s
+may_stand (Unsynced ∷ acts) files s = may_stand acts files s
 
 -- ---- batches in front of anything
 
@@ -255,6 +257,7 @@ module _ (queue : LogQueue) (version : Version) where
       ]
   synced_begins (Found files ∷ acts) synced h p = begin_all synced h files p.0 (torn_prefix files h p.1)
   synced_begins (Read place bytes ∷ acts) synced h p = synced_begins acts synced h p
+  synced_begins (Unsynced ∷ acts) synced h p = synced_begins acts synced h p
 
   -- whatever may stand begins with the synced batches
   pub any_begins : (acts : List Act) (synced h : List Event) (files : List NumberedBytes) → ArePut queue version acts synced h → MayStandUnordered acts files → FilesBeginWith queue version files synced
@@ -278,6 +281,7 @@ module _ (queue : LogQueue) (version : Version) where
       ]
   any_begins (Found found ∷ acts) synced h files p s = as_begin s (synced_begins (Found found ∷ acts) synced h p)
   any_begins (Read place bytes ∷ acts) synced h files p s = any_begins acts synced h files p s
+  any_begins (Unsynced ∷ acts) synced h files p s = any_begins acts synced h files p s
 
   -- whatever is read of what may stand begins with the synced batches
   pub reads_synced : (acts : List Act) (synced h : List Event) (files : List NumberedBytes) (read : List Event) → ArePut queue version acts synced h → MayStandUnordered acts files → FilesHoldTorn queue version files read → AreFirstOf synced read

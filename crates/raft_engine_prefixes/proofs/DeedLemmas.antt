@@ -21,7 +21,7 @@ use Rattle.raft_engine_prefixes.specs.TornTails.{FilesHoldTorn, StopsAt}
 use Rattle.raft_engine_prefixes.proofs.TornLemmas.{whole_torn}
 use Rattle.raft_engine_prefixes.specs.Done.{numbers, AreRisingFrom, AreConsecutive, Follows, AreBelow, AreDone, AreDoneWhole, WrittenBatchIsDone, LastFileIsNext}
 use Rattle.raft_engine_prefixes.proofs.StepLemmas as steps
-use Rattle.raft_engine_prefixes.proofs.UndamagedLemmas.{begin_undamaged, cut_undamaged, delete_undamaged, found_undamaged, nothing_damaged, put_is_undamaged, read_undamaged, sync_undamaged}
+use Rattle.raft_engine_prefixes.proofs.UndamagedLemmas.{begin_undamaged, cut_undamaged, delete_undamaged, found_undamaged, nothing_damaged, put_is_undamaged, read_undamaged, unsynced_undamaged, sync_undamaged}
 use Rattle.raft_engine_prefixes.proofs.NumberLemmas.{numbers_on_last, numbers_more, rising_last, rising_more, consecutive_more, follows_next, below_more, below_none, below_oldest, below_next, below_last}
 use Rattle.raft_engine_prefixes.proofs.EventLemmas.{all_synced, last_low, low_all, files_up_to}
 
@@ -34,6 +34,7 @@ few_synced (asks.Delete ∷ acts) = let k = few_synced acts in omega (arith, k)
 few_synced (Cut len ∷ acts) = few_synced acts
 few_synced (Found files ∷ acts) = omega arith
 few_synced (Read place bytes ∷ acts) = few_synced acts
+few_synced (asks.Unsynced ∷ acts) = few_synced acts
 
 module _ (queue : LogQueue) (version : Version) where
   pub nothing_done : AreDoneWhole queue version [] []
@@ -165,6 +166,23 @@ module _ (queue : LogQueue) (version : Version) where
       pub read_whole : AreDoneWhole queue version acts deeds → AreDoneWhole queue version (Read place bytes ∷ acts) deeds
       unfolding read_done
       read_whole w = record { done = read_done w.done; whole = w.whole }
+
+    pub unsynced_done : AreDone queue version acts deeds → AreDone queue version (asks.Unsynced ∷ acts) deeds
+    unsynced_done d = record {
+      first = d.first;
+      begins = d.begins;
+      put = d.put;
+      rising = d.rising;
+      consecutive = d.consecutive;
+      stays = d.stays;
+      gone = d.gone;
+      synced_gone = d.synced_gone;
+      undamaged = unsynced_undamaged queue version acts d.undamaged;
+    }
+
+    pub unsynced_whole : AreDoneWhole queue version acts deeds → AreDoneWhole queue version (asks.Unsynced ∷ acts) deeds
+    unfolding unsynced_done
+    unsynced_whole w = record { done = unsynced_done w.done; whole = w.whole }
 
     pub cut_done : (closed : List NumberedBytes) (last : NumberedBytes) (at : ℕ) → AreDone queue version acts deeds → begun acts ≡ closed ++ last ∷ [] → StopsAt (whole_file queue version last) at
         → AreDoneWhole queue version (Cut at ∷ acts) deeds

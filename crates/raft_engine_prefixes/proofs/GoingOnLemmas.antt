@@ -3,7 +3,7 @@ use Rattle.std.proofs.Common.{◌≡◌, List, [], ◌++◌, sym, ap, ◌∙◌,
 use Rattle.raft_base.specs.declared.pipe_log.LogQueue.{LogQueue}
 use Rattle.raft_base.specs.declared.pipe_log.Version.{Version}
 use Rattle.raft_history.specs.Batches.{Event}
-use Rattle.raft_files.specs.Asks.{Act, Put, Begin, Sync, Delete, Cut, Found, Read}
+use Rattle.raft_files.specs.Asks.{Act, Put, Begin, Sync, Unsynced, Delete, Cut, Found, Read}
 use Rattle.raft_files.specs.Disk.{begun}
 use Rattle.raft_engine_prefixes.specs.Prefixes.{ArePut, PutsGoOn}
 use Rattle.raft_engine_prefixes.proofs.TornLemmas.{one_reading, whole_torn}
@@ -31,3 +31,4 @@ puts_go_on queue version Delete acts synced h go p synced' h' q = let one = one_
 puts_go_on queue version (Cut len) acts synced h go p synced' h' q = let one = one_history queue version acts synced synced' h h' p.0 q in (same one.1, same one.0)
 puts_go_on queue version (Found files) acts synced h go p synced' h' q = absurd go
 puts_go_on queue version (Read place bytes) acts synced h go p synced' h' q = let one = one_history queue version acts synced synced' h h' p q in (same one.1, same one.0)
+puts_go_on queue version Unsynced acts synced h go p synced' h' q = let one = one_history queue version acts synced synced' h h' p q in (same one.1, same one.0)

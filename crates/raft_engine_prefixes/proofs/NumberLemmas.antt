@@ -3,7 +3,7 @@ use Rattle.std.proofs.Common.{◌≡◌, ℕ, zero, suc, ◌<◌, ◌≤◌, Lis
 use Rattle.std.proofs.lemmas.Bool.{cases_lt}
 use Rattle.std.proofs.lemmas.List.{map-append}
 use Rattle.std.specs.List.{AllByRecursion}
-use Rattle.raft_files.specs.Asks.{Act, Put, Begin, Sync, Delete, Cut, Found, Read}
+use Rattle.raft_files.specs.Asks.{Act, Put, Begin, Sync, Unsynced, Delete, Cut, Found, Read}
 use Rattle.raft_files.specs.Disk.{NumberedBytes, on_last, put_behind, cut_last, begun, MayStand}
 use Rattle.raft_files.specs.Places.{IsNext}
 use Rattle.raft_engine_prefixes.specs.Done.{numbers, AreRisingFrom, AreConsecutive, Follows, AreBelow}
@@ -46,6 +46,7 @@ first_stand (Cut len ∷ acts) files s =
     ]
 first_stand (Found found ∷ acts) files s = none_lost (numbers found) (numbers files) (ap numbers (sym s))
 first_stand (Read place bytes ∷ acts) files s = first_stand acts files s
+first_stand (Unsynced ∷ acts) files s = first_stand acts files s
 
 -- ---- rising numbers
 

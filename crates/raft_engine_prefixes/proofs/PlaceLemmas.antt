@@ -10,7 +10,7 @@ use Rattle.raft_records.specs.Item.{Item}
 use Rattle.raft_records.specs.ItemBatch.{checksum_bytes, item_batch_bytes}
 use Rattle.raft_records.specs.LogBatch.{header_bytes, entry_block, item_offset, encoded_length, log_batch_bytes}
 use Rattle.raft_records.proofs.BufferLemmas.{header_len}
-use Rattle.raft_files.specs.Asks.{Act, Put, Begin, Sync, Delete, Cut, Found, Read}
+use Rattle.raft_files.specs.Asks.{Act, Put, Begin, Sync, Unsynced, Delete, Cut, Found, Read}
 use Rattle.raft_files.specs.Disk.{NumberedBytes, put_behind, begun}
 use Rattle.raft_files.specs.Places.{stretch_of, bytes_at}
 use Rattle.raft_files.proofs.LastLemmas.{last_of}
@@ -67,6 +67,7 @@ bytes_stay acts Delete seq offset len block k e = e
 bytes_stay acts (Cut n) seq offset len block k e = absurd k
 bytes_stay acts (Found files) seq offset len block k e = absurd k
 bytes_stay acts (Read place bytes) seq offset len block k e = e
+bytes_stay acts Unsynced seq offset len block k e = e
 
 -- ---- the entry block of a written batch
 

@@ -8,7 +8,7 @@ use Rattle.raft_records.specs.FilePart.{Part, IsBatchAt, StandBetween}
 use Rattle.raft_records.proofs.Names.{part_signature}
 use Rattle.raft_records.proofs.PartLemmas.{batch_inside}
 use Rattle.raft_history.specs.Batches.{Event}
-use Rattle.raft_files.specs.Asks.{Act, Put, Begin, Sync, Delete, Cut, Found, Read}
+use Rattle.raft_files.specs.Asks.{Act, Put, Begin, Sync, Unsynced, Delete, Cut, Found, Read}
 use Rattle.raft_files.specs.Disk.{NumberedBytes, put_behind, begun, MayStand}
 use Rattle.raft_files.proofs.HeldLemmas.{length_on_last}
 use Rattle.raft_replay.specs.Cuts.{bytes_before}
@@ -215,6 +215,7 @@ module _ (queue : LogQueue) (version : Version) where
   all_held (Cut len ∷ acts) synced h p = p.1
   all_held (Found files ∷ acts) synced h p = p.1
   all_held (Read place bytes ∷ acts) synced h p = all_held acts synced h p
+  all_held (Unsynced ∷ acts) synced h p = all_held acts synced h p
 
   same_all : (synced h : List Event) → synced ≡ h → IsPrefixWith synced h h
   same_all synced h e = record { more = []; lost = []; least = sym e ∙ sym (append-nil synced); split = sym (append-nil h) }
@@ -236,6 +237,7 @@ module _ (queue : LogQueue) (version : Version) where
   all_front (Cut len ∷ acts) synced h p = all_front acts synced h p.0
   all_front (Found files ∷ acts) synced h p = same_all synced h p.0
   all_front (Read place bytes ∷ acts) synced h p = all_front acts synced h p
+  all_front (Unsynced ∷ acts) synced h p = all_front acts synced h p
 
   -- what is a prefix of the batches before is one of all
   prefix_before : (synced old more h : List Event) (files : List NumberedBytes) → h ≡ old ++ more → HoldPrefixWith queue version synced old files → HoldPrefixWith queue version synced h files
@@ -287,6 +289,7 @@ module _ (queue : LogQueue) (version : Version) where
   prefix_left (Found found ∷ acts) synced h files p s =
       all_left synced h files (same_all synced h p.0) (subst (λ (fs : List NumberedBytes). FilesHoldTorn queue version fs h) (sym s) p.1)
   prefix_left (Read place bytes ∷ acts) synced h files p s = prefix_left acts synced h files p s
+  prefix_left (Unsynced ∷ acts) synced h files p s = prefix_left acts synced h files p s
 
   pub synced_left : (acts : List Act) (synced h : List Event) (files : List NumberedBytes) → ArePutWhole queue version acts synced h → MayStand (Sync ∷ acts) files → FilesHold queue version files h
   synced_left acts synced h files p s = subst (λ (fs : List NumberedBytes). FilesHold queue version fs h) (sym s) p.whole

@@ -5,7 +5,7 @@ use Rattle.raft_base.specs.declared.entry_index.EntryIndex.{EntryIndex}
 use Rattle.raft_base.specs.declared.pipe_log.FileBlockHandle.{FileBlockHandle}
 use Rattle.raft_base.specs.declared.pipe_log.LogQueue.{LogQueue}
 use Rattle.raft_base.specs.declared.pipe_log.LogQueue.TheVariants.{Append, Rewrite}
-use Rattle.raft_files.specs.Asks.{Act, Ask, Begin, Cut, Delete, Found, Put, Read, Sync, acts_on, ask, is_same_queue}
+use Rattle.raft_files.specs.Asks.{Act, Ask, Begin, Cut, Delete, Found, Put, Read, Sync, Unsynced, acts_on, ask, is_same_queue}
 use Rattle.raft_engine_prefixes.specs.Contents.{AreBothTold, AreToldByReads, ReadEntryIsTold, TellSoundContents}
 
 contains_cases : {X : Type 0} (x z : X) (xs : List X) (k : ℕ) → k < length (x ∷ xs) → get_or (x ∷ xs) k z ≡ z → (x ≡ z) ⊎ Contains xs z
@@ -40,6 +40,7 @@ read_tells (act ∷ acts) place block content c t = at (contains_cases act (Read
     earlier (Put bytes) t = t
     earlier (Begin seq) t = t
     earlier Sync t = t
+    earlier Unsynced t = t
     earlier Delete t = t
     earlier (Cut len) t = t
     earlier (Found files) t = t

@@ -5,7 +5,7 @@ use Rattle.std.proofs.lemmas.List.{take_all, drop_all, take-append-drop, take-ap
 use Rattle.raft_base.specs.declared.pipe_log.LogQueue.{LogQueue}
 use Rattle.raft_base.specs.declared.pipe_log.Version.{Version}
 use Rattle.raft_history.specs.Batches.{Event}
-use Rattle.raft_files.specs.Asks.{Act, Put, Begin, Sync, Delete, Cut, Found, Read, Ask, acts_on}
+use Rattle.raft_files.specs.Asks.{Act, Put, Begin, Sync, Unsynced, Delete, Cut, Found, Read, Ask, acts_on}
 use Rattle.raft_files.specs.Disk.{NumberedBytes, on_last, begun, deletions, files_of, IsLeftOf, MayStand}
 use Rattle.raft_files.proofs.HeldLemmas.{length_on_last}
 use Rattle.raft_replay.specs.Segments.{AreHeldInTurn, HoldsFrom}
@@ -44,6 +44,7 @@ oldest_stand (Cut len ∷ acts) files n s lt =
     elim s [ inl before ↦ oldest_stand acts files n before few ∙ sym (take_on_last (λ (b : List ℕ). take len b) n (begun acts) few) | inr is ↦ ap (take n) is ]
 oldest_stand (Found found ∷ acts) files n s lt = ap (take n) s
 oldest_stand (Read place bytes ∷ acts) files n s lt = oldest_stand acts files n s lt
+oldest_stand (Unsynced ∷ acts) files n s lt = oldest_stand acts files n s lt
 
 -- the files hold a prefix of the batches without those of so many oldest files
 pub record RestBehind (queue : LogQueue) (version : Version) (acts : List Act) (synced h : List Event) (files : List NumberedBytes) (gone : ℕ) : Type 0 where

@@ -6,7 +6,7 @@ use Rattle.raft_base.specs.declared.pipe_log.LogQueue.{LogQueue}
 use Rattle.raft_base.specs.declared.pipe_log.Version.{Version}
 use Rattle.raft_history.specs.Batches.{Event}
 use Rattle.raft_records.specs.LogBatch.{log_batch_bytes}
-use Rattle.raft_files.specs.Asks.{Act, Put, Begin, Sync, Delete, Cut, Found, Read}
+use Rattle.raft_files.specs.Asks.{Act, Put, Begin, Sync, Unsynced, Delete, Cut, Found, Read}
 use Rattle.raft_files.specs.Disk.{NumberedBytes, put_behind, cut_last, begun}
 use Rattle.raft_replay.specs.WrittenParts.{written_event}
 use Rattle.raft_recover.specs.Files.{FilesHold, whole_file}
@@ -54,6 +54,9 @@ module _ (queue : LogQueue) (version : Version) (acts : List Act) (synced h : Li
 pub read_one : (queue : LogQueue) (version : Version) (acts : List Act) (synced h : List Event) (place : FileBlockHandle) (bytes : List ℕ) → ArePut queue version acts synced h → ArePut queue version (Read place bytes ∷ acts) synced h
 read_one queue version acts synced h place bytes p = p
 
+pub unsynced_one : (queue : LogQueue) (version : Version) (acts : List Act) (synced h : List Event) → ArePut queue version acts synced h → ArePut queue version (Unsynced ∷ acts) synced h
+unsynced_one queue version acts synced h p = p
+
 module _ (queue : LogQueue) (version : Version) where
   one_all : (acts : List Act) (synced synced' h h' : List Event) → ArePut queue version acts synced h → ArePut queue version acts synced' h' → h ≡ h'
   one_all acts synced synced' h h' p q = one_reading queue version (begun acts) h h' (all_held queue version acts synced h p) (all_held queue version acts synced' h' q)
@@ -67,6 +70,7 @@ module _ (queue : LogQueue) (version : Version) where
   one_synced (Cut len ∷ acts) synced synced' h h' p q = one_synced acts synced synced' h h' p.0 q.0
   one_synced (Found files ∷ acts) synced synced' h h' p q = p.0 ∙ one_all (Found files ∷ acts) synced synced' h h' p q ∙ sym q.0
   one_synced (Read place bytes ∷ acts) synced synced' h h' p q = one_synced acts synced synced' h h' p q
+  one_synced (Unsynced ∷ acts) synced synced' h h' p q = one_synced acts synced synced' h h' p q
 
   pub one_history : (acts : List Act) (synced synced' h h' : List Event) → ArePut queue version acts synced h → ArePut queue version acts synced' h' → (synced ≡ synced') × (h ≡ h')
   one_history acts synced synced' h h' p q = (one_synced acts synced synced' h h' p q, one_all acts synced synced' h h' p q)

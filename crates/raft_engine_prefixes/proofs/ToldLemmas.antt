@@ -11,7 +11,7 @@ use Rattle.raft_records.specs.Entries.{with_lengths}
 use Rattle.raft_records.specs.Item.{Item}
 use Rattle.raft_records.specs.ItemBatch.{checksum_bytes, with_offsets_from}
 use Rattle.raft_records.specs.LogBatch.{entry_block, entry_place, log_batch_bytes}
-use Rattle.raft_files.specs.Asks.{Act, Put, Begin, Sync, Delete, Cut, Found, Read, Ask, ask, acts_on}
+use Rattle.raft_files.specs.Asks.{Act, Put, Begin, Sync, Unsynced, Delete, Cut, Found, Read, Ask, ask, acts_on}
 use Rattle.raft_files.specs.Disk.{NumberedBytes, begun, put_behind}
 use Rattle.raft_files.specs.Places.{bytes_at}
 use Rattle.raft_engine_laws.specs.Contents.{bytes_of, HaveBytes}
@@ -44,6 +44,7 @@ module _ (content : EntryIndex → List ℕ) where
   reads_before acts (Put bytes) r = r
   reads_before acts (Begin seq) r = r
   reads_before acts Sync r = r
+  reads_before acts Unsynced r = r
   reads_before acts Delete r = r
   reads_before acts (Cut len) r = r
   reads_before acts (Found files) r = r
@@ -93,6 +94,7 @@ module _ (asks : List Ask) where
   reads_told queue (Put bytes ∷ acts) r = reads_told queue acts r
   reads_told queue (Begin seq ∷ acts) r = reads_told queue acts r
   reads_told queue (Sync ∷ acts) r = reads_told queue acts r
+  reads_told queue (Unsynced ∷ acts) r = reads_told queue acts r
   reads_told queue (Delete ∷ acts) r = reads_told queue acts r
   reads_told queue (Cut len ∷ acts) r = reads_told queue acts r
   reads_told queue (Found files ∷ acts) r = reads_told queue acts r

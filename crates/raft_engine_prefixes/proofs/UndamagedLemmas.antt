@@ -6,7 +6,7 @@ use Rattle.raft_base.specs.declared.pipe_log.LogQueue.{LogQueue}
 use Rattle.raft_base.specs.declared.pipe_log.Version.{Version}
 use Rattle.raft_records.specs.FilePart.{Part, StandBetween}
 use Rattle.raft_history.specs.Batches.{Event}
-use Rattle.raft_files.specs.Asks.{Act, Ask, Begin, Cut, Delete, Found, Put, Read, Sync, acts_on}
+use Rattle.raft_files.specs.Asks.{Act, Ask, Begin, Cut, Delete, Found, Put, Read, Sync, Unsynced, acts_on}
 use Rattle.raft_files.specs.Disk.{IsLeftOf, MayStand, NumberedBytes, begun, put_behind}
 use Rattle.raft_files.proofs.HeldLemmas.{length_on_last}
 use Rattle.raft_replay.specs.Cuts.{bytes_before}
@@ -101,6 +101,7 @@ module _ (queue : LogQueue) (version : Version) where
   whole_stands (Cut len ∷ acts) = inr refl
   whole_stands (Found files ∷ acts) = refl
   whole_stands (Read place bytes ∷ acts) = whole_stands acts
+  whole_stands (Unsynced ∷ acts) = whole_stands acts
 
   pub nothing_damaged : NoneIsDamaged queue version []
   nothing_damaged found files stands = subst (AreUndamaged queue version) (sym stands) none_undamaged
@@ -122,6 +123,9 @@ module _ (queue : LogQueue) (version : Version) where
 
       pub read_undamaged : (place : FileBlockHandle) (bytes : List ℕ) → NoneIsDamaged queue version (Read place bytes ∷ acts)
       read_undamaged place bytes found standing stands = none found standing stands
+
+      pub unsynced_undamaged : NoneIsDamaged queue version (Unsynced ∷ acts)
+      unsynced_undamaged found standing stands = none found standing stands
 
       pub cut_undamaged : (len : ℕ) (h : List Event) → FilesHold queue version (begun (Cut len ∷ acts)) h → NoneIsDamaged queue version (Cut len ∷ acts)
       cut_undamaged len h held found standing (inl before) = none found standing before

@@ -8,7 +8,7 @@ use Rattle.raft_records.specs.Item.{Item, AreInBytes}
 use Rattle.raft_records.specs.LogBatch.{IsBatchOf, encoded_length, log_batch_bytes}
 use Rattle.raft_records.specs.Range.{AreInRange}
 use Rattle.raft_history.specs.Batches.{Event}
-use Rattle.raft_files.specs.Asks.{Act, Put, Begin, Sync, Delete, Cut, Found, Read, Ask, acts_on}
+use Rattle.raft_files.specs.Asks.{Act, Put, Begin, Sync, Unsynced, Delete, Cut, Found, Read, Ask, acts_on}
 use Rattle.raft_files.specs.Disk.{NumberedBytes, cut_last, begun, deletions, synced_deletions}
 use Rattle.raft_records.specs.FilePart.{Part, StandBetween}
 use Rattle.raft_replay.specs.Cuts.{bytes_before}
@@ -46,7 +46,7 @@ pub record AreMorePut (queue : LogQueue) (version : Version) (bytes : List ℕ) 
 
 -- The batches that the acts of a queue put, newest act first: those that are synced, and all. Bytes are put, and files
 -- begun, behind whole batches alone, and what is cut off is of no batch. At a sync and a new file this counts what the
--- files hold by then, however it came there, and so it does where files are found. A read puts nothing.
+-- files hold by then, however it came there, and so it does where files are found. A read puts nothing, nor does a failed sync.
 abbrev pub ArePut : LogQueue → Version → List Act → List Event → List Event → Type 0
 ArePut queue version [] synced h = (synced ≡ []) × (h ≡ [])
 ArePut queue version (Put bytes ∷ earlier) synced h = AreMorePut queue version bytes (begun earlier) (λ old. ArePut queue version earlier synced old) h
@@ -56,6 +56,7 @@ ArePut queue version (Delete ∷ earlier) synced h = ArePut queue version earlie
 ArePut queue version (Cut len ∷ earlier) synced h = ArePut queue version earlier synced h × FilesHoldTorn queue version (cut_last len (begun earlier)) h
 ArePut queue version (Found files ∷ earlier) synced h = (synced ≡ h) × FilesHoldTorn queue version files h
 ArePut queue version (Read place bytes ∷ earlier) synced h = ArePut queue version earlier synced h
+ArePut queue version (Unsynced ∷ earlier) synced h = ArePut queue version earlier synced h
 
 -- the same, and the files end where these batches do
 pub record ArePutWhole (queue : LogQueue) (version : Version) (acts : List Act) (synced h : List Event) : Type 0 where

@@ -8,7 +8,7 @@ ghost use Rattle.raft_base.specs.declared.pipe_log.LogQueue.TheVariants.{Append,
 ghost use Rattle.raft_base.specs.declared.pipe_log.Version.{Version};
 ghost use Rattle.raft_history.specs.Batches.{Event};
 ghost use Rattle.raft_history.specs.RegionSteps.{RegionStep, Tables};
-ghost use Rattle.raft_files.specs.Asks.{Act, Ask, Begin, Cut, Delete, Found, Read, Sync, acts_on};
+ghost use Rattle.raft_files.specs.Asks.{Act, Ask, Begin, Cut, Delete, Found, Read, Sync, Unsynced, acts_on};
 ghost use Rattle.raft_files.specs.Disk.{NumberedBytes, begun, deletions, IsLeftOf};
 ghost use Rattle.raft_engine_laws.specs.Records.{Records};
 ghost use Rattle.raft_engine_laws.specs.Crashes as queue_deeds;
@@ -21,7 +21,7 @@ ghost use Rattle.raft_engine_prefixes.specs.Done.{AreDone, AreDoneWhole, AreCons
 /// if all is synced, and its number is above the last one's and not among those of deleted files; the deletion of a file
 /// that isn't the last deletes the files below a number, above its own and up to that of the next one; files that are
 /// found when the machine starts, with or without a torn tail, are those of a crash; where a reader stops in the last file, a
-/// torn tail may be cut off; and a read does nothing. A batch in the last file is one that may be written next.
+/// torn tail may be cut off; and a read does nothing, nor does a sync that fails. A batch in the last file is one that may be written next.
 pub fn asks_do_deeds()
     ensures none { (queue : LogQueue) (version : Version) → AreDoneWhole queue version [] [] }
     ensures written { WrittenBatchIsDone }
@@ -52,6 +52,10 @@ pub fn asks_do_deeds()
         (bytes : List ℕ) → AreDone queue version acts deeds → AreDone queue version (Read place bytes ∷ acts) deeds }
     ensures read_whole { (queue : LogQueue) (version : Version) (acts : List Act) (deeds : List Deed) (place : FileBlockHandle)
         (bytes : List ℕ) → AreDoneWhole queue version acts deeds → AreDoneWhole queue version (Read place bytes ∷ acts) deeds }
+    ensures unsynced { (queue : LogQueue) (version : Version) (acts : List Act) (deeds : List Deed)
+        → AreDone queue version acts deeds → AreDone queue version (Unsynced ∷ acts) deeds }
+    ensures unsynced_whole { (queue : LogQueue) (version : Version) (acts : List Act) (deeds : List Deed)
+        → AreDoneWhole queue version acts deeds → AreDoneWhole queue version (Unsynced ∷ acts) deeds }
     ensures next { LastFileIsNext }
 {}
 

@@ -6,7 +6,7 @@ ghost use Rattle.raft_base.specs.declared.pipe_log.FileBlockHandle.{FileBlockHan
 ghost use Rattle.raft_base.specs.declared.pipe_log.LogQueue.{LogQueue};
 ghost use Rattle.raft_base.specs.declared.pipe_log.Version.{Version};
 ghost use Rattle.raft_history.specs.Batches.{Event};
-ghost use Rattle.raft_files.specs.Asks.{Act, Ask, Begin, Cut, Delete, Found, Read, Sync, acts_on};
+ghost use Rattle.raft_files.specs.Asks.{Act, Ask, Begin, Cut, Delete, Found, Read, Sync, Unsynced, acts_on};
 ghost use Rattle.raft_files.specs.Disk.{NumberedBytes, begun, deletions, files_of, IsLeftOf, MayStand};
 ghost use Rattle.raft_replay.specs.Segments.{AreHeldInTurn};
 ghost use Rattle.raft_recover.specs.Files.{FilesHold, whole_file};
@@ -16,7 +16,7 @@ ghost use Rattle.raft_engine_prefixes.specs.Prefixes.{ArePut, ArePutWhole, HoldP
 /// States what each ask makes of the batches that were put: before the first there is none; a written batch that is put
 /// is one more; a sync, a new file
 /// and files that are found make all of them synced; where a reader stops in the last file, the torn tail may be cut
-/// off. A deletion is counted elsewhere, and a read puts nothing. Asks put one history, and sync one prefix of it.
+/// off. A deletion is counted elsewhere, and a read puts nothing, nor does a sync that fails. Asks put one history, and sync one prefix of it.
 pub fn asks_put_batches()
     ensures nothing { (queue : LogQueue) (version : Version) → ArePutWhole queue version [] [] [] }
     ensures written { WrittenBatchIsPut }
@@ -36,6 +36,8 @@ pub fn asks_put_batches()
         → ArePutWhole queue version acts synced h → ArePutWhole queue version (Delete ∷ acts) synced h }
     ensures read { (queue : LogQueue) (version : Version) (acts : List Act) (synced h : List Event) (place : FileBlockHandle)
         (bytes : List ℕ) → ArePut queue version acts synced h → ArePut queue version (Read place bytes ∷ acts) synced h }
+    ensures unsynced { (queue : LogQueue) (version : Version) (acts : List Act) (synced h : List Event)
+        → ArePut queue version acts synced h → ArePut queue version (Unsynced ∷ acts) synced h }
     ensures one_history { (queue : LogQueue) (version : Version) (acts : List Act)
         (synced synced' h h' : List Event) → ArePut queue version acts synced h
         → ArePut queue version acts synced' h' → (synced ≡ synced') × (h ≡ h') }

@@ -28,7 +28,7 @@ unfoldable pub use Rattle.raft_table.specs.TableEntries.{placed_in}
 pub use Rattle.raft_ffi.specs.Words.{Accessor, AllByRecursion, AllHold, Appending, AreAcceptedOncePlaced, AreBatchesUpTo, AreInKeyOrder, AreItemsRefused, ArePairsIn, AreRewritesUnpurged, AreScanned, AreScannedIn, AreTablesOf, AreUngroupedAs}
 pub use Rattle.raft_ffi.specs.Words.{AreUnmovedAgain, AreWritten, Ask, Batch, BothHold, Called, ComparesAs, Drains, EntryIndex, Error, Event, Global, HasRead, HasReadExactly, HasStrings, Holds, IntoIter}
 pub use Rattle.raft_ffi.specs.Words.{IsCodeForBoth, IsCodeOf, IsConsecutive, IsCopied, IsMemoryOr, IsNeighborFault, IsNextFault, IsOfBothExactly, IsOpened, IsPermutation, IsRun, IsShareRefused, IsStoodFor, IsStoppedAt, IsStrictWeakOrder}
-pub use Rattle.raft_ffi.specs.Words.{IsUnopened, IsUnopenedAs, IsUnordered, IsUnpurged, IsUnrewritten, IsUnwritten, Item, KeptEngine, Keys, Lasts, LogItem, Ordering, RecoverContext, RecoveryMode, Rewriting, RisesFrom, Sound, Stored, Version, Writing}
+pub use Rattle.raft_ffi.specs.Words.{HandedFails, IsUnopened, IsUnopenedAs, IsUnpurged, IsUnrewritten, IsUnwritten, Item, KeptEngine, Keys, Lasts, LogItem, Ordering, RecoverContext, RecoveryMode, Rewriting, RisesFrom, Sound, Stored, Version, Writing}
 pub use Rattle.raft_ffi.specs.Words.{Yields, box_owns, bytes_of, code_of, copied_over, entries_from, entry_of, entry_with_index, file_of, found_asks, handle_owned, into_iter_items, into_iter_len, into_iter_steps, is_between}
 pub use Rattle.raft_ffi.specs.Words.{IsReplayedBy, ReaderSeen, size_in}
 pub use Rattle.raft_ffi.specs.Words.{is_lt, item_of, lengths_of, moving_entries, moving_pairs, nat_cmp, number_in, option_copied, pairs_shown, part_of, queue_of, share_of, signature_of, sized_entries, slice_cmp, strings_of, table_of, version_of}

@@ -56,10 +56,6 @@ IsUnwrittenAs sync code batch left old new = BothHold (λ b l. IsCodeOf (IsUnwri
 abbrev pub IsSynced : KeptEngine → KeptEngine → Type 0
 IsSynced old new = new ≡ record old { asks = ask Append Sync ∷ old.asks }
 
--- an engine takes no further call, and is as it was else
-abbrev pub IsStopped : KeptEngine → KeptEngine → Type 0
-IsStopped old new = new ≡ record old { intact = false }
-
 -- a batch was empty, and at most a sync is ordered; or it is written
 abbrev pub IsWrittenOrNone : Bool → Batch → KeptEngine → KeptEngine → Type 0
 IsWrittenOrNone sync batch old new = ((batch.items ≡ []) × IsOnlySynced sync old new) ⊎ IsOneMore sync batch old new

@@ -24,7 +24,7 @@ use Rattle.raft_engine.specs.declared.recovery_mode.RecoveryMode.{RecoveryMode}
 use Rattle.raft_opening.specs.ReadOnce.{IsStandingFor}
 use Rattle.raft_opening.specs.SizedFiles.{IsSizedQueue, IsTailAccepted, size_of}
 use Rattle.raft_opening.specs.declared.sized_files.SizedQueue.{SizedQueue}
-use Rattle.raft_orders.specs.Refusals.{IsUnordered}
+use Rattle.raft_orders.specs.Refusals.{HandedFails}
 use Rattle.raft_ffi.specs.Readers.{ReaderSeen}
 use Rattle.raft_ffi.specs.declared.read_queue.Size.{Size}
 
@@ -113,4 +113,4 @@ pub record IsUnopenedAs (mode : RecoveryMode) (version : Version) (append : List
   pub rewrite_files : List NumberedBytes
   pub read : AreBothReadAs version append append_rest rewrite rewrite_rest appended rewritten append_files rewrite_files
   pub asks : List Ask
-  pub why : IsUnopened (AreUngroupedAs version) (λ _ _. IsUnordered) mode version append_files rewrite_files asks e ⊎ IsReadOnAs e
+  pub why : IsUnopened (AreUngroupedAs version) HandedFails mode version append_files rewrite_files asks e ⊎ IsReadOnAs e

@@ -44,7 +44,7 @@ pub use Rattle.raft_engine.specs.ReadQueues.{HaveBothRead, HaveBothReadExactly}
 pub use Rattle.raft_engine.specs.Rewriting.{moving_entries, moving_pairs}
 pub use Rattle.raft_engine.specs.StoredFound.{found_asks}
 pub use Rattle.raft_engine.specs.Unopened.{AreBothAccepted, AreUngroupedAs, IsOpeningRefusal, IsUnopened}
-pub use Rattle.raft_engine.specs.WrittenBatch.{IsRotated, IsUnrotated, IsUnwritten}
+pub use Rattle.raft_engine.specs.WrittenBatch.{IsRotated, IsUnrotated, IsUnsynced, IsUnwritten}
 pub use Rattle.raft_engine.specs.declared.recovery_mode.RecoveryMode.{RecoveryMode}
 pub use Rattle.raft_files.specs.Asks.{Ask}
 pub use Rattle.raft_history.specs.Batches.{Event}
@@ -52,7 +52,7 @@ pub use Rattle.raft_history.specs.Histories.{Sound}
 pub use Rattle.raft_history.specs.Kept.{kept_of}
 pub use Rattle.raft_prefix.specs.Pieces.{ArePassed}
 pub use Rattle.raft_orders.specs.Orders.{act_of, ask_of, length_put, next_to_do}
-pub use Rattle.raft_orders.specs.Refusals.{IsUnordered}
+pub use Rattle.raft_orders.specs.Refusals.{HandedFails}
 pub use Rattle.raft_records.specs.Entries.{entry_with_index}
 pub use Rattle.raft_records.specs.Faults.{IsAnyCorruption}
 pub use Rattle.raft_records.specs.FilePart.{AreBatchesUpTo, IsNext, IsNextFault, part_of}
@@ -80,7 +80,7 @@ pub use Rattle.raft_ffi.specs.Calls.{queue_of, version_of}
 pub use Rattle.raft_ffi.specs.Changes.{AreAllOrSomeWritten, AreAppended, AreDropped, AreMergedOrLeft, AreRewritten, AreUnappended, AreUnrewritten, IsChangeOr, IsChangedTo, IsCompacted, IsDeleted, IsGroupSet, IsKeyRewritten}
 pub use Rattle.raft_ffi.specs.Changes.{IsKeyUnrewritten, IsMemoryOr, IsPut, IsRemoved, IsStoppedAt, IsTruncated, IsUnput, no_tables, without_cleaned}
 pub use Rattle.raft_ffi.specs.Contexts.{AreOfTwoQueues, AreTablesOf, AreUnsound, HasBothRead, HasTablesRead, IsOfFailed, IsOverlaidExactly, StandsForBoth, StandsForBothExactly}
-pub use Rattle.raft_ffi.specs.Engines.{AreTailsIn, IsStopped, IsSynced, IsTailIn, IsUnwrittenAs, IsWrittenOrNone, Lasts, act_of_kind, ask_in, mode_of}
+pub use Rattle.raft_ffi.specs.Engines.{AreTailsIn, IsSynced, IsTailIn, IsUnwrittenAs, IsWrittenOrNone, Lasts, act_of_kind, ask_in, mode_of}
 pub use Rattle.raft_ffi.specs.EntryData.{entry_of}
 pub use Rattle.raft_ffi.specs.Handles.{handle_owned}
 pub use Rattle.raft_ffi.specs.ItemLists.{IsHeadOf, entries_at, key_at, kind_of, number_of, value_at}

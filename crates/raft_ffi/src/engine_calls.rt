@@ -2,7 +2,7 @@
 
 ghost use Rattle.std.specs.Prelude.{◌≡◌, ◌≢◌, true, false, Some, None, IsTrue, is_some, IfOk};
 ghost use Rattle.raft_ffi.specs.Words.{AllHold, AreAcceptedOncePlaced, ArePurged, AreRewritesPurged, AreRewritesUnpurged, AreSomeReadAs, BothHold, HasText, Holds, IsCodeForBoth, IsCodeOf, IsOpenedAs, IsRead, IsRotated};
-ghost use Rattle.raft_ffi.specs.Words.{AreTailsIn, IsStopped, IsSynced, IsUnopenedAs, IsUnpurged, IsUnrotated, IsUnwrittenAs, IsWrittenOrNone, empty_batch, is_open, mode_of, version_of};
+ghost use Rattle.raft_ffi.specs.Words.{AreTailsIn, IsSynced, IsUnopenedAs, IsUnpurged, IsUnrotated, IsUnsynced, IsUnwrittenAs, IsWrittenOrNone, empty_batch, is_open, mode_of, version_of};
 
 use crate::handles::{Batch, Engine, Handle, Reader, told, with};
 use crate::held_engine::HeldEngine;
@@ -132,7 +132,7 @@ pub extern "C" fn raft_ffi_engine_sync(
     requires held { IsTrue (is_some engine.old.value) }
     ensures ok { result.code ≡ 0 → BothHold IsSynced engine.old.value engine.new.value }
     ensures accepted { result.code ≡ 0 → Holds (λ e. e.intact ≡ true) engine.old.value }
-    ensures err { result.code ≢ 0 → BothHold IsStopped engine.old.value engine.new.value }
+    ensures err { result.code ≢ 0 → BothHold IsUnsynced engine.old.value engine.new.value }
     ensures fault { result.code ≢ 0 → Holds (λ e. e.intact ≡ false → result.code ≡ 12) engine.old.value }
     ensures text { HasText result text.old text.new }
 {

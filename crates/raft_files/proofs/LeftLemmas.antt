@@ -3,7 +3,7 @@ use Rattle.std.proofs.Common.{◌≡◌, ℕ, ◌≤◌, List, [], ◌∷◌, dr
 use Rattle.raft_base.specs.declared.pipe_log.FileBlockHandle.{FileBlockHandle}
 use Rattle.raft_base.specs.declared.pipe_log.LogQueue.{LogQueue}
 use Rattle.raft_base.specs.declared.pipe_log.LogQueue.TheVariants.{Append, Rewrite}
-use Rattle.raft_files.specs.Asks.{Act, Put, Begin, Sync, Delete, Cut, Found, Read, Ask, ask, acts_on}
+use Rattle.raft_files.specs.Asks.{Act, Put, Begin, Sync, Unsynced, Delete, Cut, Found, Read, Ask, ask, acts_on}
 use Rattle.raft_files.specs.Disk.{NumberedBytes, begun, deletions, synced_deletions, files_of, MayStand, IsLeftOf}
 
 all_stand : (acts : List Act) → MayStand acts (begun acts)
@@ -15,6 +15,7 @@ all_stand (Delete ∷ acts) = all_stand acts
 all_stand (Cut len ∷ acts) = inr refl
 all_stand (Found files ∷ acts) = refl
 all_stand (Read place bytes ∷ acts) = all_stand acts
+all_stand (Unsynced ∷ acts) = all_stand acts
 
 fewer : (acts : List Act) → synced_deletions acts ≤ deletions acts
 fewer [] = omega arith
@@ -25,6 +26,7 @@ fewer (Delete ∷ acts) = let le : synced_deletions acts ≤ deletions acts = fe
 fewer (Cut len ∷ acts) = fewer acts
 fewer (Found files ∷ acts) = omega arith
 fewer (Read place bytes ∷ acts) = fewer acts
+fewer (Unsynced ∷ acts) = fewer acts
 
 pub whole_left : (queue : LogQueue) (asked : List Ask) → IsLeftOf queue asked (files_of queue asked)
 whole_left queue asked = record {
@@ -66,6 +68,10 @@ of_read Rewrite Rewrite asked place bytes files l = record { standing = l.standi
 
 pub read_left : (queue : LogQueue) (asked : List Ask) (place : FileBlockHandle) (bytes : List ℕ) (files : List NumberedBytes) → IsLeftOf queue (ask place.id.queue (Read place bytes) ∷ asked) files → IsLeftOf queue asked files
 read_left queue asked place bytes files l = of_read queue place.id.queue asked place bytes files l
+
+pub unsynced_left : (queue : LogQueue) (asked : List Ask) (files : List NumberedBytes) → IsLeftOf queue (ask queue Unsynced ∷ asked) files → IsLeftOf queue asked files
+unsynced_left Append asked files l = record { standing = l.standing; stands = l.stands; gone = l.gone; at_least = l.at_least; at_most = l.at_most; left = l.left }
+unsynced_left Rewrite asked files l = record { standing = l.standing; stands = l.stands; gone = l.gone; at_least = l.at_least; at_most = l.at_most; left = l.left }
 
 pub other_left : (queue other : LogQueue) (asked : List Ask) (act : Act) (files : List NumberedBytes) → acts_on queue (ask other act ∷ asked) ≡ acts_on queue asked → IsLeftOf queue (ask other act ∷ asked) files → IsLeftOf queue asked files
 other_left queue other asked act files e l = record {

@@ -2,10 +2,11 @@
 -- writes in order: of what wasn't synced a prefix stands (`MayStand`, `IsLeftOf`). The other writes pages, and the lengths of
 -- files, in any order: behind the synced bytes any bytes may stand, and so they may behind a cut that wasn't synced
 -- (`MayStandUnordered`, `IsLeftUnordered`). On both what was synced stands. On the first a cut that wasn't synced may be undone,
--- but not where bytes stand that were put after it.
+-- but not where bytes stand that were put after it. A sync that failed changes nothing of what may be left; but all of this is
+-- said of what is to be trusted alone (`IsTrusted`): behind a failed sync nothing is known of what else is asked but reads.
 use Rattle.std.specs.Prelude.{◌≡◌, ◌⊎◌, ℕ, suc, ◌≤◌, List, [], ◌∷◌, ◌++◌, take, drop}
 use Rattle.raft_base.specs.declared.pipe_log.LogQueue.{LogQueue}
-use Rattle.raft_files.specs.Asks.{Act, Put, Begin, Sync, Delete, Cut, Found, Read, Ask, acts_on}
+use Rattle.raft_files.specs.Asks.{Act, Put, Begin, Sync, Unsynced, Delete, Cut, Found, Read, Ask, acts_on}
 pub use Rattle.raft_files.specs.Asks.{NumberedBytes}
 
 -- the files with the last one's bytes changed so
@@ -32,6 +33,7 @@ begun (Delete ∷ earlier) = begun earlier
 begun (Cut len ∷ earlier) = cut_last len (begun earlier)
 begun (Found files ∷ earlier) = files
 begun (Read place bytes ∷ earlier) = begun earlier
+begun (Unsynced ∷ earlier) = begun earlier
 
 -- how many deletions were asked since the machine started
 abbrev pub deletions : List Act → ℕ
@@ -70,6 +72,7 @@ MayStand (Delete ∷ earlier) files = MayStand earlier files
 MayStand (Cut len ∷ earlier) files = MayStand earlier files ⊎ (files ≡ cut_last len (begun earlier))
 MayStand (Found found ∷ earlier) files = files ≡ found
 MayStand (Read place bytes ∷ earlier) files = MayStand earlier files
+MayStand (Unsynced ∷ earlier) files = MayStand earlier files
 
 -- the files of a queue that may be left when the machine crashes after all this was asked: what may stand, without the oldest files; at least those are gone whose deletion was synced, at most those whose deletion was asked. What is left of one queue says nothing of the other
 pub record IsLeftOf (queue : LogQueue) (asked : List Ask) (files : List NumberedBytes) : Type 0 where
@@ -92,6 +95,7 @@ synced_files (Delete ∷ earlier) = synced_files earlier
 synced_files (Cut len ∷ earlier) = cut_last len (synced_files earlier)
 synced_files (Found files ∷ earlier) = files
 synced_files (Read place bytes ∷ earlier) = synced_files earlier
+synced_files (Unsynced ∷ earlier) = synced_files earlier
 
 -- any bytes, of any number, stand behind those of the last file
 pub record IsAnyPut (old new : List NumberedBytes) : Type 0 where
@@ -110,6 +114,7 @@ MayStandUnordered (Delete ∷ earlier) files = MayStandUnordered earlier files
 MayStandUnordered (Cut len ∷ earlier) files = MayStandUnordered earlier files ⊎ IsAnyPut (cut_last len (synced_files earlier)) files
 MayStandUnordered (Found found ∷ earlier) files = files ≡ found
 MayStandUnordered (Read place bytes ∷ earlier) files = MayStandUnordered earlier files
+MayStandUnordered (Unsynced ∷ earlier) files = MayStandUnordered earlier files
 
 -- the files of a queue that such a disk may leave: what may stand so, without the oldest files, as in `IsLeftOf`
 pub record IsLeftUnordered (queue : LogQueue) (asked : List Ask) (files : List NumberedBytes) : Type 0 where

@@ -3,7 +3,7 @@ use Rattle.std.specs.Prelude.{ℕ, zero, suc, List, slice_index}
 use Rattle.raft_base.specs.declared.pipe_log.FileBlockHandle.{FileBlockHandle}
 use Rattle.raft_base.specs.declared.pipe_log.LogQueue.{LogQueue}
 use Rattle.raft_base.specs.declared.pipe_log.LogQueue.TheVariants.{Append, Rewrite}
-use Rattle.raft_files.specs.Asks.{NumberedBytes, Act, Put, Begin, Sync, Delete, Cut, Found, Read, Ask, ask}
+use Rattle.raft_files.specs.Asks.{NumberedBytes, Act, Put, Begin, Sync, Unsynced, Delete, Cut, Found, Read, Ask, ask}
 
 -- the queue that a number notes
 abbrev pub queue_noted : ℕ → LogQueue
@@ -25,7 +25,8 @@ act_noted (suc zero) numbers bytes = Begin (slice_index numbers 2)
 act_noted (suc (suc zero)) numbers bytes = Sync
 act_noted (suc (suc (suc zero))) numbers bytes = Delete
 act_noted (suc (suc (suc (suc zero)))) numbers bytes = Cut (slice_index numbers 2)
-act_noted (suc (suc (suc (suc (suc kind))))) numbers bytes = Read (place_noted numbers) bytes
+act_noted (suc (suc (suc (suc (suc zero))))) numbers bytes = Read (place_noted numbers) bytes
+act_noted (suc (suc (suc (suc (suc (suc kind)))))) numbers bytes = Unsynced
 
 -- the ask that numbers and bytes note: its queue, its kind, and a number or a place
 abbrev pub ask_noted : List ℕ → List ℕ → Ask

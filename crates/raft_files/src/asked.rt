@@ -4,7 +4,7 @@ ghost use Rattle.std.specs.Borrow.{ftrue};
 ghost use Rattle.std.specs.Coded.{coded_list};
 ghost use Rattle.raft_files.specs.AskCode.{ask_code};
 ghost use Rattle.raft_base.specs.declared.pipe_log.LogQueue.TheVariants.{Append, Rewrite};
-ghost use Rattle.raft_files.specs.Asks.{Ask, NumberedBytes, Begin, Cut, Delete, Found, IsAsked, Put, Read, Sync, ask};
+ghost use Rattle.raft_files.specs.Asks.{Ask, NumberedBytes, Begin, Cut, Delete, Found, IsAsked, Put, Read, Sync, Unsynced, ask};
 ghost use Rattle.raft_files.specs.HeldFiles.{file_shown};
 ghost use Rattle.raft_files.specs.Notes.{ask_noted, found_noted, queue_noted};
 
@@ -23,6 +23,8 @@ const DELETE: u64 = 3;
 const CUT: u64 = 4;
 
 const READ: u64 = 5;
+
+const UNSYNCED: u64 = 6;
 
 /// What was asked of files, newest first. It has no bytes when a program runs: whoever implements
 /// [`EngineFiles`](crate::EngineFiles) over files whose contents no contract tells keeps one, and notes each ask.
@@ -65,6 +67,13 @@ impl Asked {
         ensures { IsAsked (ask queue Sync) self.old.asks self.new.asks }
     {
         self.note(&[number_of(queue), SYNC, 0], &[]);
+    }
+
+    /// Notes that a sync failed.
+    pub fn unsynced(&mut self, queue: LogQueue)
+        ensures { IsAsked (ask queue Unsynced) self.old.asks self.new.asks }
+    {
+        self.note(&[number_of(queue), UNSYNCED, 0], &[]);
     }
 
     /// Notes that the oldest file was deleted.

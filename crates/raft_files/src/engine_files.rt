@@ -1,8 +1,8 @@
 //! The files that an engine writes.
 
-ghost use Rattle.std.specs.Prelude.{◌≡◌, List, IfErr, IfOk, OnOk, OnErr};
+ghost use Rattle.std.specs.Prelude.{◌≡◌, [], List, IfErr, IfOk, OnOk, OnErr};
 ghost use Rattle.raft_base.specs.declared.errors.Error.{Error};
-ghost use Rattle.raft_files.specs.Asks.{Ask, Begin, Cut, Delete, IsAsked, MayBeAsked, Put, Read, Sync, ask};
+ghost use Rattle.raft_files.specs.Asks.{Ask, Begin, Cut, Delete, IsAsked, MayBeAsked, Put, Read, Sync, Unsynced, ask};
 
 use raft_base::{FileBlockHandle, FileSeq, LogQueue, Result};
 
@@ -20,9 +20,10 @@ use raft_base::{FileBlockHandle, FileSeq, LogQueue, Result};
 ///   `truncate` is enough.
 /// - Files that are deleted go in the order in which that was asked, so that no crash leaves an older file where a younger one
 ///   is gone.
-/// - After a call that failed half way either the bytes are as before, or every later call but `read` fails. After a sync that
-///   failed no later one can be believed: a system may take bytes for synced that it has dropped. So the machine is started
-///   again before such files are found.
+/// - After a call that failed half way either the bytes are as before, or every later call but `read` fails.
+/// - A sync that failed, once it has begun, is noted ([`Asked::unsynced`](crate::Asked::unsynced)). A system may take bytes for
+///   synced then that it has dropped, and so nothing is said of a disk of which more than reads is asked after that: who asks
+///   more is on his own. An engine doesn't. The machine is started again before such files are found.
 /// - `read` returns the bytes that were put at the place, or bytes that are no sound block of entries, or an `Err`.
 /// - One over a folder that has files already syncs each of them, and the folder, before it hands them out, and notes them
 ///   ([`Asked::found`](crate::Asked::found)) before all else: no other act of a queue comes before its found files.
@@ -47,10 +48,10 @@ pub trait EngineFiles {
         ensures fault { IfErr result (may_fail (asked self.old) (ask queue (Begin seq))) };
 
     /// Makes all that was asked of the queue so far outlast a crash. An `Err` promises nothing, and
-    /// notes no sync.
+    /// notes that the sync failed, or nothing where none was begun.
     fn sync(&mut self, queue: LogQueue) -> Result<()>
         ensures ok { OnOk result (IsAsked (ask queue Sync) (asked self.old) (asked self.new)) }
-        ensures err { OnErr result (asked self.new ≡ asked self.old) }
+        ensures err { OnErr result (MayBeAsked (ask queue Unsynced) (asked self.old) (asked self.new)) }
         ensures fault { IfErr result (may_fail (asked self.old) (ask queue Sync)) };
 
     /// Deletes the queue's oldest file. After an `Err` it may be gone or not.
@@ -67,9 +68,10 @@ pub trait EngineFiles {
         ensures fault { IfErr result (may_fail (asked self.old) (ask queue (Cut len))) };
 
     /// Returns the bytes at a place. That these are the ones that were put there is no clause: what
-    /// was read is noted. An `Err` changes nothing.
+    /// was read is noted. An `Err` changes nothing; with which it fails is said of a read without bytes.
     fn read(&mut self, place: FileBlockHandle) -> Result<Vec<u8>>
         ensures ok { IfOk result (λ bytes. IsAsked (ask place.id.queue (Read place bytes.items))
             (asked self.old) (asked self.new)) }
-        ensures err { OnErr result (asked self.new ≡ asked self.old) };
+        ensures err { OnErr result (asked self.new ≡ asked self.old) }
+        ensures fault { IfErr result (may_fail (asked self.old) (ask place.id.queue (Read place []))) };
 }

@@ -4,12 +4,12 @@ ghost use Rattle.std.specs.Prelude.{◌≡◌, List, ◌∷◌, ℕ};
 ghost use Rattle.raft_base.specs.declared.pipe_log.FileBlockHandle.{FileBlockHandle};
 ghost use Rattle.raft_base.specs.declared.pipe_log.LogQueue.{LogQueue};
 ghost use Rattle.raft_base.specs.declared.pipe_log.LogQueue.TheVariants.{Append, Rewrite};
-ghost use Rattle.raft_files.specs.Asks.{Act, Ask, Found, Put, Read, Sync, ask};
+ghost use Rattle.raft_files.specs.Asks.{Act, Ask, Found, Put, Read, Sync, Unsynced, ask};
 ghost use Rattle.raft_files.specs.Disk.{IsLeftOf, NumberedBytes, files_of};
 
 /// States what may be left of files: what was asked, if nothing is lost; after a sync nothing else, and of found files
-/// nothing else than these; after bytes were put all that might be left before; after a read that and nothing else. What
-/// is asked of one queue leaves the other as it is.
+/// nothing else than these; after bytes were put all that might be left before; after a read, or a sync that failed, that and
+/// nothing else. What is asked of one queue leaves the other as it is.
 pub fn files_that_are_left()
     ensures whole { (queue : LogQueue) (asked : List Ask) → IsLeftOf queue asked (files_of queue asked) }
     ensures synced { (queue : LogQueue) (asked : List Ask) (files : List NumberedBytes)
@@ -20,6 +20,8 @@ pub fn files_that_are_left()
         → IsLeftOf queue asked files → IsLeftOf queue (ask queue (Put bytes) ∷ asked) files }
     ensures read { (queue : LogQueue) (asked : List Ask) (place : FileBlockHandle) (bytes : List ℕ) (files : List NumberedBytes)
         → IsLeftOf queue (ask place.id.queue (Read place bytes) ∷ asked) files → IsLeftOf queue asked files }
+    ensures unsynced { (queue : LogQueue) (asked : List Ask) (files : List NumberedBytes)
+        → IsLeftOf queue (ask queue Unsynced ∷ asked) files → IsLeftOf queue asked files }
     ensures of_append { (asked : List Ask) (act : Act) (files : List NumberedBytes)
         → IsLeftOf Append (ask Rewrite act ∷ asked) files → IsLeftOf Append asked files }
     ensures of_rewrite { (asked : List Ask) (act : Act) (files : List NumberedBytes)

@@ -189,6 +189,7 @@ impl EngineFiles for MemoryFiles {
         ensures err { OnErr result (self.new ≡ self.old) }
         ensures refused { IfErr result (λ e. e ≢ Error.Memory
             → bytes_at (files_of place.id.queue self.old) place.id.seq place.offset place.len ≡ None) }
+        ensures fault { IfErr result (IsMemoryFault self.old (ask place.id.queue (Read place []))) }
     {
         let bytes = read_of(self.files(place.id.queue), place)?;
         self.asked.read(place, &bytes);

@@ -153,7 +153,11 @@ impl<R: FolderHost> EngineFiles for FolderFiles<'_, R> {
 
     fn sync(&mut self, queue: LogQueue) -> Result<()> {
         self.begin()?;
-        self.folder.sync(queue)?;
+        let synced = self.folder.sync(queue);
+        if synced.is_err() {
+            self.asked.unsynced(queue);
+        }
+        synced?;
         self.asked.sync(queue);
         self.has_failed = false;
         Ok(())

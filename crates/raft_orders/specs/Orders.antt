@@ -1,6 +1,6 @@
 -- What is to be done to files, of all that is asked of them.
 use Rattle.std.specs.Prelude.{ℕ, List, [], ◌∷◌, ◌++◌, length, Option, Some, slice_get, ◌≡◌}
-use Rattle.raft_files.specs.Asks.{Act, Ask, Begin, Cut, Delete, Found, Put, Read, Sync, ask}
+use Rattle.raft_files.specs.Asks.{Act, Ask, Begin, Cut, Delete, Found, Put, Read, Sync, Unsynced, ask}
 use Rattle.raft_orders.specs.declared.order.Order.{Order}
 use Rattle.raft_orders.specs.declared.order.Task.{Task}
 use Rattle.raft_orders.specs.declared.waiting_orders.NumberedOrder.{NumberedOrder}
@@ -23,10 +23,11 @@ length_put _ = 0
 abbrev pub ask_of : Order → Ask
 ask_of order = ask order.queue (act_of order.task)
 
--- what is asked, if it is to be done to files: what was found and read is done already
+-- what is asked, if it is to be done to files: what was found and read is done already, and a failed sync is nothing to do
 abbrev pub to_do : Ask → Act → List Ask
 to_do a (Found files) = []
 to_do a (Read place bytes) = []
+to_do a Unsynced = []
 to_do a _ = a ∷ []
 
 -- what is to be done to files of all that was asked, oldest first; what was asked is given newest first

@@ -3,7 +3,7 @@
 ghost use Rattle.std.specs.Prelude.{◌≡◌, ◌+◌, [], ◌∷◌, length, option_map, IfErr, IfNone, IfOk, IfSome, None, OnErr, OnOk};
 ghost use Rattle.raft_files.specs.Asks.{Begin, Cut, Delete, Put, Read, Sync, ask};
 ghost use Rattle.raft_orders.specs.Orders.{IsOrder, all_to_do, ask_of, next_to_do};
-ghost use Rattle.raft_orders.specs.Refusals.{IsUnordered, IsUnread};
+ghost use Rattle.raft_orders.specs.Refusals.{HandedFails, IsUnordered, IsUnread};
 
 use crate::lent_blocks::LentBlocks;
 use crate::order::{Order, Task};
@@ -108,7 +108,7 @@ impl HandedFiles {
 impl EngineFiles for HandedFiles {
     ghost asked = { λ f. f.asks };
 
-    ghost may_fail = { λ _ _. IsUnordered };
+    ghost may_fail = { HandedFails };
 
     /// Orders that bytes are put.
     ///

@@ -1,6 +1,6 @@
 use Rattle.raft_engine.proofs.DeletedRewrites.{rewrite_delete_stored}
-use Rattle.raft_engine.proofs.DoneLemmas.{begin_done, delete_done, first_done, none_done, put_done, sync_done}
-use Rattle.raft_engine.proofs.StoredLemmas.{begin_stored, delete_stored, first_stored, sync_stored, tell_stored, write_stored}
+use Rattle.raft_engine.proofs.DoneLemmas.{begin_done, delete_done, first_done, none_done, put_done, sync_done, unsynced_done}
+use Rattle.raft_engine.proofs.StoredLemmas.{begin_stored, delete_stored, first_stored, sync_stored, tell_stored, unsynced_stored, write_stored}
 use Rattle.raft_engine.proofs.UntoldLemmas.{untold_more}
 use Rattle.raft_engine.proofs.stored.asks_are_stored.Goals as goal
 
@@ -16,6 +16,10 @@ returns-clause-synced c =
     sync_stored c.what_is_done_lasts.ensures c.nothing_is_lost.ensures c.told_contents_last.ensures.both
     (sync_done c.asks_do_deeds.ensures.synced c.asks_put_batches.ensures.synced)
     c.syncing_is_safe.ensures.append c.syncing_is_safe.ensures.rewrite
+
+pub returns-clause-unsynced : goal.returns-clause-unsynced
+returns-clause-unsynced c =
+    unsynced_stored c.what_is_done_lasts.ensures c.nothing_is_lost.ensures c.told_contents_last.ensures.both (unsynced_done c.asks_do_deeds.ensures.unsynced_whole)
 
 pub returns-clause-begun : goal.returns-clause-begun
 returns-clause-begun c =

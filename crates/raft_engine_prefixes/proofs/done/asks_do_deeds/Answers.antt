@@ -1,4 +1,4 @@
-use Rattle.raft_engine_prefixes.proofs.DeedLemmas.{nothing_done, written_done, synced_done, begun_done, deleted_done, found_done, found_whole, cut_done, read_done, read_whole, last_next}
+use Rattle.raft_engine_prefixes.proofs.DeedLemmas.{nothing_done, written_done, synced_done, begun_done, deleted_done, found_done, found_whole, cut_done, read_done, read_whole, unsynced_done, unsynced_whole, last_next}
 use Rattle.raft_engine_prefixes.proofs.done.asks_do_deeds.Goals as goal
 
 pub returns-clause-none : goal.returns-clause-none
@@ -30,6 +30,12 @@ returns-clause-read c = read_done
 
 pub returns-clause-read_whole : goal.returns-clause-read_whole
 returns-clause-read_whole c = read_whole
+
+pub returns-clause-unsynced : goal.returns-clause-unsynced
+returns-clause-unsynced c = unsynced_done
+
+pub returns-clause-unsynced_whole : goal.returns-clause-unsynced_whole
+returns-clause-unsynced_whole c = unsynced_whole
 
 pub returns-clause-next : goal.returns-clause-next
 returns-clause-next c = last_next

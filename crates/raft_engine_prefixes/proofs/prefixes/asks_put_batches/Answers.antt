@@ -1,5 +1,5 @@
 use Rattle.std.proofs.Common.{refl}
-use Rattle.raft_engine_prefixes.proofs.StepLemmas.{written, began, synced_all, cut_off, deleted_one, read_one, one_history}
+use Rattle.raft_engine_prefixes.proofs.StepLemmas.{written, began, synced_all, cut_off, deleted_one, read_one, unsynced_one, one_history}
 use Rattle.raft_engine_prefixes.proofs.prefixes.asks_put_batches.Goals as goal
 
 pub returns-clause-nothing : goal.returns-clause-nothing
@@ -25,6 +25,9 @@ returns-clause-deleted c = deleted_one
 
 pub returns-clause-read : goal.returns-clause-read
 returns-clause-read c = read_one
+
+pub returns-clause-unsynced : goal.returns-clause-unsynced
+returns-clause-unsynced c = unsynced_one
 
 pub returns-clause-one_history : goal.returns-clause-one_history
 returns-clause-one_history c = one_history

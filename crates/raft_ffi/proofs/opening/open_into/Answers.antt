@@ -4,14 +4,14 @@ use Rattle.raft_base.specs.declared.errors.Error.{Error}
 use Rattle.raft_base.specs.declared.pipe_log.Version.{Version}
 use Rattle.raft_files.specs.Asks.{Ask, NumberedBytes}
 use Rattle.raft_orders.specs.Orders.{all_to_do}
-use Rattle.raft_orders.specs.Refusals.{IsUnordered}
+use Rattle.raft_orders.specs.Refusals.{HandedFails}
 use Rattle.raft_engine.specs.StoredFound.{found_asks}
 use Rattle.raft_engine.specs.Unopened.{IsHalfOpened}
 use Rattle.raft_ffi.proofs.opening.open_into.Goals as goal
 
-half_so : (version : Version) (append rewrite : List NumberedBytes) (asks : List Ask) (u e : Error) → IsHalfOpened (λ _ _. IsUnordered) version append rewrite asks u → e ≡ u
-    → IsHalfOpened (λ _ _. IsUnordered) version append rewrite asks e
-half_so version append rewrite asks u e half same = subst (IsHalfOpened (λ _ _. IsUnordered) version append rewrite asks) (sym same) half
+half_so : (version : Version) (append rewrite : List NumberedBytes) (asks : List Ask) (u e : Error) → IsHalfOpened HandedFails version append rewrite asks u → e ≡ u
+    → IsHalfOpened HandedFails version append rewrite asks e
+half_so version append rewrite asks u e half same = subst (IsHalfOpened HandedFails version append rewrite asks) (sym same) half
 
 pub of_found-found-requires : goal.of_found-found-requires
 of_found-found-requires c = c.requires.read

@@ -1,6 +1,6 @@
 use Rattle.std.proofs.Common.{refl}
 use Rattle.raft_base.specs.declared.pipe_log.LogQueue.TheVariants.{Append, Rewrite}
-use Rattle.raft_files.proofs.LeftLemmas.{whole_left, synced_left, found_left, put_left, read_left, other_left}
+use Rattle.raft_files.proofs.LeftLemmas.{whole_left, synced_left, found_left, put_left, read_left, unsynced_left, other_left}
 use Rattle.raft_files.proofs.laws.files_that_are_left.Goals as goal
 
 pub returns-clause-whole : goal.returns-clause-whole
@@ -17,6 +17,9 @@ returns-clause-put c = put_left
 
 pub returns-clause-read : goal.returns-clause-read
 returns-clause-read c = read_left
+
+pub returns-clause-unsynced : goal.returns-clause-unsynced
+returns-clause-unsynced c = unsynced_left
 
 pub returns-clause-of_append : goal.returns-clause-of_append
 returns-clause-of_append c = λ asked act files l. other_left Append Rewrite asked act files refl l

@@ -6,7 +6,7 @@ use Rattle.raft_engine.specs.Moved.{IsReady}
 use Rattle.raft_engine.specs.Purged.{AreExpired, delete_asks}
 use Rattle.raft_engine.specs.Purged.{AreDeleted, AreHalfDeleted}
 use Rattle.raft_engine.specs.QueueFilesOf.{files_known}
-use Rattle.raft_engine.proofs.KeptLemmas.{kept_broken}
+use Rattle.raft_engine.proofs.KeptLemmas.{kept_unsynced}
 use Rattle.raft_engine.proofs.KeptPurges.{few, is_deleted, kept_deleted, none_half, some_broken, some_half}
 use Rattle.raft_engine.proofs.RewrittenRegions.{on_any}
 use Rattle.std.proofs.lemmas.Result.{err_from_is_err_and}
@@ -28,8 +28,9 @@ delete_oldest-requires g c =
 pub invariant_of-self : goal.invariant_of-self
 invariant_of-self g c =
     let e = c.self.inside in
-    kept_broken e.version (g.F.EngineFiles.asked e.files) e.append e.rewrite e.untold e.accessor e.intact c.self.invariant
-    (g.F.EngineFiles.asked c.sync.new.self) e.append e.rewrite e.untold e.accessor c.in_err-sync.ensures.err
+    let ready : IsReady (record { version = e.version; asks = g.F.EngineFiles.asked e.files; untold = e.untold; accessor = e.accessor; intact = e.intact }) = subst IsReady (sym c.self.view_is) c.requires.ready in
+    kept_unsynced e.version (g.F.EngineFiles.asked e.files) e.append e.rewrite e.untold e.accessor e.intact c.self.invariant
+    c.asks_are_stored.ensures.unsynced ready.intact Rewrite (g.F.EngineFiles.asked c.sync.new.self) e.append e.rewrite e.untold e.accessor c.in_err-sync.ensures.err
 
 pub returns-in_err-sync-clause-err : goal.returns-in_err-sync-clause-err
 returns-in_err-sync-clause-err g c =

@@ -22,7 +22,7 @@ invariant_of-self-in_err-begin_next g c =
     let old : List Ask = g.F.EngineFiles.asked e.files in
     let intact : e.intact ≡ true = search rules in
     kept_between e.version old e.append e.rewrite e.untold e.accessor e.intact c.self.invariant
-    c.asks_are_stored.ensures.synced c.asks_are_stored.ensures.begun Append e.append.seq _ (last_append e.version old e.append e.rewrite e.untold e.accessor e.intact c.self.invariant intact)
+    c.asks_are_stored.ensures.synced c.asks_are_stored.ensures.unsynced c.asks_are_stored.ensures.begun intact Append e.append.seq _ (last_append e.version old e.append e.rewrite e.untold e.accessor e.intact c.self.invariant intact)
     (g.F.EngineFiles.asked c.begin_next.new.files) c.begin_next.new.self e.rewrite
     (asked_part (g.F.EngineFiles.may_fail) _ _ _ _ (rw (c.close_last.ensures.seq) at c.in_err-begin_next.ensures.fault))
 

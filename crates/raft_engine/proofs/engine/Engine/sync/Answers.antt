@@ -1,15 +1,17 @@
 use Rattle.std.proofs.lemmas.Result.{err_from_is_err_and}
 use Rattle.std.proofs.Common.{rules, ◌≡◌, true, inr, subst}
+use Rattle.raft_base.specs.declared.pipe_log.LogQueue.TheVariants.{Append}
 use Rattle.raft_engine.specs.Faults.{IsSyncFault}
 use Rattle.raft_engine.specs.KeptEngine.{KeptEngine}
-use Rattle.raft_engine.proofs.KeptLemmas.{kept_broken, kept_synced}
+use Rattle.raft_engine.proofs.KeptLemmas.{kept_synced, kept_unsynced}
 use Rattle.raft_engine.proofs.engine.Engine.sync.Goals as goal
 
 pub invariant_of-self : goal.invariant_of-self
 invariant_of-self g c =
     let e = c.self.inside in
-    kept_broken e.version (g.F.EngineFiles.asked e.files) e.append e.rewrite e.untold e.accessor e.intact c.self.invariant
-    (g.F.EngineFiles.asked c.sync.new.self) e.append e.rewrite e.untold e.accessor c.in_err-sync.ensures.err
+    let intact : e.intact ≡ true = search rules in
+    kept_unsynced e.version (g.F.EngineFiles.asked e.files) e.append e.rewrite e.untold e.accessor e.intact c.self.invariant
+    c.asks_are_stored.ensures.unsynced intact Append (g.F.EngineFiles.asked c.sync.new.self) e.append e.rewrite e.untold e.accessor c.in_err-sync.ensures.err
 
 pub invariant_of-self-2 : goal.invariant_of-self-2
 invariant_of-self-2 g c =

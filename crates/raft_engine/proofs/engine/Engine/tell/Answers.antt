@@ -7,7 +7,7 @@ use Rattle.raft_engine.specs.KeptEngine.{KeptEngine}
 use Rattle.raft_engine.specs.Moved.{IsHalfTold, IsTold}
 use Rattle.raft_engine.specs.Purged.{IsPurgeRefusal, put_asks}
 use Rattle.raft_engine.specs.StoredAsks.{IsWritableBatch}
-use Rattle.raft_engine.proofs.KeptLemmas.{kept_broken}
+use Rattle.raft_engine.proofs.KeptLemmas.{kept_unsynced}
 use Rattle.raft_engine.proofs.KeptTells.{half_told, is_told, kept_told, none_told, tell_broken}
 use Rattle.raft_engine.proofs.RefusalLemmas.{rewrite_refusal}
 use Rattle.raft_base.specs.declared.pipe_log.LogQueue.TheVariants.{Append, Rewrite}
@@ -32,8 +32,9 @@ returns-then-self-gt-LAST_OFFSET-clause-err g c =
 pub invariant_of-self-in_err-sync : goal.invariant_of-self-in_err-sync
 invariant_of-self-in_err-sync g c =
     let e = c.self.inside in
-    kept_broken e.version (g.F.EngineFiles.asked e.files) e.append e.rewrite e.untold e.accessor e.intact c.self.invariant
-    (g.F.EngineFiles.asked c.sync.new.self) _ e.rewrite c.finish_populate.new.self e.accessor c.in_err-sync.ensures.err
+    let intact : e.intact ≡ true = search rules in
+    kept_unsynced e.version (g.F.EngineFiles.asked e.files) e.append e.rewrite e.untold e.accessor e.intact c.self.invariant
+    c.asks_are_stored.ensures.unsynced intact Append (g.F.EngineFiles.asked c.sync.new.self) _ e.rewrite c.finish_populate.new.self e.accessor c.in_err-sync.ensures.err
 
 pub returns-in_err-sync-clause-err : goal.returns-in_err-sync-clause-err
 returns-in_err-sync-clause-err g c =
@@ -148,7 +149,7 @@ returns-in_err-sync-clause-fault g c =
       bytes = (c.self.invariant.whole intact).rewrite_files.bytes;
       last = files_last Rewrite old e.rewrite (c.self.invariant.whole intact).rewrite_files;
       failed = part_failed (g.F.EngineFiles.may_fail) (put_asks file e.untold) (ask Append Sync ∷ []) old new c.in_err-sync.field-0.0
-          (one_failed (g.F.EngineFiles.may_fail) (ask Append Sync) old new c.in_err-sync.field-0.0 (inl c.in_err-sync.ensures.err) c.in_err-sync.ensures.fault);
+          (one_failed (g.F.EngineFiles.may_fail) (ask Append Sync) old new c.in_err-sync.field-0.0 c.in_err-sync.ensures.err c.in_err-sync.ensures.fault);
     }))
 
 pub returns-in_err-put_items-clause-fault : goal.returns-in_err-put_items-clause-fault

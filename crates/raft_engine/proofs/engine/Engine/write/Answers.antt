@@ -10,7 +10,7 @@ use Rattle.raft_engine.specs.KeptEngine.{IsLastFile, KeptEngine}
 use Rattle.raft_engine.specs.WrittenBatch.{IsHalfWritten, IsOneMore, IsRefusal, synced_if}
 use Rattle.raft_engine.proofs.KeptLemmas.{last_append}
 use Rattle.raft_engine.proofs.RefusalLemmas.{bytes_refusal, file_refusal, test_refusal}
-use Rattle.raft_engine.proofs.WriteLemmas.{IsReady, half_written, kept_half, kept_more, kept_put, merge_memory, merge_unnoted, none_tested, none_written, one_more, placed_accepted, placed_cut, whole_asked}
+use Rattle.raft_engine.proofs.WriteLemmas.{IsReady, half_written, kept_half, kept_more, kept_put, kept_unsynced, merge_memory, merge_unnoted, none_tested, none_written, one_more, placed_accepted, placed_cut, unsynced_written, whole_asked}
 use Rattle.raft_base.specs.declared.pipe_log.LogFileContext.{LogFileContext}
 use Rattle.raft_engine.specs.Faults.{IsWritingFault}
 use Rattle.raft_engine.proofs.FaultLemmas.{writing_of_none, writing_put, writing_sync, writing_whole}
@@ -30,7 +30,7 @@ returns-then-is_empty-clause-err g c =
     let last = subst (λ (o : KeptEngine). IsLastFile Append o.asks e.append.seq (kept.whole intact).append_files.bytes) c.self.view_is
     (last_append e.version (g.F.EngineFiles.asked e.files) e.append e.rewrite e.untold e.accessor e.intact kept intact) in
     let was : c.args.self.now.intact ≡ true = search rules in
-    none_written c.sync_if_wanted.result c.args.sync c.args.batch.now c.args.batch.now c.args.self.now c.sync_if_wanted.new.self e.append.seq (kept.whole intact).append_files.bytes last was none c.sync_if_wanted.ensures.err
+    none_written c.sync_if_wanted.result c.args.sync c.args.batch.now c.args.batch.now c.args.self.now c.sync_if_wanted.new.self e.append.seq (kept.whole intact).append_files.bytes last was none c.sync_if_wanted.ensures.err c.sync_if_wanted.ensures.wanted
 
 pub invariant_of-self : goal.invariant_of-self
 invariant_of-self g c =
@@ -70,9 +70,9 @@ invariant_of-self-in_err-sync_if g c =
       accepted = rw (c.items.ensures) at c.in_ok-check_append_writes.ensures.ok;
     } in
     let file = c.new-file.ensures ∙ ap (λ (id : FileId). record { id = id; version = e.version }) c.new.ensures in
-    kept_half c.asks_are_stored.ensures.written c.asks_are_stored.ensures.synced
+    kept_unsynced c.asks_are_stored.ensures.written c.asks_are_stored.ensures.synced
     e.version old e.append e.rewrite e.untold e.accessor e.intact c.self.invariant intact c.args.batch.now ready c.new-file.result file c.finish_populate.new.self c.in_ok-len.ensures.ok
-    (g.F.EngineFiles.asked c.sync_if.new.files) e.append e.rewrite e.untold e.accessor (inr (c.in_err-sync_if.ensures.err ∙ c.in_ok-put.ensures.ok))
+    c.asks_are_stored.ensures.unsynced (g.F.EngineFiles.asked c.put.new.files) (g.F.EngineFiles.asked c.sync_if.new.files) e.append e.rewrite e.untold e.accessor c.in_ok-put.ensures.ok c.in_err-sync_if.ensures.err
 
 pub invariant_of-self-in_err-apply : goal.invariant_of-self-in_err-apply
 invariant_of-self-in_err-apply g c =
@@ -226,9 +226,9 @@ returns-in_err-sync_if-clause-err g c =
     (inr (subst (λ (o : KeptEngine). IsHalfWritten c.args.sync c.args.batch.now o
     (record { version = e.version; asks = g.F.EngineFiles.asked c.sync_if.new.files; untold = e.untold; accessor = e.accessor; intact = false })
     c.in_err-sync_if.field-0.0) c.self.view_is
-    (half_written c.asks_are_stored.ensures.written c.asks_are_stored.ensures.synced
+    (unsynced_written c.asks_are_stored.ensures.written c.asks_are_stored.ensures.synced
     e.version old e.append e.rewrite e.untold e.accessor e.intact c.self.invariant intact c.args.batch.now ready c.new-file.result file c.finish_populate.new.self c.in_ok-len.ensures.ok
-    c.args.sync (g.F.EngineFiles.asked c.sync_if.new.files) e.untold e.accessor c.in_err-sync_if.field-0.0 (inr (c.in_err-sync_if.ensures.err ∙ c.in_ok-put.ensures.ok)) refl)))
+    c.args.sync (g.F.EngineFiles.asked c.sync_if.new.files) e.untold e.accessor c.in_err-sync_if.field-0.0 (g.F.EngineFiles.asked c.put.new.files) c.in_ok-put.ensures.ok c.in_err-sync_if.ensures.wanted c.in_err-sync_if.ensures.err refl)))
 
 pub returns-in_err-apply-clause-err : goal.returns-in_err-apply-clause-err
 returns-in_err-apply-clause-err g c =

@@ -51,7 +51,7 @@ module _ {M : Type 0} (Gives : ℕ → List ℕ → Type 0) (mode : RecoveryMode
     ends : length p.front ≡ length (given ++ rest)
     ends =
         let room = p.inside in
-        let many = length-replicate (len - length p.front - length read.behind.items) 0 in
+        let many = length-replicate {A = ℕ} (len - length p.front - length read.behind.items) 0 in
         let is = p.is rest (omega (arith, room, many)) in
         let stops : read.prefix.len ≡ length (given ++ rest) = subst (EndsOrStops (part_of file 0 (given ++ rest)) read.prefix.len) none is.stops in
         sym p.ends ∙ stops
@@ -70,7 +70,7 @@ module _ {M : Type 0} (Gives : ℕ → List ℕ → Type 0) (mode : RecoveryMode
         let e = ends in
         let n = sums in
         let room = p.inside in
-        let many = length-replicate (len - length p.front - length read.behind.items) 0 in
+        let many = length-replicate {A = ℕ} (len - length p.front - length read.behind.items) 0 in
         omega (arith, e, n, many, room)
 
     pub last_whole : IsLastReplayed Gives mode file len stands_for stands_exactly old new None
@@ -147,10 +147,10 @@ read_sizes Gives queue (s ∷ sizes) (f ∷ files) r =
 
 read_behind : (Gives : Giving) (queue : LogQueue) (sizes : List FileSize) (files : List NumberedBytes) (size : FileSize) (bytes : List ℕ) → AreAllRead Gives queue sizes files → AreRead (Gives (file_of queue size.seq)) bytes → length bytes ≡ size.len
     → AreAllRead Gives queue (sizes ++ size ∷ []) (files ++ (size.seq, bytes) ∷ [])
-read_behind Gives queue [] [] size bytes r one long = (record { number = refl; whole = long; read = one }, tt)
-read_behind Gives queue [] (f ∷ files) size bytes r one long = absurd r
-read_behind Gives queue (s ∷ sizes) [] size bytes r one long = absurd r
-read_behind Gives queue (s ∷ sizes) (f ∷ files) size bytes r one long = (r.0, read_behind Gives queue sizes files size bytes r.1 one long)
+read_behind Gives queue [] [] size own r one as_long = (record { number = refl; whole = as_long; read = one }, tt)
+read_behind Gives queue [] (f ∷ files) size own r one as_long = absurd r
+read_behind Gives queue (s ∷ sizes) [] size own r one as_long = absurd r
+read_behind Gives queue (s ∷ sizes) (f ∷ files) size own r one as_long = (r.0, read_behind Gives queue sizes files size own r.1 one as_long)
 
 module _ {M : Type 0} (Gives : Giving) (mode : RecoveryMode) (queue : LogQueue) (version : Version) (stands_for stands_exactly : M → List Event → Type 0) where
   -- the last file alone

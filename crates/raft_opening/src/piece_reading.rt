@@ -81,19 +81,26 @@ fn read_once<R: Threads + Sync, S: ReadFiles>(
     check_counts(alloc, append, rewrite, workers)?;
     let read = read_queues(rt, alloc, source, mode, version, rewrite, append, workers)?;
     let (rewrite, append) = read;
-    let append_left = append.sized.left.as_slice();
-    let rewrite_left = rewrite.sized.left.as_slice();
+    let QueueRead {
+        machine: rewritten,
+        sized: rewrite,
+    } = rewrite;
+    let QueueRead {
+        machine: appended,
+        sized: append,
+    } = append;
+    let (append_left, rewrite_left) = (append.left.as_slice(), rewrite.left.as_slice());
     check_few_bytes(append_left)?;
     check_few_bytes(rewrite_left)?;
-    let Both { first, second } = rewrite.machine;
+    let Both { first, second } = rewritten;
     if !second.stand() {
         return Err(Error::invalid_argument(alloc, OUT_OF_ROW));
     }
     let ready = Ready {
-        append: append.sized.ready,
-        rewrite: rewrite.sized.ready,
+        append: append.ready,
+        rewrite: rewrite.ready,
     };
-    ready.with_contexts(alloc, append.machine, first)
+    ready.with_contexts(alloc, appended, first)
 }
 
 /// Reads the files of both queues: at once, by two workers or more, or one after the other by all workers, where those of the

@@ -12,7 +12,6 @@ returns g c =
 
 pub returns-then-count-eq0 : goal.returns-then-count-eq0
 returns-then-count-eq0 g c =
-    let counted = c.len.ensures in
-    let none : c.args.closed.now ≡ [] = nil_from_length c.args.closed.now (omega (arith, counted, c.if-count-eq0.true)) in
+    let none : c.args.closed.now ≡ [] = nil_from_length c.args.closed.now (omega (arith, c.if-count-eq0.true)) in
     subst (λ (ss : List FileSize). IfOk c.read_last.result (AreClosedAndLastRead (g.S.ReadFiles.gives c.args.source.now) c.args.mode c.args.queue c.args.version ss c.args.last g.M.ReplayMachine.stands_for g.M.ReplayMachine.stands_exactly))
     (sym none) c.read_last.ensures

@@ -16,7 +16,7 @@ returns-in-None g c =
     let split = (rw c.in-Some.is at c.split_last.ensures.cases).0 in
     whole_read (g.S.ReadFiles.gives c.args.source.now) c.args.mode c.args.queue c.args.version g.M.ReplayMachine.stands_for g.M.ReplayMachine.stands_exactly c.args.sizes.now _ _ split c.in_ok-read.read c.in-None.is c.in_ok-read.ensures
 
-pub returns-in-Some-2 : goal.returns-in-Some-2
-returns-in-Some-2 g c =
+pub returns-in-Some-tail : goal.returns-in-Some-tail
+returns-in-Some-tail g c =
     let split = (rw c.in-Some.is at c.split_last.ensures.cases).0 in
-    torn_read (g.S.ReadFiles.gives c.args.source.now) c.args.mode c.args.queue c.args.version g.M.ReplayMachine.stands_for g.M.ReplayMachine.stands_exactly c.args.sizes.now _ _ split c.in_ok-read.read c.in-Some-2.tail c.in-Some-2.is c.in_ok-read.ensures
+    torn_read (g.S.ReadFiles.gives c.args.source.now) c.args.mode c.args.queue c.args.version g.M.ReplayMachine.stands_for g.M.ReplayMachine.stands_exactly c.args.sizes.now _ _ split c.in_ok-read.read c.in-Some-tail.tail c.in-Some-tail.is c.in_ok-read.ensures

@@ -142,7 +142,6 @@ module _ (mode : RecoveryMode) (queue : LogQueue) (version : Version) (rest : Li
 
     pub last_read : IsLastReadTo queue version rest read files
     last_read = the_last up
-
     l = last_sized files closed last (sym are ∙ split)
 
     same : l.file ≡ (last_read.seq, last_read.front ++ rest)

@@ -119,7 +119,14 @@ fn read_over(
 {
     files_hold_few_records();
     let append = sized_queue(alloc, mode, LogQueue::Append, version, append, append_rest)?;
-    let rewrite = sized_queue(alloc, mode, LogQueue::Rewrite, version, rewrite, rewrite_rest)?;
+    let rewrite = sized_queue(
+        alloc,
+        mode,
+        LogQueue::Rewrite,
+        version,
+        rewrite,
+        rewrite_rest,
+    )?;
     check_few_bytes(append.left.as_slice())?;
     check_few_bytes(rewrite.left.as_slice())?;
     let Both { first, second } = rewritten;

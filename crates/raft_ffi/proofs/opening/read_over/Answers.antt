@@ -58,7 +58,7 @@ returns-then-not-stand-clause-fault c = λ append_files rewrite_files q.
     let appended = context_standing Append c.args.version _ c.args.appended a.standing in
     inl (λ other. inr (inr (sized_refused (AreUngroupedAs c.args.version) c.args.mode c.args.version append_files rewrite_files _ _ a.sized_of.missing r.sized_of.missing _
     (inl (inr (inr (out_of_row c.files_hold_few_records.ensures c.args.version _ _ _ _ appended r.standing append_few rewrite_few _ (invalid _ _ c.invalid_argument.ensures other)
-    (λ h is in_rows. absurd (false≢true (sym c.if-not-stand.true ∙ (c.stand.ensures h is).1 in_rows)))))))))))
+    (λ h is in_rows. absurd (false≢true (sym c.if-not-stand.true ∙ (c.stand.ensures h is).1 in_rows))))))))))
 
 pub returns-clause-ok : goal.returns-clause-ok
 returns-clause-ok c = λ append_files rewrite_files q.

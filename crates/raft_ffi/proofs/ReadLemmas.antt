@@ -1,5 +1,5 @@
 -- Files that readers have read, up to where the last one can't be read.
-use Rattle.std.proofs.Common.{◌≡◌, ◌≢◌, ◌⊎◌, inl, inr, ℕ, ◌+◌, ◌<◌, Option, Some, None, Result, Ok, Err, IfOk, IfErr, OnOk, List, [], ◌∷◌, ◌++◌, length, map, take, drop, refl, sym, ap, ◌∙◌, subst, arith, append-nil, length-append}
+use Rattle.std.proofs.Common.{◌≡◌, ◌≢◌, ◌⊎◌, inl, inr, ℕ, ◌+◌, ◌<◌, Option, Some, None, Result, Ok, Err, IfOk, IfErr, List, [], ◌∷◌, ◌++◌, length, map, take, drop, refl, sym, ap, ◌∙◌, subst, arith, append-nil, length-append}
 use Rattle.std.proofs.lemmas.List.{drop_at, take_at}
 use Rattle.raft_base.specs.Signature.{signature_of}
 use Rattle.raft_base.specs.declared.errors.Error.{Error}
@@ -10,7 +10,6 @@ use Rattle.raft_base.specs.declared.pipe_log.Version.{Version}
 use Rattle.raft_codec.specs.Reading.{HasNoFront}
 use Rattle.raft_records.specs.FilePart.{AreBatchesUpTo, IsNextFault, Part, part_of}
 use Rattle.raft_records.specs.LogBatch.{IsReadable}
-use Rattle.raft_history.specs.Batches.{Event}
 use Rattle.raft_files.specs.Asks.{NumberedBytes}
 use Rattle.raft_files.specs.Disk.{cut_last}
 use Rattle.raft_files.proofs.LastLemmas.{last_of}
@@ -32,7 +31,7 @@ use Rattle.raft_engine.proofs.FoundQueueLemmas.{first_missing}
 use Rattle.raft_opening.specs.ReadOnce.{IsStandingFor}
 use Rattle.raft_opening.specs.SizedFiles.{AreNumbersApartAs, IsPartFault, IsRestOf, IsTailAccepted, numbers_of, size_of}
 use Rattle.raft_opening.proofs.SizedLemmas.{last_sized, none_sized, numbers_sized, sized_missing, torn_accepted, torn_refused, whole_accepted}
-use Rattle.raft_ffi.specs.Calls.{Holds, code_of}
+use Rattle.raft_ffi.specs.Calls.{AllHold, Holds, code_of}
 use Rattle.raft_ffi.specs.ReadQueues.{IsFrontRead, IsLastReadTo, IsLeftRead, IsReadTo, IsTailBehind}
 use Rattle.raft_ffi.specs.Readers.{ReaderSeen}
 use Rattle.raft_ffi.proofs.CodeLemmas.{some_code}
@@ -239,7 +238,7 @@ opened_told (Ok x) code P Q (Some v) p q is zero = (x, p, q)
 opened_told (Ok x) code P Q None p q is zero = absurd p
 opened_told (Err e) code P Q held p q is zero = absurd (some_code e (sym is ∙ zero))
 
--- what a call that passed makes so for each pair of histories it makes so for all
-pub for_all_ok : {R : Type 0} (r : Result R Error) (A : List Event → List Event → Type 0) (B : List Event → List Event → Type 0) → ((h g : List Event) → A h g → OnOk r (B h g)) → OnOk r ((h g : List Event) → A h g → B h g)
-for_all_ok (Ok x) A B so = so
-for_all_ok (Err e) A B so = tt
+-- three handles hold what one of them does beside the others
+pub held_all : {U V W : Type 0} (P : U → V → W → Type 0) (u : U) (v : V) (o : Option W) → Holds (P u v) o → AllHold P (Some u) (Some v) o
+held_all P u v (Some w) h = h
+held_all P u v None h = absurd h

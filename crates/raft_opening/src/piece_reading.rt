@@ -50,13 +50,28 @@ pub fn read_in_pieces<R: Threads + Sync, S: ReadFiles>(
         rewrite.now) }
 {
     match read_once(rt, alloc, source, mode, version, append, rewrite, workers) {
-        Ok(reading) => return Ok(reading),
-        Err(Error::Memory) => return Err(Error::Memory),
-        Err(_) => {}
+        Ok(reading) => Ok(reading),
+        Err(Error::Memory) => Err(Error::Memory),
+        Err(_) => Err(refusal(rt, alloc, source, mode, version, append, rewrite, workers)),
     }
+}
+
+/// Returns why files are refused that a reading refused: what comes first in another one.
+fn refusal<R: Threads + Sync, S: ReadFiles>(
+    rt: &R,
+    alloc: Global,
+    source: &S,
+    mode: RecoveryMode,
+    version: Version,
+    append: &[FileSize],
+    rewrite: &[FileSize],
+    workers: usize,
+) -> Error
+    ensures { AreUnreadAs (S.gives source.now) (S.may_fail source.now) mode version workers append.now rewrite.now result }
+{
     match read_sized(rt, alloc, source, mode, version, append, rewrite, workers) {
-        Ok(_) => Err(Error::corruption(alloc, CHANGED)),
-        Err(error) => Err(error),
+        Ok(_) => Error::corruption(alloc, CHANGED),
+        Err(error) => error,
     }
 }
 

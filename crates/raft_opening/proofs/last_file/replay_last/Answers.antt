@@ -7,7 +7,7 @@ returns-in_default g c =
     last_whole (g.S.ReadFiles.gives c.args.source.now c.args.file.now.id) c.args.mode c.args.file.now c.args.len g.M.ReplayMachine.stands_for g.M.ReplayMachine.stands_exactly c.args.machine.now c.replay_prefix.new.machine c.in_ok-read.read c.in_ok-read.ensures c.in_default.is
 
 pub read_tail-requires : goal.read_tail-requires
-read_tail-requires g c = let p = c.in_ok-read.ensures in let ends = p.ends in let inside = p.inside in (c.type_bounds.sync-S, omega (arith, ends, inside))
+read_tail-requires g c = let p = c.in_ok-read.ensures in let ends = p.ends in let inside = p.inside in (record { shared = λ x b o. c.type_bounds.sync-S.shared x b o }, omega (arith, ends, inside))
 
 pub returns : goal.returns
 returns g c =

@@ -39,7 +39,8 @@ impl Found for FoundByReaders<'_> {
         found.rewrite_rest.now found.appended.now found.rewritten.now };
 }
 
-/// Opens files that readers have read, and puts the engine into an empty handle. Returns what was cut off.
+/// Opens files that readers have read, and puts the engine into an empty handle. Returns what was cut off. The entries of the last
+/// append file aren't checked.
 ///
 /// # Errors
 ///
@@ -85,7 +86,8 @@ pub(crate) fn open_into(
         appended,
         rewritten,
     )?;
-    let opened = raft_engine::Engine::of_reading(version, files, reading)?;
+    let damaged = Vec::new(alloc);
+    let opened = raft_engine::Engine::of_reading(version, files, reading, damaged)?;
     engine.put_new(alloc, HeldEngine::of(opened.engine))?;
     Ok(opened.recovered)
 }

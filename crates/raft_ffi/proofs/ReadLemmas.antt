@@ -24,15 +24,18 @@ use Rattle.raft_engine.specs.FoundQueues.{IsLastOf, left_by}
 use Rattle.raft_engine.specs.ReadQueues.{HaveBothRead, HaveBothReadExactly}
 use Rattle.raft_engine.specs.SoundBlocks.{IsPartSound}
 use Rattle.raft_engine.specs.declared.missing.Missing.TheVariants.{Nothing, FirstFile, Cut}
+use Rattle.raft_engine.specs.KeptEngine.{KeptEngine}
 use Rattle.raft_engine.specs.declared.recovered.CutTail.{CutTail}
+use Rattle.raft_engine.specs.declared.recovered.Recovered.{Recovered}
 use Rattle.raft_engine.specs.declared.recovery_mode.RecoveryMode.{RecoveryMode}
 use Rattle.raft_engine.proofs.FoundLemmas.{one_last}
 use Rattle.raft_engine.proofs.FoundQueueLemmas.{first_missing}
 use Rattle.raft_opening.specs.ReadOnce.{IsStandingFor}
 use Rattle.raft_opening.specs.SizedFiles.{AreNumbersApartAs, IsPartFault, IsRestOf, IsTailAccepted, numbers_of, size_of}
-use Rattle.raft_opening.proofs.SizedLemmas.{last_sized, none_sized, numbers_sized, sized_missing, torn_accepted, torn_refused, whole_accepted}
+use Rattle.raft_opening.proofs.SizedLemmas.{IsLastSized, last_sized, none_sized, numbers_sized, sized_missing, torn_accepted, torn_refused, whole_accepted}
 use Rattle.raft_ffi.specs.Calls.{AllHold, Holds, code_of}
-use Rattle.raft_ffi.specs.ReadQueues.{IsFrontRead, IsLastReadTo, IsLeftRead, IsReadTo, IsTailBehind}
+use Rattle.raft_ffi.specs.ReadQueues.{IsFrontRead, IsLastReadTo, IsLeftRead, IsOpenedAs, IsReadTo, IsTailBehind}
+use Rattle.raft_ffi.specs.declared.read_queue.Size.{Size}
 use Rattle.raft_ffi.specs.Readers.{ReaderSeen}
 use Rattle.raft_ffi.proofs.CodeLemmas.{some_code}
 
@@ -141,6 +144,8 @@ module _ (mode : RecoveryMode) (queue : LogQueue) (version : Version) (rest : Li
 
     pub last_read : IsLastReadTo queue version rest read files
     last_read = the_last up
+
+    abbrev l : IsLastSized files closed last
     l = last_sized files closed last (sym are ∙ split)
 
     same : l.file ≡ (last_read.seq, last_read.front ++ rest)
@@ -231,14 +236,15 @@ either_on A X e why = elim (memory_or_not e) [
 
 -- ---- answers
 
--- an opening whose code is 0 put an engine into the handle, and told what it cut off
-pub opened_told : {R V : Type 0} (r : Result R Error) (code : ℕ) (P : V → R → Type 0) (Q : R → Type 0) (held : Option V) → IfOk r (λ x. Holds (λ v. P v x) held) → IfOk r Q → IfErr r (λ e. code ≡ code_of e) → code ≡ 0
-    → Holds (λ v. (x : R) × P v x × Q x) held
-opened_told (Ok x) code P Q (Some v) p q is zero = (x, p, q)
-opened_told (Ok x) code P Q None p q is zero = absurd p
-opened_told (Err e) code P Q held p q is zero = absurd (some_code e (sym is ∙ zero))
+-- after an opening whose code is 0 both readers and the engine hold what says that it was opened, and what it cut off was told
+pub opened_all : (mode : RecoveryMode) (version : Version) (append : List Size) (append_rest : List ℕ) (rewrite : List Size) (rewrite_rest : List ℕ) (a r : ReaderSeen) (Q : Recovered → Type 0) (result : Result Recovered Error) (code : ℕ)
+    (held : Option KeptEngine) → IfOk result (λ x. Holds (λ e. IsOpenedAs mode version append append_rest rewrite rewrite_rest a r e x) held) → IfOk result Q → IfErr result (λ e. code ≡ code_of e) → code ≡ 0
+    → AllHold (λ a r e. (x : Recovered) × IsOpenedAs mode version append append_rest rewrite rewrite_rest a r e x × Q x) (Some a) (Some r) held
+opened_all mode version append append_rest rewrite rewrite_rest a r Q (Ok x) code (Some e) p q is zero = (x, p, q)
+opened_all mode version append append_rest rewrite rewrite_rest a r Q (Ok x) code None p q is zero = absurd p
+opened_all mode version append append_rest rewrite rewrite_rest a r Q (Err e) code held p q is zero = absurd (some_code e (sym is ∙ zero))
 
--- three handles hold what one of them does beside the others
-pub held_all : {U V W : Type 0} (P : U → V → W → Type 0) (u : U) (v : V) (o : Option W) → Holds (P u v) o → AllHold P (Some u) (Some v) o
-held_all P u v (Some w) h = h
-held_all P u v None h = absurd h
+-- what was found by a call whose code is 0 is so
+pub found_so : {X : Type 0} (r : Result X Error) (code : ℕ) (P : X → Type 0) (found : X) → IfOk r P → IfOk r (λ x. found ≡ x) → IfErr r (λ e. code ≡ code_of e) → code ≡ 0 → P found
+found_so (Ok x) code P found p same is zero = subst P (sym same) p
+found_so (Err e) code P found p same is zero = absurd (some_code e (sym is ∙ zero))

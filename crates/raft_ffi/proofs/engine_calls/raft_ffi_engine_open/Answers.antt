@@ -1,6 +1,7 @@
-use Rattle.raft_ffi.proofs.Common.{◌∙◌}
+use Rattle.raft_ffi.proofs.Common.{version_of}
+use Rattle.raft_ffi.specs.Engines.{mode_of}
 use Rattle.raft_ffi.proofs.CodeLemmas.{failed, refusal}
-use Rattle.raft_ffi.proofs.ReadLemmas.{held_all, opened_told}
+use Rattle.raft_ffi.proofs.ReadLemmas.{opened_all}
 use Rattle.raft_ffi.proofs.engine_calls.raft_ffi_engine_open.Goals as goal
 
 pub open_into-answer-requires-clause-read : goal.open_into-answer-requires-clause-read
@@ -11,8 +12,8 @@ pub returns-clause-ok : goal.returns-clause-ok
 returns-clause-ok c = λ zero.
     let opened = rw (c.version.ensures, c.recovery_mode.ensures, c.into_both-appended.ensures, c.into_both-rewritten.ensures) at c.open_into-answer.ensures.ok in
     rw (c.into_held.ensures, c.into_held-2.ensures)
-    (held_all _ _ _ c.open_into-answer.new.engine.value
-    (opened_told c.open_into-answer.result c.answered.result.code _ _ c.open_into-answer.new.engine.value opened c.tell.ensures c.answered.ensures.err zero))
+    (opened_all (mode_of c.args.mode) (version_of c.args.is_signed) c.args.append.now c.args.append_rest.now c.args.rewrite.now c.args.rewrite_rest.now c.into_held.result c.into_held-2.result _ c.open_into-answer.result c.answered.result.code
+    c.open_into-answer.new.engine.value opened c.tell.ensures c.answered.ensures.err zero)
 
 pub returns-clause-err : goal.returns-clause-err
 returns-clause-err c = λ some. failed c.open_into-answer.result c.answered.result.code _ c.answered.ensures.ok c.open_into-answer.ensures.err some

@@ -246,5 +246,5 @@ opened_all mode version append append_rest rewrite rewrite_rest a r Q (Err e) co
 
 -- what was found by a call whose code is 0 is so
 pub found_so : {X : Type 0} (r : Result X Error) (code : ℕ) (P : X → Type 0) (found : X) → IfOk r P → IfOk r (λ x. found ≡ x) → IfErr r (λ e. code ≡ code_of e) → code ≡ 0 → P found
-found_so (Ok x) code P found p same is zero = subst P (sym same) p
-found_so (Err e) code P found p same is zero = absurd (some_code e (sym is ∙ zero))
+found_so (Ok x) code P found p told is zero = subst P (sym told) p
+found_so (Err e) code P found p told is zero = absurd (some_code e (sym is ∙ zero))

@@ -19,7 +19,7 @@ IN_RUST = {
     "Items": "Handle",
     "Batch": "Handle",
     "Engine": "Handle",
-    "Found": "Handle",
+    "Reader": "Handle",
     "OrderHead": "OrderNumbers",
     "Place": "PlaceNumbers",
     "Entry": "EntryNumbers",
@@ -97,12 +97,12 @@ def declarations(text):
 def structs(text):
     """The fields of each struct with C's layout, in order, but for ghost fields and those without bytes."""
     head = re.compile(
-        r"#\[repr\(C\)\]\s*(?:#\[derive\([^)]*\)\]\s*)?(?:pub(?:\(super\))? )?struct (\w+) \{(.*?)\n\}", re.S
+        r"#\[repr\(C\)\]\s*(?:#\[derive\([^)]*\)\]\s*)?(?:pub(?:\((?:super|crate)\))? )?struct (\w+) \{(.*?)\n\}", re.S
     )
     found = {}
     for name, inside in head.findall(without_comments(text)):
         lines = [line.strip().rstrip(",") for line in inside.splitlines()]
-        lines = [re.sub(r"^pub(\(super\))? ", "", line) for line in lines]
+        lines = [re.sub(r"^pub(\((super|crate)\))? ", "", line) for line in lines]
         fields = [line.split(": ", 1) for line in lines if ": " in line]
         found[in_rust(name)] = [
             (field, in_rust(kind))

@@ -91,15 +91,6 @@ impl Context {
         })
     }
 
-    /// Takes the handle out, to give it to the library.
-    ///
-    /// # Errors
-    ///
-    /// `Failed`, where an earlier call was refused.
-    pub(crate) fn into_handle(self) -> Result<ContextHandle> {
-        self.handle.ok_or_else(Error::of_emptied)
-    }
-
     /// Replays the log batches of a part, which stand behind those that were replayed before. The bytes are lent, and
     /// nothing of them is kept.
     ///

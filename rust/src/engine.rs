@@ -305,7 +305,7 @@ impl<F: Files> Engine<F> {
     ///
     /// Those of [`Engine::with_files`]. The files are then as they were.
     fn of_found(files: F, options: Options) -> Result<(Engine<F>, Vec<Order>)> {
-        let opened = Found::read(&files, &options)?.open()?;
+        let opened = Found::read(&files, &options)?.open(&options)?;
         let engine = Engine {
             files,
             options,

@@ -64,7 +64,7 @@ pub fn recover_both(
 /// # Errors
 ///
 /// The refusal of the first batch in order that is refused, `Memory`.
-pub(crate) fn read_parts(parts: &[FilePart<'_>], queue: Queue, workers: usize) -> Result<Context> {
+fn read_parts(parts: &[FilePart<'_>], queue: Queue, workers: usize) -> Result<Context> {
     read_stretches(&stretches(parts, workers.max(1)), queue)
 }
 
@@ -104,7 +104,7 @@ fn replay_parts(parts: &[FilePart<'_>]) -> Result<Context> {
 }
 
 /// Makes two calls at once, the second one on another thread; one behind the other where none can be started.
-pub(crate) fn call_both<A, B: Send>(
+fn call_both<A, B: Send>(
     first: impl FnOnce() -> A,
     second: impl FnOnce() -> B + Copy + Send,
 ) -> (A, B) {

@@ -11,8 +11,9 @@
 //! - Numbers and stages that a contract bounds are tested where they come in: the part of a file by [`FilePart::check`]; the
 //!   files of an atomic group by [`Tables::set_atomic_group`](crate::Tables::set_atomic_group); the stage of a batch, the last
 //!   index of its entries and its offset by [`LogBatchHandle`].
-//! - Contexts that an engine is opened with have read just the batches of its files, up to where each queue's last one can't be
-//!   read: `engine::found::Found` alone makes a [`FoundHandle`], and reads and opens it with its contexts.
+//! - Readers that an engine is opened with have read just the batches of its files, up to where each queue's last one can't be
+//!   read, and what is handed with them are the lengths of these files, and the bytes that stand there: `engine::found` alone makes
+//!   a [`ReaderHandle`], and opens engines.
 //! - The orders of an engine are taken in their order, none twice ([`EngineHandle`] tests their numbers), and carried out so
 //!   before another call that orders something is made: `engine::orders::Turn` alone makes such calls.
 //!
@@ -26,7 +27,6 @@ use std::ptr;
 mod context;
 mod engine;
 mod engine_calls;
-mod found;
 #[cfg(feature = "global-allocator")]
 mod heap;
 mod items;
@@ -34,16 +34,17 @@ mod lists;
 mod log_batch;
 mod numbers;
 mod packed;
+mod reader;
 mod table_calls;
 mod tables;
 
 pub(crate) use context::ContextHandle;
 pub(crate) use engine::{EngineHandle, Order, block_entries};
-pub(crate) use found::FoundHandle;
 pub(crate) use items::ItemsHandle;
 pub(crate) use lists::PackedPairs;
 pub(crate) use log_batch::LogBatchHandle;
 pub(crate) use packed::Packed;
+pub(crate) use reader::{ReadFiles, ReaderHandle, Size, open_engine};
 pub(crate) use tables::TablesHandle;
 
 use lists::{list, list_found, list_in, make_room, packed_pairs, pairs};

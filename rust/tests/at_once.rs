@@ -4,6 +4,7 @@
 
 mod common;
 
+use common::hooked::{Call, Hooked};
 use common::{batch_bytes, file, parts};
 use raft_recover::{Engine, MemoryFiles, Options, Queue, recover};
 use std::collections::HashSet;
@@ -42,17 +43,19 @@ fn meet() {
     }
 }
 
-/// Makes a call in which each thread waits for so many, and returns how many came, if none was missed.
-fn threads_in<T>(expected: usize, call: impl FnOnce() -> T) -> (T, Option<usize>) {
+/// Has each thread wait for so many from now on.
+fn call_meeting(expected: usize) {
     let meeting = Meeting {
         expected,
         ..Meeting::default()
     };
-    *MEETING.lock().unwrap() = Some(meeting);
-    let answer = call();
+    MEETING.lock().unwrap().get_or_insert(meeting);
+}
+
+/// Ends the meeting, and returns how many threads came, if none was missed.
+fn end_meeting() -> Option<usize> {
     let meeting = MEETING.lock().unwrap().take().unwrap();
-    let come = (!meeting.is_missed).then_some(meeting.come.len());
-    (answer, come)
+    (!meeting.is_missed).then_some(meeting.come.len())
 }
 
 #[repr(C)]
@@ -112,25 +115,31 @@ fn all_threads_of_a_recovery_read_at_the_same_time() {
     let files = files(0);
     let parts = parts(&files);
     for workers in 1..=8 {
-        let call = || recover(&parts, Queue::Append, workers);
-        let (tables, come) = threads_in(workers, call);
+        call_meeting(workers);
+        let tables = recover(&parts, Queue::Append, workers);
+        assert_eq!(end_meeting(), Some(workers));
         assert_eq!(tables.unwrap().cleaned(), [1, 2, 3, 4, 5, 6, 7, 8]);
-        assert_eq!(come, Some(workers));
     }
 }
 
 #[test]
 fn an_engine_is_opened_on_as_many_threads_as_its_options_say() {
     let _turn = TURN.lock();
-    // of large files a thread copies the bytes meanwhile
     for value in [0, 100 << 10] {
         let files: Vec<_> = (1..).zip(files(value)).collect();
         for threads in 1..=8 {
             let found = MemoryFiles::found(files.clone(), vec![(1, vec![])]);
+            // each thread replays what it has read of a file, and waits there
+            let hooked = Hooked::new(&found, |call: Call<'_>| {
+                if let Call::Read(..) = call {
+                    call_meeting(threads);
+                }
+                Ok(())
+            });
             let options = Options::new().recovery_threads(threads);
-            let (engine, come) = threads_in(1, || Engine::with_files(found, options));
+            let engine = Engine::with_files(hooked, options);
+            assert_eq!(end_meeting(), Some(threads), "values of {value} bytes");
             assert_eq!(engine.unwrap().regions().unwrap(), []);
-            assert_eq!(come, Some(threads), "values of {value} bytes");
         }
     }
 }

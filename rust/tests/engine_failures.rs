@@ -102,7 +102,7 @@ fn place_of(call: Call<'_>, files: &MemoryFiles) -> (Option<FileId>, Option<u64>
         Call::Write(file, _) => end_of(file.queue),
         Call::Sync(queue) => end_of(queue),
         Call::Rotate(file) | Call::Delete(file) => (file, 0),
-        Call::Truncate(file, offset) | Call::Read(file, offset) => (file, offset),
+        Call::Truncate(file, offset) | Call::Read(file, offset, _) => (file, offset),
     };
     (Some(file), Some(offset))
 }
@@ -260,7 +260,7 @@ fn a_file_that_cant_be_read_is_named_and_the_engine_goes_on() {
     let is_broken = AtomicBool::new(false);
     let files = MemoryFiles::new();
     let hooked = Hooked::new(&files, |call: Call<'_>| match call {
-        Call::Read(FIRST, _) if is_broken.load(SeqCst) => {
+        Call::Read(FIRST, ..) if is_broken.load(SeqCst) => {
             Err(io::ErrorKind::PermissionDenied.into())
         }
         _ => Ok(()),

@@ -7,7 +7,6 @@ use common::hooked::{Call, Hooked};
 use common::model::region_of;
 use raft_recover::{Engine, ErrorKind, FileId, MemoryFiles, Options, Queue};
 use std::collections::BTreeSet;
-use std::io;
 use std::sync::{Condvar, Mutex};
 use std::time::Duration;
 
@@ -73,7 +72,7 @@ fn several_threads_read_whole_files_at_once() {
     for threads in [2, 3] {
         let (reading, is_met) = (Mutex::new(BTreeSet::new()), Condvar::new());
         let hooked = Hooked::new(&files, |call: Call<'_>| {
-            if let Call::Read(file, 0) = call {
+            if let Call::Read(file, 0, _) = call {
                 let mut reading = reading.lock().unwrap();
                 reading.insert(file.seq);
                 is_met.notify_all();
@@ -88,46 +87,6 @@ fn several_threads_read_whole_files_at_once() {
         let options = Options::new().recovery_threads(threads);
         let engine = Engine::with_files(hooked, options).unwrap();
         assert_eq!(engine.entries(7, ..).unwrap().len(), 4);
-    }
-}
-
-#[test]
-fn a_large_file_is_read_in_pieces_one_behind_the_other() {
-    const PIECE: u64 = 256 << 10;
-    let files = MemoryFiles::new();
-    let engine = Engine::with_files(files.clone(), Options::new()).unwrap();
-    let entry = vec![7; 3 * PIECE as usize];
-    write(&engine, |batch| batch.add_entries(7, 1, &[&entry]));
-    let len = engine.stats().append.bytes;
-    assert!(3 * PIECE < len && len < 4 * PIECE);
-    for threads in [1, 4] {
-        let offsets = Mutex::new(Vec::new());
-        let hooked = Hooked::new(&files, |call: Call<'_>| {
-            if let Call::Read(file, offset) = call
-                && file.queue == Queue::Append
-            {
-                offsets.lock().unwrap().push(offset);
-            }
-            Ok(())
-        });
-        let options = Options::new().recovery_threads(threads);
-        let engine = Engine::with_files(hooked, options).unwrap();
-        let offsets = std::mem::take(&mut *offsets.lock().unwrap());
-        assert_eq!(offsets, [0, PIECE, 2 * PIECE, 3 * PIECE]);
-        assert_eq!(engine.entry(7, 1).unwrap().unwrap(), entry);
-    }
-    for failing in [0, 2 * PIECE] {
-        let hooked = Hooked::new(&files, |call: Call<'_>| match call {
-            Call::Read(file, offset) if file.queue == Queue::Append && offset == failing => {
-                Err(io::ErrorKind::TimedOut.into())
-            }
-            _ => Ok(()),
-        });
-        let e = Engine::with_files(hooked, Options::new())
-            .map(drop)
-            .unwrap_err();
-        let place = (Some(FileId::new(Queue::Append, 1)), Some(failing));
-        assert_eq!((e.kind, (e.file, e.offset)), (ErrorKind::Io, place));
     }
 }
 

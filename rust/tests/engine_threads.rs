@@ -406,7 +406,7 @@ fn an_entry_is_read_while_its_bytes_move() {
 fn an_entry_that_moves_while_it_is_read_is_found() {
     let gate = Arc::new(Gate::default());
     let is_reader =
-        |call: Call<'_>| matches!(call, Call::Read(file, _) if file.queue == Queue::Append);
+        |call: Call<'_>| matches!(call, Call::Read(file, ..) if file.queue == Queue::Append);
     let is_held = AtomicBool::new(false);
     let hooked = Hooked::new(&MemoryFiles::new(), |call: Call<'_>| {
         if is_reader(call) && is_held.swap(false, SeqCst) {
@@ -435,7 +435,7 @@ fn an_entry_that_moves_twice_while_it_is_read_is_found() {
     let (gate, looked_again) = (Gate::default(), Gate::default());
     let [is_held, is_moved] = [false, false].map(AtomicBool::new);
     let hooked = Hooked::new(&MemoryFiles::new(), |call: Call<'_>| {
-        let Call::Read(file, _) = call else {
+        let Call::Read(file, ..) = call else {
             return Ok(());
         };
         if file.queue == Queue::Append && is_held.swap(false, SeqCst) {

@@ -19,7 +19,7 @@ pub refused_all : {R U V W : Type 0} (P : U → V → W → Error → Type 0) (r
 refused_all {U = U} {V = V} P r code {t = t} {v = v} {x = x} {w = w} one other last same same_other fault zero is some =
     rw (one, other, last) (refusal r code (P t v w) zero is (subst (λ (y : V). IfErr r (P t y w)) same_other (subst (λ (y : U). IfErr r (P y x w)) same fault)) some)
 
-some_code : (e : Error) → code_of e ≢ 0
+pub some_code : (e : Error) → code_of e ≢ 0
 some_code (errors.InvalidArgument text) h = absurd cc
 some_code (errors.Corruption text) h = absurd cc
 some_code (errors.Io fault) h = absurd cc

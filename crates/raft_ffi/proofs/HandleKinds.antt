@@ -15,9 +15,9 @@ use Rattle.raft_ffi.specs.contracts.handles.Tables as Tables
 use Rattle.raft_ffi.specs.contracts.held_engine.HeldEngine as HeldEngine
 use Rattle.raft_ffi.proofs.held_engine.HeldEngine.TheLaws as held_engine
 use Rattle.raft_ffi.specs.contracts.handles.Engine as Engine
-use Rattle.raft_ffi.specs.contracts.found_files.FoundFiles as HeldFound
-use Rattle.raft_ffi.proofs.found_files.FoundFiles.TheLaws as held_found
-use Rattle.raft_ffi.specs.contracts.handles.Found as Found
+use Rattle.raft_ffi.specs.contracts.queue_reader.QueueReader as HeldReader
+use Rattle.raft_ffi.proofs.queue_reader.QueueReader.TheLaws as held_reader
+use Rattle.raft_ffi.specs.contracts.handles.Reader as Reader
 use Rattle.raft_ffi.proofs.HandleSteps.{Handle}
 pub use Rattle.raft_ffi.proofs.MoveSteps.{empty, of_parts, into_parts}
 pub use Rattle.raft_ffi.proofs.SendSteps.{send}
@@ -38,5 +38,5 @@ tables = record { of = HeldTables.the_row; laws = held_tables.the_row_laws; owne
 abbrev pub engine : Handle
 engine = record { of = HeldEngine.the_row; laws = held_engine.the_row_laws; owner = Engine.the_type; shown = λ d. (d.at, (d.alloc, d.value)); make = λ p a o. record { at = p; alloc = a; value = o }; made = λ p a o. refl }
 
-abbrev pub found : Handle
-found = record { of = HeldFound.the_row; laws = held_found.the_row_laws; owner = Found.the_type; shown = λ d. (d.at, (d.alloc, d.value)); make = λ p a o. record { at = p; alloc = a; value = o }; made = λ p a o. refl }
+abbrev pub reader : Handle
+reader = record { of = HeldReader.the_row; laws = held_reader.the_row_laws; owner = Reader.the_type; shown = λ d. (d.at, (d.alloc, d.value)); make = λ p a o. record { at = p; alloc = a; value = o }; made = λ p a o. refl }

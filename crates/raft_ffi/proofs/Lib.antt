@@ -9,3 +9,4 @@ pub mod CodeLemmas
 pub mod StringLemmas
 pub mod OrderLemmas
 pub mod PairLemmas
+mod ReadLemmas

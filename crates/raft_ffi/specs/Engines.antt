@@ -3,24 +3,17 @@ use Rattle.std.specs.Prelude.{◌≡◌, ◌⊎◌, ℕ, zero, suc, Bool, false,
 use Rattle.raft_base.specs.declared.entry_index.EntryIndex.{EntryIndex}
 use Rattle.raft_base.specs.declared.errors.Error.{Error}
 use Rattle.raft_base.specs.declared.pipe_log.LogQueue.TheVariants.{Append}
-use Rattle.raft_base.specs.declared.pipe_log.Version.{Version}
-use Rattle.raft_contexts.specs.RecoverContext.{RecoverContext}
 use Rattle.raft_files.specs.Asks.{Act, Ask, Begin, Cut, Delete, Put, Sync, ask}
 use Rattle.raft_records.specs.LogBatch.{Batch}
 use Rattle.raft_engine_prefixes.specs.Contents.{AreBothTold}
-use Rattle.raft_engine.specs.CutTails.{IsRecoveredOf}
 use Rattle.raft_engine.specs.KeptEngine.{KeptEngine}
 use Rattle.raft_engine.specs.Lasting.{IsLasting}
-use Rattle.raft_engine.specs.ReadContexts.{HaveReadFound}
-use Rattle.raft_engine.specs.Unopened.{AreUngroupedAs, IsUnopened}
 use Rattle.raft_engine.specs.WrittenBatch.{IsOneMore, IsOnlySynced, IsUnwritten}
 use Rattle.raft_engine.specs.declared.recovered.CutTail.{CutTail}
 use Rattle.raft_engine.specs.declared.recovered.Recovered.{Recovered}
 use Rattle.raft_engine.specs.declared.recovery_mode.RecoveryMode.{RecoveryMode}
 use Rattle.raft_engine.specs.declared.recovery_mode.RecoveryMode.TheVariants.{AbsoluteConsistency, TolerateTailCorruption, TolerateTornTail}
-use Rattle.raft_orders.specs.Refusals.{HandedFails}
-use Rattle.raft_ffi.specs.Calls.{BothHold, Holds, IsCodeOf, code_of, queue_of}
-use Rattle.raft_ffi.specs.FoundFiles.{FilesSeen}
+use Rattle.raft_ffi.specs.Calls.{BothHold, IsCodeOf, code_of, queue_of}
 use Rattle.raft_ffi.specs.Rooms.{IsTextOf}
 use Rattle.raft_ffi.specs.declared.order_calls.OrderHead.{OrderHead}
 use Rattle.raft_ffi.specs.declared.status.Tail.{Tail}
@@ -55,24 +48,9 @@ pub record AreTailsIn (append rewrite : Tail) (append_old append_new rewrite_old
   pub append_in : IsTailIn recovered.append append append_old append_new
   pub rewrite_in : IsTailIn recovered.rewrite rewrite rewrite_old rewrite_new
 
--- so is what an opening cut off from found files
-abbrev pub AreTailsToldIn : Version → FilesSeen → Tail → Tail → List ℕ → List ℕ → List ℕ → List ℕ → Type 0
-AreTailsToldIn version found append rewrite append_old append_new rewrite_old rewrite_new =
-    (recovered : Recovered) × IsRecoveredOf version found.append found.rewrite recovered
-    × AreTailsIn append rewrite append_old append_new rewrite_old rewrite_new recovered
-
--- the contexts of both queues have read the found files, up to where each can't be read on
-abbrev pub HaveReadBoth : Version → Option FilesSeen → Option RecoverContext → Option RecoverContext → Type 0
-HaveReadBoth version found appended rewritten = Holds (λ f. BothHold (HaveReadFound version f.append f.rewrite) appended rewritten) found
-
 -- an error with this number says why a batch isn't written
 abbrev pub IsUnwrittenAs : Bool → ℕ → Option Batch → Option Batch → KeptEngine → KeptEngine → Type 0
 IsUnwrittenAs sync code batch left old new = BothHold (λ b l. IsCodeOf (IsUnwritten sync b l old new) code) batch left
-
--- why found files aren't opened, whatever was ordered by then; an order fails for want of memory or of numbers
-abbrev pub IsUnopenedAs : RecoveryMode → Version → FilesSeen → Error → Type 0
-IsUnopenedAs mode version found e =
-    (asks : List Ask) × IsUnopened (AreUngroupedAs version) HandedFails mode version found.append found.rewrite asks e
 
 -- a sync of the append queue more is asked
 abbrev pub IsSynced : KeptEngine → KeptEngine → Type 0

@@ -15,8 +15,9 @@ pub mod Strings
 pub mod Pairs
 pub mod Slots
 pub mod HeldEngineView
-pub mod FoundFiles
-pub mod FoundFilesView
+pub mod Readers
+pub mod ReadersView
+pub mod ReadQueues
 pub mod Engines
 pub mod Taking
 pub mod Words

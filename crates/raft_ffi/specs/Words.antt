@@ -31,7 +31,7 @@ pub use Rattle.raft_contexts.specs.OverlaidContext.{IsMergeAppendFault, IsOfBoth
 pub use Rattle.raft_contexts.specs.RecoverContext.{HasRead, HasReadExactly, IsMergedWith, IsNeighborFault, RecoverContext, blank_context}
 pub use Rattle.raft_contexts.specs.RecoverContextCode.{recover_context_code}
 pub use Rattle.raft_contexts.specs.declared.context_stage.ContextStage.TheVariants.{Failed, Reading}
-pub use Rattle.raft_engine.specs.CutTails.{IsRecoveredOf}
+pub use Rattle.raft_engine.specs.FoundFiles.{IsFoundFault}
 pub use Rattle.raft_engine.specs.KeptEngine.{KeptEngine}
 pub use Rattle.raft_engine.specs.KeptEngineCode.{engine_code}
 pub use Rattle.raft_engine.specs.Moved.{IsRewritten, IsUnrewritten}
@@ -39,16 +39,18 @@ pub use Rattle.raft_engine.specs.MovedAgain.{AreMovedAgain, AreUnmovedAgain}
 pub use Rattle.raft_engine.specs.Opened.{IsOpened}
 pub use Rattle.raft_engine.specs.Purged.{ArePurged, IsUnpurged}
 pub use Rattle.raft_engine.specs.PurgedRewrites.{AreRewritesPurged, AreRewritesUnpurged}
-pub use Rattle.raft_engine.specs.ReadContexts.{HaveReadFound}
+pub use Rattle.raft_engine.specs.ReadFound.{AreReadFound}
+pub use Rattle.raft_engine.specs.ReadQueues.{HaveBothRead, HaveBothReadExactly}
 pub use Rattle.raft_engine.specs.Rewriting.{moving_entries, moving_pairs}
 pub use Rattle.raft_engine.specs.StoredFound.{found_asks}
-pub use Rattle.raft_engine.specs.Unopened.{AreBothAccepted, AreUngroupedAs, IsUnopened}
+pub use Rattle.raft_engine.specs.Unopened.{AreBothAccepted, AreUngroupedAs, IsOpeningRefusal, IsUnopened}
 pub use Rattle.raft_engine.specs.WrittenBatch.{IsRotated, IsUnrotated, IsUnsynced, IsUnwritten}
 pub use Rattle.raft_engine.specs.declared.recovery_mode.RecoveryMode.{RecoveryMode}
 pub use Rattle.raft_files.specs.Asks.{Ask}
 pub use Rattle.raft_history.specs.Batches.{Event}
 pub use Rattle.raft_history.specs.Histories.{Sound}
 pub use Rattle.raft_history.specs.Kept.{kept_of}
+pub use Rattle.raft_prefix.specs.Pieces.{ArePassed}
 pub use Rattle.raft_orders.specs.Orders.{act_of, ask_of, length_put, next_to_do}
 pub use Rattle.raft_orders.specs.Refusals.{HandedFails}
 pub use Rattle.raft_records.specs.Entries.{entry_with_index}
@@ -57,7 +59,7 @@ pub use Rattle.raft_records.specs.FilePart.{AreBatchesUpTo, IsNext, IsNextFault,
 pub use Rattle.raft_records.specs.Group.{IsKeyRefusal, reserved_key}
 pub use Rattle.raft_records.specs.Header.{IsEntryBlockOf, IsHeader}
 pub use Rattle.raft_records.specs.Item.{Item, bare, command_item, content_of, item_of, pair_item}
-pub use Rattle.raft_records.specs.LogBatch.{Batch, IsLogBatch, IsSealedStage, approximate_length, empty_batch, encoded, encoded_length, is_open, log_batch_bytes, sealed, stage_number, with_batch, with_entries_added, with_item}
+pub use Rattle.raft_records.specs.LogBatch.{Batch, IsLogBatch, IsReadable, IsSealedStage, approximate_length, empty_batch, encoded, encoded_length, is_open, log_batch_bytes, sealed, stage_number, with_batch, with_entries_added, with_item}
 pub use Rattle.raft_records.specs.Sizes.{HaveSmallNumbers}
 pub use Rattle.raft_records.specs.declared.command.Command.TheVariants.{Clean, Compact, Truncate}
 pub use Rattle.raft_records.specs.declared.key_value.OpType.TheVariants.{Del, Put}
@@ -78,14 +80,15 @@ pub use Rattle.raft_ffi.specs.Calls.{queue_of, version_of}
 pub use Rattle.raft_ffi.specs.Changes.{AreAllOrSomeWritten, AreAppended, AreDropped, AreMergedOrLeft, AreRewritten, AreUnappended, AreUnrewritten, IsChangeOr, IsChangedTo, IsCompacted, IsDeleted, IsGroupSet, IsKeyRewritten}
 pub use Rattle.raft_ffi.specs.Changes.{IsKeyUnrewritten, IsMemoryOr, IsPut, IsRemoved, IsStoppedAt, IsTruncated, IsUnput, no_tables, without_cleaned}
 pub use Rattle.raft_ffi.specs.Contexts.{AreOfTwoQueues, AreTablesOf, AreUnsound, HasBothRead, HasTablesRead, IsOfFailed, IsOverlaidExactly, StandsForBoth, StandsForBothExactly}
-pub use Rattle.raft_ffi.specs.Engines.{AreTailsIn, AreTailsToldIn, HaveReadBoth, IsSynced, IsTailIn, IsUnopenedAs, IsUnwrittenAs, IsWrittenOrNone, Lasts, act_of_kind, ask_in, mode_of}
+pub use Rattle.raft_ffi.specs.Engines.{AreTailsIn, IsSynced, IsTailIn, IsUnwrittenAs, IsWrittenOrNone, Lasts, act_of_kind, ask_in, mode_of}
 pub use Rattle.raft_ffi.specs.EntryData.{entry_of}
-pub use Rattle.raft_ffi.specs.FoundFiles.{FilesSeen, files_code, no_files, with_file}
 pub use Rattle.raft_ffi.specs.Handles.{handle_owned}
 pub use Rattle.raft_ffi.specs.ItemLists.{IsHeadOf, entries_at, key_at, kind_of, number_of, value_at}
 pub use Rattle.raft_ffi.specs.KeptNumbers.{AreKept, capped}
 pub use Rattle.raft_ffi.specs.Lengths.{HasLength}
 pub use Rattle.raft_ffi.specs.Pairs.{AreInKeyOrder, ArePairsIn, AreScanned, AreScannedIn, bound_in, bytes_of, lengths_of, pairs_of_both}
+pub use Rattle.raft_ffi.specs.ReadQueues.{AreBothReadAs, AreSomeReadAs, IsFrontRead, IsLastReadTo, IsLeftRead, IsOpenedAs, IsQueueReadAs, IsReadOnAs, IsReadTo, IsReadyAs, IsTailBehind, IsUnopenedAs, size_in}
+pub use Rattle.raft_ffi.specs.Readers.{AreReadersUnsound, IsReplayedBy, ReaderSeen, ReadersStand, ReadersStandExactly, reader_code}
 pub use Rattle.raft_ffi.specs.Reads.{AreRegionsIn, IsEntryIn, IsFetched, IsSummaryIn, IsValueIn, value_in}
 pub use Rattle.raft_ffi.specs.Rooms.{AreEntriesIn, HasText, IsCopied, IsCopiedIfAny, IsRefusedFor, IsTextIn, IsTextOf, copied_over}
 pub use Rattle.raft_ffi.specs.Slots.{AcceptsShareOncePlaced, IsAppendTested, IsMoveFault, IsMoved, IsShareRefused, share_of}

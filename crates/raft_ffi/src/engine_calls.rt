@@ -1,29 +1,31 @@
 //! Calls of an engine whose files the caller keeps: what changes it leaves orders behind, which the caller carries out in turn.
 
-ghost use Rattle.std.specs.Prelude.{◌≡◌, ◌≢◌, true, false, Some, None, IsTrue, is_some, IfErr, IfOk, OnErr, OnOk};
-ghost use Rattle.raft_ffi.specs.Words.{AllHold, AreAcceptedOncePlaced, AreBothAccepted, ArePurged, AreRewritesPurged, AreRewritesUnpurged, BothHold, HasText, HaveReadBoth, HaveReadFound, Holds, IsCodeForBoth, IsCodeOf, IsOpened, IsRead, IsRotated};
-ghost use Rattle.raft_ffi.specs.Words.{AreTailsIn, AreTailsToldIn, IsRecoveredOf, IsSynced, IsUnopenedAs, IsUnpurged, IsUnrotated, IsUnsynced, IsUnwrittenAs, IsWrittenOrNone, empty_batch, is_open, mode_of, version_of};
+ghost use Rattle.std.specs.Prelude.{◌≡◌, ◌≢◌, true, false, Some, None, IsTrue, is_some, IfOk};
+ghost use Rattle.raft_ffi.specs.Words.{AllHold, AreAcceptedOncePlaced, ArePurged, AreRewritesPurged, AreRewritesUnpurged, AreSomeReadAs, BothHold, HasText, Holds, IsCodeForBoth, IsCodeOf, IsOpenedAs, IsRead, IsRotated};
+ghost use Rattle.raft_ffi.specs.Words.{AreTailsIn, IsSynced, IsUnopenedAs, IsUnpurged, IsUnrotated, IsUnsynced, IsUnwrittenAs, IsWrittenOrNone, empty_batch, is_open, mode_of, version_of};
 
-use crate::found_files::FoundFiles;
-use crate::handles::{Batch, Context, Engine, Found, Handle, told, with};
+use crate::handles::{Batch, Engine, Handle, Reader, told, with};
 use crate::held_engine::HeldEngine;
+use crate::opening::open_into;
+use crate::read_queue::Size;
 use crate::status::{Status, Tail, answered, recovery_mode, version};
-use raft_base::{Result, Version};
-use raft_contexts::MemTableRecoverContext;
-use raft_engine::{Recovered, RecoveryMode};
-use raft_orders::HandedFiles;
+use raft_base::Result;
+use raft_engine::Recovered;
 use std::alloc::Global;
 
-/// Opens found files in a mode, with the context of each queue that read them: one that has read the batches of its files, in order,
-/// up to where the last one can't be read. In mode 0 nothing is cut off, in mode 2 all from there on, and in any other what a crash
-/// can leave. It says what was cut off from each queue. The files and the contexts are gone then.
+/// Opens files in a mode that readers have read, by the numbers and lengths of each queue's, oldest first: the batches of its files, in
+/// order, up to where the last one can't be read, and what stands there from that byte on. In mode 0 nothing is cut off, in mode 2 all
+/// from there on, and in any other what a crash can leave. It says what was cut off from each queue. The readers are gone then.
 #[unsafe(no_mangle)]
 pub extern "C" fn raft_ffi_engine_open(
     alloc: Global,
     engine: &mut Engine,
-    found: Found,
-    rewritten: Context,
-    appended: Context,
+    append: &[Size],
+    append_rest: &[u8],
+    rewrite: &[Size],
+    rewrite_rest: &[u8],
+    appended: Reader,
+    rewritten: Reader,
     is_signed: bool,
     mode: u32,
     append_tail: &mut Tail,
@@ -33,28 +35,29 @@ pub extern "C" fn raft_ffi_engine_open(
     text: &mut [u8],
 ) -> Status
     requires empty { engine.old.value ≡ None }
-    requires read { HaveReadBoth (version_of is_signed) found.value appended.value rewritten.value }
-    ensures ok { result.code ≡ 0 → BothHold
-        (λ f e. IsOpened (version_of is_signed) f.append f.rewrite e) found.value engine.new.value }
-    ensures accepted { result.code ≡ 0 → Holds (λ f. AreBothAccepted (mode_of mode) (version_of is_signed) f.append f.rewrite) found.value }
-    ensures told { result.code ≡ 0 → Holds (λ f. AreTailsToldIn (version_of is_signed) f append_tail.new rewrite_tail.new
-        append_reason.old append_reason.new rewrite_reason.old rewrite_reason.new) found.value }
+    requires read { BothHold (AreSomeReadAs (version_of is_signed) append.now append_rest.now rewrite.now rewrite_rest.now)
+        appended.value rewritten.value }
+    ensures ok { result.code ≡ 0 → AllHold (λ a r e. (recovered : Recovered) × IsOpenedAs (mode_of mode) (version_of is_signed)
+        append.now append_rest.now rewrite.now rewrite_rest.now a r e recovered × AreTailsIn append_tail.new rewrite_tail.new
+        append_reason.old append_reason.new rewrite_reason.old rewrite_reason.new recovered) appended.value rewritten.value engine.new.value }
     ensures err { result.code ≢ 0 → engine.new.value ≡ None }
-    ensures fault { result.code ≢ 0 → Holds (λ f. IsCodeOf
-        (IsUnopenedAs (mode_of mode) (version_of is_signed) f) result.code) found.value }
+    ensures fault { result.code ≢ 0 → BothHold (λ a r. IsCodeOf (IsUnopenedAs (mode_of mode) (version_of is_signed) append.now
+        append_rest.now rewrite.now rewrite_rest.now a r) result.code) appended.value rewritten.value }
     ensures text { HasText result text.old text.new }
 {
-    let files = found.into_held();
-    let rewrite = rewritten.into_held();
-    let append = appended.into_held();
+    let appended = appended.into_held().into_both();
+    let rewritten = rewritten.into_held().into_both();
     let answer = open_into(
         engine,
         alloc,
         recovery_mode(mode),
         version(is_signed),
-        files,
-        rewrite,
         append,
+        append_rest,
+        rewrite,
+        rewrite_rest,
+        appended,
+        rewritten,
     );
     tell(
         alloc,
@@ -84,39 +87,6 @@ fn tell(
         *append_tail = Tail::of(alloc, &recovered.append, append_reason);
         *rewrite_tail = Tail::of(alloc, &recovered.rewrite, rewrite_reason);
     }
-}
-
-/// Opens found files, of which each queue's context has read the batches, and puts the engine into
-/// an empty handle. Returns what was cut off.
-///
-/// # Errors
-///
-/// Those of `Engine::open_over_telling`, and `Memory`. The handle is then empty, and files and
-/// contexts are gone.
-fn open_into(
-    engine: &mut Engine,
-    alloc: Global,
-    mode: RecoveryMode,
-    version: Version,
-    found: FoundFiles,
-    rewritten: MemTableRecoverContext,
-    appended: MemTableRecoverContext,
-) -> Result<Recovered>
-    requires empty { engine.old.value ≡ None }
-    requires read { HaveReadFound version found.append found.rewrite appended rewritten }
-    ensures ok { OnOk result (Holds (IsOpened version found.append found.rewrite) engine.new.value) }
-    ensures accepted { OnOk result (AreBothAccepted mode version found.append found.rewrite) }
-    ensures recovered { IfOk result (IsRecoveredOf version found.append found.rewrite) }
-    ensures err { OnErr result (engine.new.value ≡ None) }
-    ensures fault { IfErr result (IsUnopenedAs mode version found) }
-{
-    let FoundFiles { append, rewrite } = found;
-    let files = HandedFiles::found(alloc, &append, &rewrite);
-    let opened = raft_engine::Engine::open_over_telling(
-        alloc, mode, version, files, append, rewrite, appended, rewritten,
-    )?;
-    engine.put_new(alloc, HeldEngine::of(opened.engine))?;
-    Ok(opened.recovered)
 }
 
 /// Tests whether the engine takes further calls.

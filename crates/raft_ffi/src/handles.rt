@@ -1,18 +1,18 @@
 //! Values on the heap behind pointers that C keeps.
 
 ghost use Rattle.std.specs.Prelude.{◌≡◌, List, Option, Some, None, IsTrue, is_some, IfErr, OnErr, OnOk};
-ghost use Rattle.raft_ffi.specs.Words.{coded_option, Accessor, accessor_code, RecoverContext, recover_context_code, KeptEngine, engine_code, Item, FilesSeen, files_code, handle_owned, box_owns};
+ghost use Rattle.raft_ffi.specs.Words.{coded_option, Accessor, accessor_code, RecoverContext, recover_context_code, KeptEngine, engine_code, Item, ReaderSeen, reader_code, handle_owned, box_owns};
 ghost use Rattle.raft_accessor.specs.contracts.accessor.MemTableAccessor.{the_row as tables_row};
 ghost use Rattle.raft_contexts.specs.contracts.recover_context.MemTableRecoverContext.{the_row as context_row};
 ghost use Rattle.raft_records.specs.LogBatch.{Batch as BatchSeen};
 ghost use Rattle.raft_records.specs.contracts.log_batch.LogBatch.{the_row as batch_row};
-ghost use Rattle.raft_ffi.specs.contracts.found_files.FoundFiles.{the_row as found_row};
 ghost use Rattle.raft_ffi.specs.contracts.held_engine.HeldEngine.{the_row as engine_row};
 ghost use Rattle.raft_ffi.specs.contracts.item_list.ItemList.{the_row as items_row};
+ghost use Rattle.raft_ffi.specs.contracts.queue_reader.QueueReader.{the_row as reader_row};
 
-use crate::found_files::FoundFiles;
 use crate::held_engine::HeldEngine;
 use crate::item_list::ItemList;
+use crate::queue_reader::QueueReader;
 use raft_accessor::MemTableAccessor;
 use raft_base::{Error, Result};
 use raft_contexts::MemTableRecoverContext;
@@ -300,46 +300,6 @@ impl Handle for Engine {
 
 unsafe impl Send for Engine {}
 
-/// Found files, or nothing.
-#[repr(C)]
-#[derive(Drop)]
-pub struct Found {
-    at: *mut u8,
-    alloc: Global,
-    pub ghost value: { Option FilesSeen } by { coded_option files_code },
-}
-
-impl Model for Found {
-    ghost also_owns = { λ h. handle_owned found_row h.alloc h.at h.value };
-}
-
-impl Handle for Found {
-    type Held = FoundFiles;
-
-    ghost value = { λ h. h.value };
-
-    fn empty(alloc: Global) -> Found {
-        let at = ptr::null_mut();
-        Found { at, alloc }
-    }
-
-    fn of_parts(parts: Parts<FoundFiles, Global>) -> Found
-        ensures { result.value ≡ Some parts.value }
-    {
-        let Parts { ptr, alloc } = parts;
-        let at = ptr as *mut u8;
-        Found { at, alloc }
-    }
-
-    fn into_parts(self) -> Parts<FoundFiles, Global> {
-        let Found { at, alloc } = self;
-        let ptr = at as *mut FoundFiles;
-        Parts { ptr, alloc }
-    }
-}
-
-unsafe impl Send for Found {}
-
 /// Items, or nothing.
 #[repr(C)]
 #[derive(Drop)]
@@ -379,6 +339,46 @@ impl Handle for Items {
 }
 
 unsafe impl Send for Items {}
+
+/// A reader of a queue's files, or nothing.
+#[repr(C)]
+#[derive(Drop)]
+pub struct Reader {
+    at: *mut u8,
+    alloc: Global,
+    pub ghost value: { Option ReaderSeen } by { coded_option reader_code },
+}
+
+impl Model for Reader {
+    ghost also_owns = { λ h. handle_owned reader_row h.alloc h.at h.value };
+}
+
+impl Handle for Reader {
+    type Held = QueueReader;
+
+    ghost value = { λ h. h.value };
+
+    fn empty(alloc: Global) -> Reader {
+        let at = ptr::null_mut();
+        Reader { at, alloc }
+    }
+
+    fn of_parts(parts: Parts<QueueReader, Global>) -> Reader
+        ensures { result.value ≡ Some parts.value }
+    {
+        let Parts { ptr, alloc } = parts;
+        let at = ptr as *mut u8;
+        Reader { at, alloc }
+    }
+
+    fn into_parts(self) -> Parts<QueueReader, Global> {
+        let Reader { at, alloc } = self;
+        let ptr = at as *mut QueueReader;
+        Parts { ptr, alloc }
+    }
+}
+
+unsafe impl Send for Reader {}
 
 /// Tables, or nothing.
 #[repr(C)]

@@ -1,10 +1,8 @@
 //! The files of an engine that others keep.
 
-ghost use Rattle.raft_base.specs.declared.pipe_log.LogQueue.TheVariants.{Append, Rewrite};
-ghost use Rattle.std.specs.Prelude.{◌≡◌, ◌+◌, [], ◌∷◌, length, map, option_map, IfErr, IfNone, IfOk, IfSome, None, OnErr, OnOk};
-ghost use Rattle.raft_files.specs.Asks.{Begin, Cut, Delete, Found, Put, Read, Sync, ask};
-ghost use Rattle.raft_files.specs.HeldFiles.{file_shown};
-ghost use Rattle.raft_orders.specs.Orders.{IsOrder, ask_of, next_to_do};
+ghost use Rattle.std.specs.Prelude.{◌≡◌, ◌+◌, [], ◌∷◌, length, option_map, IfErr, IfNone, IfOk, IfSome, None, OnErr, OnOk};
+ghost use Rattle.raft_files.specs.Asks.{Begin, Cut, Delete, Put, Read, Sync, ask};
+ghost use Rattle.raft_orders.specs.Orders.{IsOrder, all_to_do, ask_of, next_to_do};
 ghost use Rattle.raft_orders.specs.Refusals.{HandedFails, IsUnordered, IsUnread};
 
 use crate::lent_blocks::LentBlocks;
@@ -47,24 +45,18 @@ impl Model for HandedFiles {
 }
 
 impl HandedFiles {
-    /// Makes files that are found when the machine starts: those of each queue, oldest first, all of whose bytes are on the disk.
-    pub fn found(
-        alloc: Global,
-        append: &Vec<(FileSeq, Vec<u8>)>,
-        rewrite: &Vec<(FileSeq, Vec<u8>)>,
-    ) -> HandedFiles
-        ensures asks { result.asks ≡ ask Rewrite (Found (map file_shown rewrite.now.items))
-            ∷ ask Append (Found (map file_shown append.now.items)) ∷ [] }
+    /// Makes files that are found when the machine starts, as they were noted: all of their bytes are on the disk, and nothing is to be
+    /// done to them yet.
+    pub fn found(alloc: Global, found: Asked) -> HandedFiles
+        requires { all_to_do found.asks ≡ [] }
+        ensures asks { result.asks ≡ found.asks }
         ensures taken { result.taken ≡ 0 }
     {
-        let mut asked = Asked::new();
-        asked.found(LogQueue::Append, append);
-        asked.found(LogQueue::Rewrite, rewrite);
         HandedFiles {
             alloc,
             waiting: WaitingOrders::new(alloc),
             lent: LentBlocks::new(alloc),
-            asked,
+            asked: found,
         }
     }
 

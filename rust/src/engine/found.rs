@@ -1,32 +1,22 @@
 //! The files that are found when an engine is opened.
 
+use super::Recovered;
 use super::numbers::Numbers;
-use super::{Recovered, RecoveryMode, locks};
-use crate::recovery;
-use crate::sys::{EngineHandle, FoundHandle, Order};
-use crate::{Context, FileId, Files, Options, Queue, Result, Version};
-use std::sync::{Mutex, PoisonError};
+use crate::sys::{EngineHandle, Order, ReadFiles, open_engine};
+use crate::{Error, FileId, Files, Options, Queue, Result};
 
-mod held;
-mod read_queue;
+mod file_pieces;
+mod file_reading;
+mod queue_reading;
+mod stretches;
+mod worker;
 
-use read_queue::read_queue;
+use queue_reading::read_queue;
 
-/// How the files of raft-engine begin. No batch begins so: such a file would be taken for a torn one, and cut.
-const FOREIGN_HEADER: &[u8] = b"RAFT-LOG-FILE-HEADER";
-
-/// From how many bytes on those of a queue are added by a thread of its own.
-const ADDED_BESIDE: usize = 256 << 10;
-
-/// The bytes of the files of both queues, and contexts that have read just these, up to where each queue's last file can't be
-/// read.
-#[derive(Debug)]
+/// The files of both queues, as they were read, and how long they are.
 pub(super) struct Found {
-    files: FoundHandle,
-    version: Version,
-    mode: RecoveryMode,
-    rewritten: Context,
-    appended: Context,
+    append: ReadFiles,
+    rewrite: ReadFiles,
     numbers: Numbers,
 }
 
@@ -44,25 +34,23 @@ impl Found {
     ///
     /// # Errors
     ///
-    /// `Corruption` where a file is missing between two others; `InvalidArgument` where one is of raft-engine, which begins with
-    /// a header; those of [`Context::replay`] and [`Context::merge`]; `Io`, `Memory`.
+    /// `Corruption` where a file is missing between two others; those of [`read_queue()`].
     pub(super) fn read(files: &impl Files, options: &Options) -> Result<Found> {
-        let found = Mutex::new(FoundHandle::new()?);
         let mut numbers = Numbers::default();
         let mut read = |queue| {
-            let held = held::read_held(files, queue, options.recovery_threads)?;
-            for (file, bytes) in &held {
-                numbers.set_len(*file, bytes.len() as u64);
+            let listed = files
+                .list(queue)
+                .map_err(|e| Error::system(format_args!("the {queue} files can't be listed"), e))?;
+            check_none_is_missing(queue, &listed)?;
+            for (seq, len) in &listed {
+                numbers.set_len(FileId::new(queue, *seq), *len);
             }
-            read_and_add(&held, queue, options, &found)
+            read_queue(files, queue, &listed, options)
         };
-        let (rewritten, appended) = (read(Queue::Rewrite)?, read(Queue::Append)?);
+        let (rewrite, append) = (read(Queue::Rewrite)?, read(Queue::Append)?);
         Ok(Found {
-            files: found.into_inner().unwrap_or_else(PoisonError::into_inner),
-            version: options.version,
-            mode: options.recovery_mode,
-            rewritten,
-            appended,
+            append,
+            rewrite,
             numbers,
         })
     }
@@ -71,16 +59,11 @@ impl Found {
     ///
     /// # Errors
     ///
-    /// Those of [`Context::overlay`]; `Corruption` where the mode refuses the tail of a queue's last file, or that is of the other
-    /// version, and where numbers of files don't rise; `InvalidArgument` where the batches of an atomic group don't stand in a row
-    /// in one file; `Full`, `Memory`.
-    pub(super) fn open(self) -> Result<Opened> {
-        let (mut tables, recovered) = self.files.open(
-            self.rewritten.into_handle()?,
-            self.appended.into_handle()?,
-            self.version,
-            self.mode,
-        )?;
+    /// `Corruption` where the mode refuses the tail of a queue's last file, or that is of the other version, and where numbers of
+    /// files don't rise; `InvalidArgument` where the batches of an atomic group don't stand in a row in one file; `Full`, `Memory`.
+    pub(super) fn open(self, options: &Options) -> Result<Opened> {
+        let (version, mode) = (options.version, options.recovery_mode);
+        let (mut tables, recovered) = open_engine(self.append, self.rewrite, version, mode)?;
         let orders = tables.take_orders()?;
         Ok(Opened {
             tables,
@@ -91,33 +74,20 @@ impl Found {
     }
 }
 
-/// Reads what the files of a queue have, on as many threads as the options say, and adds their
-/// bytes to those that are found: one of the threads does that, where it takes longer than to start
-/// one.
+/// Tests that each number between those of two neighboring files is that of one. Files are begun with the next number, and the
+/// oldest goes first, so a file that isn't there was taken away.
 ///
 /// # Errors
 ///
-/// Those of [`read_queue()`], `Memory`.
-fn read_and_add(
-    held: &[(FileId, Vec<u8>)],
-    queue: Queue,
-    options: &Options,
-    found: &Mutex<FoundHandle>,
-) -> Result<Context> {
-    let (version, threads) = (options.version, options.recovery_threads.max(1));
-    let add = || {
-        let mut found = locks::lock(found);
-        held.iter()
-            .try_for_each(|(file, bytes)| found.add(*file, bytes))
-    };
-    let len: usize = held.iter().map(|(_, bytes)| bytes.len()).sum();
-    if threads == 1 || len < ADDED_BESIDE {
-        let read = read_queue(held, queue, version, threads)?;
-        add()?;
-        return Ok(read);
+/// `Corruption`, with the file that is missing.
+fn check_none_is_missing(queue: Queue, listed: &[(u64, u64)]) -> Result<()> {
+    for pair in listed.windows(2) {
+        let (before, after) = (pair[0].0, pair[1].0);
+        if after > before && after - before > 1 {
+            let file = FileId::new(queue, before + 1);
+            let text = format!("it is missing, files {before} and {after} are there");
+            return Err(Error::corruption(file, 0, &text));
+        }
     }
-    let (read, added) = recovery::call_both(|| read_queue(held, queue, version, threads - 1), add);
-    let read = read?;
-    added?;
-    Ok(read)
+    Ok(())
 }

@@ -77,7 +77,8 @@ impl Options {
         }
     }
 
-    /// Sets on how many threads the files are read when they are opened.
+    /// Sets on how many threads the files are read when they are opened. Each takes the memory of a piece of 4 MiB, or of the longest
+    /// batch.
     ///
     /// ```
     /// # use raft_recover::Options;

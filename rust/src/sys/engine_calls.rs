@@ -1,6 +1,6 @@
-//! The calls on an engine and on found files.
+//! The calls on an engine.
 
-use super::{EntryNumbers, Handle, Maybe, Status, SummaryNumbers};
+use super::{EntryNumbers, Handle, Maybe, Size, Status, SummaryNumbers};
 
 #[repr(C)]
 #[derive(Clone, Copy, Default)]
@@ -33,28 +33,23 @@ pub(super) struct TailNumbers {
 }
 
 unsafe extern "C" {
-    /// Makes found files, of which there are none yet.
-    pub(super) fn raft_ffi_found_new(found: *mut Handle) -> u32;
-    /// Adds a file of a queue behind the others, with a copy of its bytes.
-    pub(super) fn raft_ffi_found_add(
-        found: *mut Handle,
-        is_rewrite: bool,
-        seq: u64,
-        bytes: *const u8,
-        bytes_len: usize,
-    ) -> u32;
-    /// Frees the found files.
-    pub(super) fn raft_ffi_found_drop(found: Handle);
-
-    /// Opens found files in a mode, with the context of each queue that read them: one that has
-    /// read the batches of its files, in order, up to where the last one can't be read. In mode 0
-    /// nothing is cut off, in mode 2 all from there on, and in any other what a crash can leave. It
-    /// says what was cut off from each queue. The files and the contexts are gone then.
+    /// Opens files in a mode that readers have read, by the numbers and lengths of each queue's,
+    /// oldest first: the batches of its files, in order, up to where the last one can't be read, and
+    /// what stands there from that byte on. In mode 0 nothing is cut off, in mode 2 all from there
+    /// on, and in any other what a crash can leave. It says what was cut off from each queue. The
+    /// readers are gone then.
     pub(super) fn raft_ffi_engine_open(
         engine: *mut Handle,
-        found: Handle,
-        rewritten: Handle,
+        append: *const Size,
+        append_len: usize,
+        append_rest: *const u8,
+        append_rest_len: usize,
+        rewrite: *const Size,
+        rewrite_len: usize,
+        rewrite_rest: *const u8,
+        rewrite_rest_len: usize,
         appended: Handle,
+        rewritten: Handle,
         is_signed: bool,
         mode: u32,
         append_tail: *mut TailNumbers,

@@ -13,7 +13,8 @@ pub enum Call<'a> {
     Rotate(FileId),
     Delete(FileId),
     Truncate(FileId, u64),
-    Read(FileId, u64),
+    /// Which file is read, from which byte on, and how many bytes.
+    Read(FileId, u64, usize),
 }
 
 impl Call<'_> {
@@ -67,7 +68,7 @@ impl<H: Fn(Call<'_>) -> io::Result<()> + Send + Sync> Files for Hooked<H> {
     }
 
     fn read(&self, file: FileId, offset: u64, bytes: &mut [u8]) -> io::Result<()> {
-        (self.hook)(Call::Read(file, offset))?;
+        (self.hook)(Call::Read(file, offset, bytes.len()))?;
         self.files.read(file, offset, bytes)
     }
 }

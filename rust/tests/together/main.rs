@@ -19,6 +19,7 @@ mod lent_reads;
 mod memory_files;
 mod messages;
 mod no_room;
+mod opening_pieces;
 mod parts;
 mod public_calls;
 mod purges;

@@ -1,6 +1,0 @@
-use Rattle.raft_ffi.proofs.HandleKinds as handles
-use Rattle.raft_ffi.proofs.handles.FoundHandle.into_parts.Statement as stated
-use Rattle.raft_ffi.proofs.handles.FoundHandle.into_parts.Code as code
-
-pub into_parts_spec : {M : Type 1} → stated.statement M
-into_parts_spec 𝓤 𝓛 𝓜 𝓡 wired = handles.into_parts handles.found 𝓛 𝓜 𝓡 _ (code.unfolded 𝓤 𝓛.H 𝓜 𝓡 wired)

@@ -1,0 +1,7 @@
+-- As what a `QueueReader` is seen.
+use Rattle.raft_ffi.specs.Readers.{ReaderSeen}
+use Rattle.raft_ffi.specs.declared.queue_reader.QueueReader.TheInside.{Inside}
+
+-- what was read
+abbrev pub reader_seen : Inside → ReaderSeen
+reader_seen reader = reader.both

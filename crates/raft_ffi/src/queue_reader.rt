@@ -1,0 +1,117 @@
+//! What is read of the files of a queue, in pieces.
+
+ghost use Rattle.std.specs.Prelude.{◌≡◌, ◌≢◌, ◌⊎◌, ◌+◌, ◌^◌, ◌<◌, [], length, take, drop, IfErr, IfOk, OnOk};
+ghost use Rattle.raft_ffi.specs.Words.{ArePassed, CannotFollow, HasNoFront, HaveBothRead, HaveBothReadExactly, HoldsFrom, IsReadable, IsReplayedBy, part_of, signature_of};
+ghost use Rattle.raft_ffi.specs.Words.{AreReadersUnsound, ReadersStand, ReadersStandExactly};
+
+use raft_base::{Error, LogFileContext, LogQueue, Result};
+use raft_contexts::MemTableRecoverContext;
+use raft_engine::both::Both;
+use raft_engine::group_rows::GroupRows;
+use raft_history::ReplayMachine;
+use raft_prefix::readable::replay_readable;
+use raft_replay::replay_bytes;
+use std::alloc::Global;
+use std::marker::Model;
+
+/// What was read of a stretch of a queue's batches: their tables, and whether their atomic groups stand in rows.
+#[derive(Drop)]
+pub struct QueueReader {
+    both: Both<MemTableRecoverContext, GroupRows>,
+}
+
+impl Model for QueueReader {
+    ghost use Rattle.raft_ffi.specs.Readers.{ReaderSeen, reader_code};
+
+    ghost Value = { ReaderSeen };
+
+    ghost coded = { reader_code };
+
+    ghost use Rattle.raft_ffi.specs.ReadersView.{reader_seen};
+
+    ghost view = { reader_seen };
+}
+
+impl QueueReader {
+    /// Makes one that has read nothing.
+    ///
+    /// # Errors
+    ///
+    /// `Memory`.
+    pub(crate) fn new(alloc: Global) -> Result<QueueReader>
+        ensures ok { IfOk result (λ r. HaveBothReadExactly r []) }
+        ensures memory { IfErr result (λ e. e ≡ Error.Memory) }
+    {
+        let both = Both {
+            first: MemTableRecoverContext::new(alloc)?,
+            second: GroupRows::new(),
+        };
+        Ok(QueueReader { both })
+    }
+
+    /// Returns what was read.
+    pub(crate) fn into_both(self) -> Both<MemTableRecoverContext, GroupRows>
+        ensures { result ≡ self }
+    {
+        self.both
+    }
+
+    /// Replays the batches of bytes that stand in the file from `offset` on.
+    ///
+    /// # Errors
+    ///
+    /// Those of [`replay_bytes`]. Some of the batches may then be taken in.
+    pub(crate) fn replay(
+        &mut self,
+        alloc: Global,
+        file: &LogFileContext,
+        offset: u64,
+        bytes: &[u8],
+    ) -> Result<()>
+        requires ends { offset + length bytes.now < 2 ^ 64 }
+        ensures ok { OnOk result (IsReplayedBy (part_of file.now offset bytes.now) self.old self.new) }
+        ensures refused { IfErr result (λ e. e ≢ Error.Memory
+            → CannotFollow (HoldsFrom (part_of file.now offset bytes.now) 0) (HaveBothRead self.old)) }
+    {
+        replay_bytes(&mut self.both, alloc, file, offset, bytes)
+    }
+
+    /// Replays the batches of bytes that stand in the last file of a queue from `offset` on, up to the first one that can't be read,
+    /// and returns how many bytes they have. In a rewrite file the entries of each batch are checked.
+    ///
+    /// # Errors
+    ///
+    /// `Corruption`, which names the file and the offset, where the entries of a batch of a rewrite file are damaged; those of the
+    /// machine; `Memory`. Some of the batches may then be taken in.
+    pub(crate) fn replay_last(
+        &mut self,
+        alloc: Global,
+        file: &LogFileContext,
+        offset: u64,
+        bytes: &[u8],
+    ) -> Result<usize>
+        requires ends { offset + length bytes.now < 2 ^ 64 }
+        ensures ok { IfOk result (λ len. IsReplayedBy (part_of file.now offset (take len bytes.now)) self.old self.new) }
+        ensures passed { IfOk result (λ len. ArePassed file.now offset bytes.now len) }
+        ensures stops { IfOk result (λ len. (len ≡ length bytes.now)
+            ⊎ HasNoFront (λ xs. IsReadable xs (signature_of file.now)) (drop len bytes.now)) }
+    {
+        match replay_readable(&mut self.both, alloc, file, offset, bytes)? {
+            (len, None) => Ok(len),
+            (len, Some(_)) => Ok(len),
+        }
+    }
+
+    /// Takes in what was read of the batches that follow.
+    ///
+    /// # Errors
+    ///
+    /// Those of `MemTableRecoverContext::merge`.
+    pub(crate) fn merge(&mut self, newer: QueueReader, queue: LogQueue) -> Result<()>
+        ensures stands { OnOk result (ReadersStand newer self.old self.new) }
+        ensures exact { OnOk result (ReadersStandExactly newer self.old self.new) }
+        ensures refused { IfErr result (λ e. e ≢ Error.Memory → AreReadersUnsound queue self.old newer) }
+    {
+        self.both.merge(newer.both, queue)
+    }
+}

@@ -1,0 +1,196 @@
+//! A file that is read piece by piece.
+
+use crate::{Error, FileId, Files, Result, batch_len};
+
+/// How many bytes of a file are read at once; more only where a batch is longer.
+pub(super) const PIECE: usize = 4 << 20;
+
+/// How many bytes the header of a batch has.
+const HEADER_LEN: usize = 16;
+
+/// How the files of raft-engine begin. No batch begins so: such a file would be taken for a torn one, and cut.
+const FOREIGN_HEADER: &[u8] = b"RAFT-LOG-FILE-HEADER";
+
+/// A file that is read in pieces, one behind the other, each of which ends where a batch does. No byte is read twice.
+pub(super) struct FilePieces<'a, F> {
+    files: &'a F,
+    file: FileId,
+    len: u64,
+    /// Where the next piece begins.
+    at: u64,
+    /// What was read of it: the beginning of a batch.
+    begun: Vec<u8>,
+    /// How many pieces were lent.
+    count: usize,
+    /// Whether no piece comes any more.
+    is_done: bool,
+}
+
+/// A piece of a file, whose bytes are lent.
+#[derive(Clone, Copy)]
+pub(super) struct Piece<'r> {
+    /// Where in the file it begins.
+    pub(super) offset: u64,
+    /// Its bytes: whole batches, by their headers, or what stands behind the last one of the file.
+    pub(super) bytes: &'r [u8],
+    /// Whether no piece comes behind it.
+    pub(super) is_last: bool,
+}
+
+impl<'a, F: Files> FilePieces<'a, F> {
+    /// Begins with the first byte of a file of `len` bytes.
+    pub(super) fn new(files: &'a F, file: FileId, len: u64) -> FilePieces<'a, F> {
+        FilePieces {
+            files,
+            file,
+            len,
+            at: 0,
+            begun: Vec::new(),
+            count: 0,
+            is_done: len == 0,
+        }
+    }
+
+    /// Returns how many bytes of the file are still to be read; 0 where no piece comes any more.
+    pub(super) fn left(&self) -> u64 {
+        match self.is_done {
+            true => 0,
+            false => self.len - self.at - self.begun.len() as u64,
+        }
+    }
+
+    /// Returns how many pieces were lent.
+    pub(super) fn count(&self) -> usize {
+        self.count
+    }
+
+    /// Has no piece come any more.
+    pub(super) fn end(&mut self) {
+        self.is_done = true;
+    }
+
+    /// Reads the next piece into the room, if there is one, and lends it.
+    ///
+    /// # Errors
+    ///
+    /// `Io` with file and offset, `InvalidArgument` where the file begins with raft-engine's header, `Memory`. No piece comes then
+    /// any more.
+    pub(super) fn next<'r>(&mut self, room: &'r mut Vec<u8>) -> Result<Option<Piece<'r>>> {
+        if self.is_done {
+            return Ok(None);
+        }
+        self.is_done = true;
+        let read = self.read_batch(room)?;
+        let read = &room[..read];
+        if self.at == 0 && read.starts_with(FOREIGN_HEADER) {
+            let text = "the file is one of raft-engine, which begins with a header";
+            return Err(Error::invalid_argument(text).at(self.file, 0));
+        }
+        let offset = self.at;
+        let whole = whole_batches(read);
+        let (bytes, begun) = read.split_at(if whole > 0 { whole } else { read.len() });
+        self.keep(begun)?;
+        self.at += bytes.len() as u64;
+        self.count += 1;
+        self.is_done = whole == 0 || self.at == self.len;
+        Ok(Some(Piece {
+            offset,
+            bytes,
+            is_last: self.is_done,
+        }))
+    }
+
+    /// Reads a piece into the room, behind what was read of it, until the batch at its front is whole, if it can be. Returns how many
+    /// bytes are there then.
+    ///
+    /// # Errors
+    ///
+    /// `Io`, `Memory`.
+    fn read_batch(&mut self, room: &mut Vec<u8>) -> Result<usize> {
+        let mut read = self.begun.len();
+        self.make_room(room, read)?;
+        room[..read].copy_from_slice(&self.begun);
+        loop {
+            let offset = self.at + read as u64;
+            let wanted = bytes_wanted(&room[..read], self.len - offset);
+            if wanted == 0 {
+                return Ok(read);
+            }
+            self.make_room(room, read + wanted)?;
+            let piece = &mut room[read..read + wanted];
+            read_into(self.files, self.file, offset, piece)?;
+            read += wanted;
+        }
+    }
+
+    /// Keeps what was read of the next piece.
+    ///
+    /// # Errors
+    ///
+    /// `Memory`.
+    fn keep(&mut self, begun: &[u8]) -> Result<()> {
+        self.begun.clear();
+        self.begun
+            .try_reserve_exact(begun.len())
+            .map_err(|_| Error::memory().at(self.file, self.at))?;
+        self.begun.extend_from_slice(begun);
+        Ok(())
+    }
+
+    /// Makes room for so many bytes.
+    ///
+    /// # Errors
+    ///
+    /// `Memory`.
+    fn make_room(&self, room: &mut Vec<u8>, len: usize) -> Result<()> {
+        if len > room.len() {
+            room.try_reserve_exact(len - room.len())
+                .map_err(|_| Error::memory().at(self.file, self.at))?;
+            room.resize(len, 0);
+        }
+        Ok(())
+    }
+}
+
+/// Fills the bytes with those of a file from `offset` on.
+///
+/// # Errors
+///
+/// `Io` with file and offset.
+pub(super) fn read_into(
+    files: &impl Files,
+    file: FileId,
+    offset: u64,
+    bytes: &mut [u8],
+) -> Result<()> {
+    files
+        .read(file, offset, bytes)
+        .map_err(|e| Error::system("the file can't be read", e).at(file, offset))
+}
+
+/// Returns how many bytes the batches have that are whole in these bytes, by their headers.
+fn whole_batches(bytes: &[u8]) -> usize {
+    let mut at = 0;
+    while let Some(len) = batch_len(&bytes[at..]) {
+        if len > bytes.len() - at {
+            break;
+        }
+        at += len;
+    }
+    at
+}
+
+/// Returns how many bytes to read behind these, where the file has `left` more; 0 where the batch at their front is whole, or none
+/// of them can make it so.
+fn bytes_wanted(bytes: &[u8], left: u64) -> usize {
+    let missing = match batch_len(bytes) {
+        _ if bytes.len() < HEADER_LEN => 0,
+        Some(len) if len > bytes.len() => len - bytes.len(),
+        _ => return 0,
+    };
+    if missing as u64 > left {
+        return 0;
+    }
+    let left = usize::try_from(left).unwrap_or(usize::MAX);
+    missing.max(PIECE).min(left)
+}

@@ -1,0 +1,141 @@
+//! A file in which several threads read.
+
+use super::file_pieces::{FilePieces, PIECE, Piece, read_into};
+use crate::engine::locks;
+use crate::sys::ReaderHandle;
+use crate::{Error, ErrorKind, FilePart, Files, LogFile, Result, readable_front};
+use std::sync::Mutex;
+use std::sync::atomic::{AtomicU64, Ordering::Relaxed};
+
+/// A file while it is read.
+pub(super) struct FileReading<'a, F> {
+    files: &'a F,
+    file: LogFile,
+    /// How many bytes it has, more than 0.
+    len: u64,
+    /// Whether it is the last one of its queue, in which no batch is refused that can't be read.
+    is_last: bool,
+    /// Whether a batch that doesn't fit those before it is to be named.
+    is_named: bool,
+    pieces: Mutex<FilePieces<'a, F>>,
+    /// How many bytes no piece has yet.
+    left: AtomicU64,
+}
+
+impl<'a, F: Files> FileReading<'a, F> {
+    /// Begins with the first byte of a file of `len` bytes, which may be the last one of its queue.
+    pub(super) fn new(
+        files: &'a F,
+        file: LogFile,
+        len: u64,
+        is_last: bool,
+        is_named: bool,
+    ) -> FileReading<'a, F> {
+        FileReading {
+            files,
+            file,
+            len,
+            is_last,
+            is_named,
+            pieces: Mutex::new(FilePieces::new(files, file.into(), len)),
+            left: AtomicU64::new(len),
+        }
+    }
+
+    /// Returns how many bytes no piece has yet.
+    pub(super) fn left(&self) -> u64 {
+        self.left.load(Relaxed)
+    }
+
+    /// Returns about how many pieces it has.
+    pub(super) fn pieces_about(&self) -> u64 {
+        self.len.div_ceil(PIECE as u64)
+    }
+
+    /// Reads the next piece into the room, and lends it, with its number.
+    ///
+    /// # Errors
+    ///
+    /// Those of [`FilePieces::next`], with the number of the piece that isn't read.
+    pub(super) fn next<'r>(&self, room: &'r mut Vec<u8>) -> (usize, Result<Option<Piece<'r>>>) {
+        let mut pieces = locks::lock(&self.pieces);
+        let number = pieces.count();
+        let piece = pieces.next(room);
+        self.left.store(pieces.left(), Relaxed);
+        (number, piece)
+    }
+
+    /// Has no further piece be read.
+    pub(super) fn end(&self) {
+        locks::lock(&self.pieces).end();
+        self.left.store(0, Relaxed);
+    }
+
+    /// Replays the next piece, and returns what stands in the file from the first batch on that can't be read, if it is the last
+    /// one of its queue.
+    ///
+    /// # Errors
+    ///
+    /// The refusal of the first batch that is refused; `Io`, `Memory`.
+    pub(super) fn replay(
+        &self,
+        reader: ReaderHandle,
+        piece: Piece<'_>,
+    ) -> Result<(ReaderHandle, Option<Vec<u8>>)> {
+        let part = FilePart {
+            file: self.file,
+            offset: piece.offset,
+            bytes: piece.bytes,
+        };
+        if !self.is_last {
+            return Ok((reader.replay(part)?, None));
+        }
+        let (reader, front) = match self.is_named {
+            true => replay_front(reader, part)?,
+            false => reader.replay_last(part)?,
+        };
+        match piece.bytes.split_at(front) {
+            (_, []) => Ok((reader, None)),
+            (_, rest) => Ok((
+                reader,
+                Some(self.read_rest(piece.offset + front as u64, rest)?),
+            )),
+        }
+    }
+
+    /// Returns all that stands in the file from `offset` on, of which these bytes were read.
+    ///
+    /// # Errors
+    ///
+    /// `Io`, `Memory`.
+    fn read_rest(&self, offset: u64, read: &[u8]) -> Result<Vec<u8>> {
+        let memory = || Error::memory().at(self.file.into(), offset);
+        let len = usize::try_from(self.len - offset).map_err(|_| memory())?;
+        let mut rest = Vec::new();
+        rest.try_reserve_exact(len).map_err(|_| memory())?;
+        rest.extend_from_slice(read);
+        rest.resize(len, 0);
+        let behind = &mut rest[read.len()..];
+        if !behind.is_empty() {
+            let at = offset + read.len() as u64;
+            read_into(self.files, self.file.into(), at, behind)?;
+        }
+        Ok(rest)
+    }
+}
+
+/// Replays the batches of a part of the last file of a queue, up to the first one that can't be read, and returns how many bytes they
+/// have, as [`ReaderHandle::replay_last`] does, but reads each of them twice, so that a refusal names the batch.
+///
+/// # Errors
+///
+/// The refusal of the first batch that is refused; `Memory`.
+fn replay_front(reader: ReaderHandle, part: FilePart<'_>) -> Result<(ReaderHandle, usize)> {
+    match readable_front(part)? {
+        (_, Some(e)) if e.kind == ErrorKind::Memory => Err(e),
+        (front, _) => {
+            let bytes = &part.bytes[..front];
+            Ok((reader.replay(FilePart { bytes, ..part })?, front))
+        }
+    }
+}

@@ -65,7 +65,7 @@ def main():
         first, last = written_until_killed(rust / "ten_lines", theirs)
         ends = rf"({last + 1}|{last + 2})"
         # (a batch that was being written when the program was killed is a torn tail)
-        steps.expect("raftlog checks", steps.run(raftlog, "check", theirs), [r"(?m)^append file 1: \d+ bytes, \d+ batches, read from offset 0 to "], statuses=(0, 1))
+        steps.expect("raftlog checks", steps.run(raftlog, "check", theirs), [r"(?m)^append file 1: \d+ bytes, \d+ batch(?:es)?, read from offset 0 to "], statuses=(0, 1))
         steps.expect("raftlog reads", steps.run(raftlog, "regions", theirs), [rf"(?m)^7 entries 1\.\.{ends} keys 0 "])
         steps.expect("raftlog dumps", steps.run(raftlog, "dump", "--region", "7", "--values", theirs), [rf'(?m)^    {index} "entry {index}"$' for index in (1, last)])
         steps.expect("raft_example opens", steps.run(example, theirs), [rf"opened: append files \d+, rewrite files 1\n  region 7: entries 1 to ({last}|{last + 1}), leader nobody"])

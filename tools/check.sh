@@ -1,6 +1,6 @@
 #!/usr/bin/env bash
-# The full check: `rt ci`, then what it can't look at: words that aren't UTF-8, `recover --plain`, the frames of `raftlog` on the
-# stack, runs with little stack, crashes of more histories, writes of `raft_example` that fail half way, what `raftlog` says of damaged
+# The full check: `rt ci`, then what it can't look at: words that aren't UTF-8, `recover --plain` over rows and damaged inputs, the frames
+# of `raftlog` on the stack, runs with little stack, crashes of more histories, writes of `raft_example` that fail half way, what `raftlog` says of damaged
 # folders and what an engine does with them, where there is a C compiler the rows of `raft_refusals` with memory and starts of threads
 # refused, and where there is cargo the tests of rust/, and whether programs in Rust and in Rattle open the folders of each other; first of
 # all whether docs/BELIEVE.md and docs/CALLS.md are what the definitions and the sources say, the declarations of the Rust crate what the
@@ -48,6 +48,8 @@ if ! [ -s "$room/out" ] || ! cmp -s "$room/out" "$room/wanted"; then
   echo "recover --plain: other lines than those of recover"
   exit 1
 fi
+tools/beside_plain.py
+tools/hostile.py --inputs 1000 --against tools/beside_plain.py
 step "frames and little stack"
 # (reading a folder takes a buffer for its names, and the parser of the words of these commands is a large value)
 tools/frames.py "$program" --show 3 --limit "$frame_limit" --without raftlog::tools --without raftlog::command_line --without raftlog::cut --without raft_inspect::cut --without raft_folder:: --without clap::

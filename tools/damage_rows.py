@@ -19,6 +19,11 @@ def name_of(seq, ending="raftlog"):
     return f"{seq:016}.{ending}"
 
 
+def counted(batches):
+    """How many batches, in words."""
+    return "1 batch" if batches == 1 else f"{batches} batches"
+
+
 def batches(bytes_):
     """Where each batch begins, where its items begin, and where it ends, by the headers."""
     at, found = 0, []
@@ -87,7 +92,7 @@ class Room:
 
 
 def sizes(room):
-    return [f"append file {seq}: {room.file(seq).stat().st_size} bytes, {len(room.batches(seq))} batches, read from offset 0 to {room.file(seq).stat().st_size}\n"
+    return [f"append file {seq}: {room.file(seq).stat().st_size} bytes, {counted(len(room.batches(seq)))}, read from offset 0 to {room.file(seq).stat().st_size}\n"
             for seq in range(1, LAST + 1)]
 
 
@@ -139,7 +144,7 @@ def torn(room):
     """The last batch of the last file has lost its end."""
     *_, (at, _, end) = room.batches(LAST)
     room.keep(LAST, end - 5)
-    return 1, [f"append file {LAST}: {end - 5} bytes, {len(batches(room.file(LAST).read_bytes()[:at]))} batches, read from offset 0 to {at}\n",
+    return 1, [f"append file {LAST}: {end - 5} bytes, {counted(len(batches(room.file(LAST).read_bytes()[:at])))}, read from offset 0 to {at}\n",
                f"append file {LAST} offset {at}: no batch can be read there, {end - 5 - at} bytes before the end: ",
                f"opening: would open, and cut {end - 5 - at} bytes of append file {LAST} from offset {at} on: ", "\ndamaged\n"]
 
@@ -154,7 +159,7 @@ def entry_byte(room):
     """A byte of an entry: recovery doesn't read it."""
     at, items_at, end = room.batches(2)[1]
     room.flip(2, at + HEADER_LEN)
-    return 1, [f"append file 2 offset {at}: entr", " can't be read: their entry block doesn't stand in the file, or its checksum doesn't hold\n", "opening: would open, and cut nothing of the append queue\n", "\ndamaged\n"]
+    return 1, [f"append file 2 offset {at}: entr", " can't be read: the entry block doesn't stand in the file, or its checksum doesn't hold\n", "opening: would open, and cut nothing of the append queue\n", "\ndamaged\n"]
 
 
 def item_byte(room):
@@ -256,7 +261,7 @@ def group_over_two_files(room):
 def past_its_block(room):
     """The batch is sound, but an entry would end behind the entry bytes. An opening doesn't look at entries of append files."""
     room.only([[batch(1, entries_of(7, 1, [2, 9]), entries=b"aab")]])
-    return 1, ["append file 1 offset 0: entry 2 of region 7 can't be read: they end past their entry block\n", "opening: would open, and cut nothing of the append queue\n"]
+    return 1, ["append file 1 offset 0: entry 2 of region 7 can't be read: the entry block is too short\n", "opening: would open, and cut nothing of the append queue\n"]
 
 
 def without_block(room):
@@ -278,7 +283,7 @@ def large_file(room):
     found = large()
     room.only([found])
     size = sum(map(len, found))
-    return 0, [f"append file 1: {size} bytes, {len(found)} batches, read from offset 0 to {size}\n", "\nsound\n"]
+    return 0, [f"append file 1: {size} bytes, {counted(len(found))}, read from offset 0 to {size}\n", "\nsound\n"]
 
 
 def large_file_damaged(room):
@@ -290,7 +295,7 @@ def large_file_damaged(room):
     items, items_at, behind = next(bound for bound in bounds if bound[2] > 15 << 20)
     room.flip(1, over + HEADER_LEN)
     room.flip(1, items_at)
-    return 1, [f"append file 1: {sum(map(len, found))} bytes, {len(found) - 1} batches, read from offset 0 to {items}\n", f"append file 1 offset {over}: entries ",
+    return 1, [f"append file 1: {sum(map(len, found))} bytes, {counted(len(found) - 1)}, read from offset 0 to {items}\n", f"append file 1 offset {over}: entries ",
                f"append file 1 offset {items}: no batch can be read there, ", f"opening: refused: Corruption: append file 1, offset {items}: ", f"one stands behind it, at offset {behind}\n"]
 
 

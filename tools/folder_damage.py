@@ -21,7 +21,7 @@ import sys
 import tempfile
 from pathlib import Path
 
-from damage_rows import LAST, ROWS, TOP, Room, batches, both_torn, entry_byte, first_byte, name_of, rewrite_torn, torn
+from damage_rows import LAST, ROWS, TOP, Room, batches, both_torn, counted, entry_byte, first_byte, name_of, rewrite_torn, torn
 
 SECONDS = 60
 
@@ -37,7 +37,7 @@ def text_of(lines):
             first, last = line["missing_from"], line["missing_to"]
             said.append(f"{name} file {first}: missing" if first == last else f"{name} files {first} to {last}: missing")
         elif "damage" in line:
-            said.append(f"{name} file {line['file']}: {line['bytes']} bytes, {line['batches']} batches, read from offset 0 to {line['read']}")
+            said.append(f"{name} file {line['file']}: {line['bytes']} bytes, {counted(line['batches'])}, read from offset 0 to {line['read']}")
             said += [f"  {name} file {line['file']} offset {damage['offset']}: {damage_text(line, damage)}" for damage in line["damage"]]
             if line["unseen"]:
                 said.append(f"  {name} file {line['file']} offset {line['bytes'] - line['unseen']}: the {line['unseen']} bytes from there on weren't searched for batches")
@@ -302,7 +302,7 @@ def look_at_damaged(looker):
     if places != owed:
         looker.wrong(f"check of demo/damaged names other places: {places ^ owed}")
     ends = [re.fullmatch(r"append file (\d+) offset (\d+) end", line) for line in lines if line.endswith(" end")]
-    ends = [f"append file {end[1]}: {end[2]} bytes, {sum(line.startswith(f'append file {end[1]} ') for line in lines) - 1} batches, read from offset 0 to {end[2]}\n" for end in ends]
+    ends = [f"append file {end[1]}: {end[2]} bytes, {counted(sum(line.startswith(f'append file {end[1]} ') for line in lines) - 1)}, read from offset 0 to {end[2]}\n" for end in ends]
     looker.expect("check of demo/damaged", checked, 1, [*ends, "append file 3: missing\n", "\ndamaged\n"])
 
 
@@ -340,7 +340,7 @@ def look_at_words(looker, folder):
     looker.expect("dump --values of it", looker.run("dump", "--values", room.path), 1, [])
     lines = [json.loads(line) for line in looker.run("dump", "--values", "--json", room.path).stdout.splitlines()]
     lost = [entry for line in lines for entry in line.get("item", {}).get("entries", []) if entry["bytes"] is None]
-    if not lost or any(entry.get("why") != "their entry block doesn't stand in the file, or its checksum doesn't hold" for entry in lost):
+    if not lost or any(entry.get("why") != "the entry block doesn't stand in the file, or its checksum doesn't hold" for entry in lost):
         looker.wrong(f"dump --values --json of it: {lost}")
 
 

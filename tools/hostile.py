@@ -38,7 +38,7 @@ from pathlib import Path
 RAFTLOG = Path(__file__).resolve().parent.parent / "crates/raftlog/out/raftlog"
 ROUND = 250
 SECONDS = 60
-EMPTY_KIB = 3000
+STEP_KIB = 250
 SPARE_KIB = 500
 STACK_KIB = 8192
 MULTIPLE = 64
@@ -162,11 +162,11 @@ class Case:
         """The words, with the path of each file."""
         return self.words + [f"{seq}={number}.{place}" for place, (seq, _) in enumerate(self.files)]
 
-    def limit(self):
-        """How many KiB of address space are enough."""
+    def limit(self, empty):
+        """How many KiB of address space are enough, where an empty recovery needs `empty`."""
         size = len(self.data) + sum(len(data) for _, data in self.files)
         stacks = int(self.words[3]) if self.words[0] == "recover" else 1
-        return EMPTY_KIB + SPARE_KIB + size * MULTIPLE // 1024 + (stacks * (STACK_KIB + 256) if stacks > 1 else 0)
+        return empty + SPARE_KIB + size * MULTIPLE // 1024 + (stacks * (STACK_KIB + 256) if stacks > 1 else 0)
 
 
 def item_batch_case(chance):
@@ -218,7 +218,16 @@ def case_of(seed, number):
     return item_batch_case(chance) if chance.random() < 0.4 else files_case(chance)
 
 
-def script(program, folder, numbers, cases):
+def needed_kib(program):
+    """How many KiB of address space an empty recovery needs."""
+    for size in range(STEP_KIB, 2**20, STEP_KIB):
+        words = shlex.join([program, "recover", "append", "2", "1"])
+        if subprocess.run(["sh", "-c", f"ulimit -S -v {size}; exec {words} 2>&1"], stdout=subprocess.DEVNULL).returncode == 0:
+            return size
+    sys.exit(f"{program} recovers no files at all")
+
+
+def script(program, empty, folder, numbers, cases):
     """Writes inputs and a shell script that runs the program on each, under its limit."""
     lines = [f"ulimit -s {STACK_KIB}", "export MALLOC_ARENA_MAX=1"]
     for number, case in zip(numbers, cases):
@@ -226,14 +235,14 @@ def script(program, folder, numbers, cases):
         for place, (_, data) in enumerate(case.files):
             (folder / f"{number}.{place}").write_bytes(data)
         run = shlex.join([program, *case.line(number)])
-        lines.append(f"(ulimit -S -v {case.limit()}; exec {run} <{number}.in >{number}.out 2>{number}.err); echo $? >{number}.status")
+        lines.append(f"(ulimit -S -v {case.limit(empty)}; exec {run} <{number}.in >{number}.out 2>{number}.err); echo $? >{number}.status")
     (folder / "script").write_text("\n".join(lines) + "\n")
 
 
-def run(program, folder, numbers, cases):
+def run(program, empty, folder, numbers, cases):
     """Runs the cases, and goes on behind one that hangs."""
     while numbers:
-        script(program, folder, numbers, cases)
+        script(program, empty, folder, numbers, cases)
         shell = subprocess.Popen(["sh", "script"], cwd=folder, stderr=subprocess.DEVNULL, start_new_session=True)
         try:
             shell.wait(SECONDS)
@@ -286,7 +295,7 @@ def round_of(arguments, numbers):
     cases = [case_of(arguments.seed, number) for number in numbers]
     with tempfile.TemporaryDirectory(dir="/dev/shm" if os.path.isdir("/dev/shm") else None) as folder:
         folder = Path(folder)
-        run(arguments.program, folder, numbers, cases)
+        run(arguments.program, arguments.empty, folder, numbers, cases)
         for number, case in zip(numbers, cases):
             found = fault(case, folder, number, answer)
             status = folder / f"{number}.status"
@@ -318,6 +327,7 @@ def main():
     arguments.program = str(arguments.program)
     if not os.access(arguments.program, os.X_OK):
         sys.exit(f"{arguments.program} isn't there: make raftlog")
+    arguments.empty = needed_kib(arguments.program)
     end = arguments.begin + arguments.inputs
     rounds = [range(at, min(at + ROUND, end)) for at in range(arguments.begin, end, ROUND)]
     counts, found = Counter(), Counter()

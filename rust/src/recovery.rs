@@ -32,7 +32,7 @@ use std::{panic, thread};
 ///
 /// Those of [`Context::replay`] and [`Context::merge`]: of several, that of the first stretch.
 pub fn recover(parts: &[FilePart<'_>], queue: Queue, workers: usize) -> Result<Tables> {
-    read(parts, queue, workers)?.finish()
+    read_parts(parts, queue, workers)?.finish()
 }
 
 /// Recovers the tables of both queues: those of the append queue over those of the rewrite queue. Each queue is read on this
@@ -54,8 +54,8 @@ pub fn recover_both(
     append: &[FilePart<'_>],
     workers: usize,
 ) -> Result<Tables> {
-    let mut both = read(rewrite, Queue::Rewrite, workers)?;
-    both.overlay(read(append, Queue::Append, workers)?)?;
+    let mut both = read_parts(rewrite, Queue::Rewrite, workers)?;
+    both.overlay(read_parts(append, Queue::Append, workers)?)?;
     both.finish()
 }
 
@@ -64,7 +64,7 @@ pub fn recover_both(
 /// # Errors
 ///
 /// The refusal of the first batch in order that is refused, `Memory`.
-pub(crate) fn read(parts: &[FilePart<'_>], queue: Queue, workers: usize) -> Result<Context> {
+pub(crate) fn read_parts(parts: &[FilePart<'_>], queue: Queue, workers: usize) -> Result<Context> {
     read_stretches(&stretches(parts, workers.max(1)), queue)
 }
 
@@ -76,10 +76,10 @@ pub(crate) fn read(parts: &[FilePart<'_>], queue: Queue, workers: usize) -> Resu
 fn read_stretches(stretches: &[&[FilePart<'_>]], queue: Queue) -> Result<Context> {
     match stretches {
         [] => Context::new(),
-        [stretch] => replay(stretch),
+        [stretch] => replay_parts(stretch),
         _ => {
             let (older, newer) = stretches.split_at(stretches.len() / 2);
-            let (older, newer) = both(
+            let (older, newer) = call_both(
                 || read_stretches(older, queue),
                 || read_stretches(newer, queue),
             );
@@ -95,7 +95,7 @@ fn read_stretches(stretches: &[&[FilePart<'_>]], queue: Queue) -> Result<Context
 /// # Errors
 ///
 /// The refusal of the first batch that is refused, `Memory`.
-fn replay(parts: &[FilePart<'_>]) -> Result<Context> {
+fn replay_parts(parts: &[FilePart<'_>]) -> Result<Context> {
     let mut context = Context::new()?;
     for part in parts {
         context.replay(*part)?;
@@ -104,7 +104,7 @@ fn replay(parts: &[FilePart<'_>]) -> Result<Context> {
 }
 
 /// Makes two calls at once, the second one on another thread; one behind the other where none can be started.
-pub(crate) fn both<A, B: Send>(
+pub(crate) fn call_both<A, B: Send>(
     first: impl FnOnce() -> A,
     second: impl FnOnce() -> B + Copy + Send,
 ) -> (A, B) {

@@ -60,6 +60,55 @@ fn writers_get_in_between_while_records_move() {
 }
 
 #[test]
+fn writers_get_in_between_while_one_region_moves() {
+    let calls = Mutex::new(Vec::new());
+    let hooked = Hooked::new(&MemoryFiles::new(), |call: Call<'_>| {
+        match call {
+            Call::Write(file, bytes) if file.queue == Queue::Rewrite => {
+                calls.lock().unwrap().push(Some(bytes.len()));
+            }
+            Call::Sync(Queue::Append) => calls.lock().unwrap().push(None), // a turn begins
+            _ => {}
+        }
+        Ok(())
+    });
+    let engine = Engine::with_files(hooked, Options::new()).unwrap();
+    for index in 1..=2048 {
+        engine.write(&mut batch(7, index, 1 << 10), false).unwrap();
+    }
+    engine.rotate().unwrap();
+    calls.lock().unwrap().clear();
+    engine.rewrite(1).unwrap();
+    assert_eq!(engine.stats().rewrite.records, 2048);
+    let calls = calls.lock().unwrap().clone();
+    let turns = calls.split(Option::is_none);
+    let longest = turns.map(|turn| turn.iter().flatten().sum::<usize>());
+    assert!(longest.max().unwrap() < 300 << 10, "{calls:?}");
+    for index in 1..=2048 {
+        assert_eq!(engine.entry(7, index).unwrap().unwrap(), [7; 1 << 10]);
+    }
+}
+
+#[test]
+fn a_batch_moves_that_needs_more_blocks_than_move_in_a_turn() {
+    let engine = Engine::with_files(MemoryFiles::new(), Options::new()).unwrap();
+    for index in 1..=40 {
+        let mut both = batch(7, index, 10);
+        both.add_entries(8, index, &[vec![8; 60 << 10]]).unwrap();
+        engine.write(&mut both, false).unwrap();
+    }
+    let mut cleaning = LogBatch::new().unwrap();
+    cleaning.clean(8).unwrap();
+    engine.write(&mut cleaning, false).unwrap();
+    engine.rotate().unwrap();
+    engine.rewrite(1).unwrap();
+    assert_eq!(engine.stats().append.records, 0);
+    for index in 1..=40 {
+        assert_eq!(engine.entry(7, index).unwrap().unwrap(), [7; 10]);
+    }
+}
+
+#[test]
 fn a_reader_of_a_region_that_moves_reads_on() {
     let engine = Engine::with_files(MemoryFiles::new(), Options::new()).unwrap();
     for region in 0..8 {

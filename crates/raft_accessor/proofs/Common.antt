@@ -28,7 +28,7 @@ pub use Rattle.raft_accessor.specs.Common.{Accessor, Append, Appending, AreAccep
 pub use Rattle.raft_accessor.specs.Common.{AreTablesMerged, AreWritten, BecomesOutcome, Collects, Counts, EntryIndex, Error, FoldsTo, IsAltered, IsAnswer, IsAppendCheckFault, IsChangeFault, IsCounted, IsExtentOf, IsFaultBeside, IsInserted}
 pub use Rattle.raft_accessor.specs.Common.{IsItemWritten, IsMergeRefusal, IsNextFault, IsPairAccepted, IsPut, IsPutOver, IsRecounted, IsReplayed, IsRun, IsRunCheckFault, IsRunIn, IsRunTried, IsSlotTaken, IsStepTaken, IsTableChanged}
 pub use Rattle.raft_accessor.specs.Common.{IsTableJoined, IsTableMade, IsTableMerged, IsTableOverlaid, IsTableRunFault, IsUpdated, IsWriteFault, IsWritten, Item, KeepsId, LogQueue, Makes, MayAlter, MayChange, Memory, Put, Replaying}
-pub use Rattle.raft_accessor.specs.Common.{Rewrite, Rewriting, Table, Tables, TakesNext, TakesRun, after_append, after_change, after_replay, command_item, commanded, content_of, counts_with_run, empty_table, entries_after_append}
+pub use Rattle.raft_accessor.specs.Common.{Rewrite, Rewriting, Table, Tables, TakesNext, TakesRun, after_append, after_change, after_replay, command_item, commanded, content_of, counts_with_run, empty_table, entries_after_append, known_extents}
 pub use Rattle.raft_accessor.specs.Common.{entries_item, entries_of_block, file_at, from, item_of, keys_of, lent_as, live, live_in, live_of, lookup, other, pair, pair_change, pair_of, run_shown, slot_of, start_of, step_shown, table_in}
 pub use Rattle.raft_accessor.specs.Common.{table_of, with_all_deleted, with_neighbor, with_table_added, with_table_deleted, writing_shown}
 unfoldable pub use Rattle.raft_accessor.specs.Accessor.{live_in_all}

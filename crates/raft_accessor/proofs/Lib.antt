@@ -1,6 +1,7 @@
 mod Common
 mod AccessorLemmas
 mod AppendCheckLemmas
+mod KnownExtentLemmas
 pub mod LiveLemmas
 pub mod MapLemmas
 mod MergeLemmas

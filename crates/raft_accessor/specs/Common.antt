@@ -31,7 +31,7 @@ pub use Rattle.raft_history.specs.RegionSteps.{Tables}
 pub use Rattle.raft_accessor.specs.Accessor.{Accessor, AreCountsOf, live_in, live_in_all, slot_of, table_in}
 pub use Rattle.raft_accessor.specs.AccessorCalls.{IsTableChanged, IsTableMade, IsTableTaken, IsWritten, lent_as}
 pub use Rattle.raft_accessor.specs.AppendChecks.{AreAccepted, AreAcceptedOncePlaced, AreRefusedOncePlaced, IsAppendCheckFault}
-pub use Rattle.raft_accessor.specs.Extents.{AreBefore, IsExtentOf, IsNextFault, IsPairAccepted, IsPairCheckFault, IsRunCheckFault, TakesNext, TakesRun, commanded}
+pub use Rattle.raft_accessor.specs.Extents.{AreBefore, IsExtentOf, IsFirst, IsNextFault, IsPairAccepted, IsPairCheckFault, IsRunCheckFault, TakesNext, TakesRun, commanded, known_extents}
 pub use Rattle.raft_accessor.specs.ItemWrites.{IsItemWritten, IsReplayed, pair_change}
 pub use Rattle.raft_accessor.specs.Merges.{AreMerged, AreOthersLeft, AreTablesLeft, AreTablesMerged, IsAltered, IsAppendedFault, IsFaultBeside, IsMergeRefusal, IsMergedIn, IsNewerFault, IsTableMerged, MayAlter, with_appended, with_neighbor}
 pub use Rattle.raft_accessor.specs.Merges.{with_newer}

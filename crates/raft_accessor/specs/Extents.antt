@@ -1,5 +1,5 @@
 -- Where the entries of regions begin and end after new items, as their test keeps it.
-use Rattle.std.specs.Prelude.{◌≡◌, ◌+◌, ◌↔◌, ℕ, false, List, [], map, length, nat_eq, Option, Some, None}
+use Rattle.std.specs.Prelude.{◌≡◌, ◌+◌, ◌↔◌, ℕ, false, List, [], ◌∷◌, map, length, nat_eq, Option, Some, None}
 use Rattle.std.specs.Map.{lookup}
 use Rattle.std.specs.FinMap as finite
 use Rattle.raft_base.specs.declared.compression_type.CompressionType.{CompressionType}
@@ -24,6 +24,7 @@ use Rattle.raft_accessor.specs.Accessor.{table_in}
 use Rattle.raft_accessor.specs.AppendChecks.{AreAccepted}
 use Rattle.raft_accessor.specs.Writes.{Appending, after_content, IsFor}
 use Rattle.raft_accessor.specs.declared.append_check.Extent.{Extent}
+use Rattle.raft_accessor.specs.declared.known_extents.KnownExtents.{KnownExtents}
 
 -- entries at this place, compressed so
 abbrev pub placed_entries : FileBlockHandle → CompressionType → List EntryIndex → List EntryIndex
@@ -54,6 +55,20 @@ IsRunCheckFault before run (errors.Corruption text) =
     → IsRunIn Append (placed_entries place compression run) → entries_after_append es (placed_entries place compression run) ≡ None
 IsRunCheckFault before run errors.Memory = Unit {0}
 IsRunCheckFault before run _ = ⊥
+
+-- the first region is this one, or there is none yet
+abbrev pub IsFirst : ℕ → Option (ℕ × Extent) → Type 0
+IsFirst id None = Unit {0}
+IsFirst id (Some first) = first.0 ≡ id
+
+-- what is kept of the first region, if there is one, and of the others
+abbrev pub first_and_others : Option (ℕ × Extent) → List (ℕ × Extent) → List (ℕ × Extent)
+first_and_others None others = others
+first_and_others (Some first) others = first ∷ others
+
+-- what is kept of all regions
+abbrev pub known_extents : KnownExtents → List (ℕ × Extent)
+known_extents k = first_and_others k.first k.others.entries
 
 -- what is known of a region's entries: where they begin and end, or that they are as they were
 abbrev pub IsKnown : Option Extent → List EntryIndex → List EntryIndex → Type 0

@@ -1,13 +1,13 @@
 //! A test of new items: whether the tables would accept them.
 
 ghost use Rattle.std.specs.Prelude.{◌≡◌, ℕ, List, [], IfOk, IfErr, OnOk, option_map};
-ghost use Rattle.raft_accessor.specs.Common.{EntryIndex, item_of, pair_of, table_of, below, from, Tables, table_in, IsExtentOf, commanded, TakesRun, IsRunCheckFault, AreBefore, TakesNext, IsNextFault, IsPairAccepted, IsPairCheckFault};
+ghost use Rattle.raft_accessor.specs.Common.{EntryIndex, item_of, pair_of, table_of, below, from, Tables, table_in, IsExtentOf, commanded, TakesRun, IsRunCheckFault, AreBefore, TakesNext, IsNextFault, IsPairAccepted, IsPairCheckFault, known_extents};
 
+use crate::known_extents::KnownExtents;
 use raft_base::{EntryIndex, Error, Result, is_consecutive};
 use raft_records::{Command, KeyValue, LogItem, LogItemContent, OpType, is_reserved};
 use raft_table::{MemTable, hole_error};
 use std::alloc::Global;
-use std::collections::HashMap;
 
 /// The first index of a region's entries, and the last one plus one. Both are 0 where there are none.
 #[derive(Clone, Copy, Debug)]
@@ -120,17 +120,17 @@ impl Extent {
 /// entries of its table.
 #[derive(Drop)]
 pub(crate) struct AppendCheck {
-    extents: HashMap<u64, Extent>,
+    extents: KnownExtents,
     alloc: Global,
 }
 
 impl AppendCheck {
     /// Makes one that no item was shown to.
     pub(crate) fn new(alloc: Global) -> AppendCheck
-        ensures { result.extents.entries ≡ [] }
+        ensures { known_extents result.extents ≡ [] }
     {
         AppendCheck {
-            extents: HashMap::new(alloc),
+            extents: KnownExtents::new(alloc),
             alloc,
         }
     }
@@ -142,22 +142,20 @@ impl AppendCheck {
     /// `Corruption` where the tables would refuse the item: the text names region and reason.
     /// `Memory`.
     pub(crate) fn take(&mut self, item: &LogItem, table: Option<&MemTable>) -> Result<()>
-        ensures ok { OnOk result (TakesNext self.old.extents.entries
-            (option_map (λ t. t.now) table.entry) (item_of item.now) self.new.extents.entries) }
-        ensures fault { IfErr result (IsNextFault self.old.extents.entries
+        ensures ok { OnOk result (TakesNext (known_extents self.old.extents)
+            (option_map (λ t. t.now) table.entry) (item_of item.now) (known_extents self.new.extents)) }
+        ensures fault { IfErr result (IsNextFault (known_extents self.old.extents)
             (option_map (λ t. t.now) table.entry) (item_of item.now)) }
     {
         let id = item.raft_group_id;
         match &item.content {
             LogItemContent::EntryIndexes(entries) => {
                 let extent = self.extent(id, table).with_run(self.alloc, id, &entries.0)?;
-                self.extents.insert(id, extent)?;
-                Ok(())
+                self.extents.insert(id, extent)
             }
             LogItemContent::Command(command) => {
                 let extent = self.extent(id, table).commanded(command);
-                self.extents.insert(id, extent)?;
-                Ok(())
+                self.extents.insert(id, extent)
             }
             LogItemContent::Kv(kv) => check_pair(self.alloc, id, kv),
         }
@@ -167,11 +165,11 @@ impl AppendCheck {
     /// table in front of them.
     fn extent(&self, id: u64, table: Option<&MemTable>) -> Extent
         ensures { (before now : Tables)
-            → AreBefore self.now.extents.entries id (option_map (λ t. t.now) table.entry) before now
+            → AreBefore (known_extents self.now.extents) id (option_map (λ t. t.now) table.entry) before now
             → IsExtentOf result (table_in now id).entries }
     {
-        match self.extents.get(&id) {
-            Some(extent) => *extent,
+        match self.extents.get(id) {
+            Some(extent) => extent,
             None => Extent::of_table(table),
         }
     }

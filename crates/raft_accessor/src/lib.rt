@@ -5,6 +5,7 @@ pub mod accessor;
 mod append_check;
 mod boxed_table;
 pub mod item_writes;
+mod known_extents;
 mod neighbor;
 pub mod region_tables;
 

@@ -54,7 +54,7 @@ struct Shape {
 }
 
 /// Times batches as a store of many groups writes them, and larger ones.
-pub(crate) fn time(rt: &HostRuntime) -> Result<()> {
+pub(crate) fn time_batches(rt: &HostRuntime) -> Result<()> {
     let shapes = [
         Shape {
             batches: 2_000,
@@ -80,29 +80,33 @@ pub(crate) fn time(rt: &HostRuntime) -> Result<()> {
 }
 
 /// Returns the context of the batches.
-fn context() -> LogFileContext {
+fn file_context() -> LogFileContext {
     LogFileContext::new(FileId::new(LogQueue::Append, 12), Version::V2)
 }
 
 /// Times how the bytes of batches are made and signed, and returns them.
 fn time_writing(rt: &HostRuntime, shape: Shape) -> Result<Vec<Vec<u8>>> {
-    let messages = messages(rt.alloc(), shape.entries)?;
-    let (best, encoded) = best_of(|| write(rt, shape, messages.as_slice()))?;
+    let messages = messages_of_region(rt.alloc(), shape.entries)?;
+    let (best, encoded) = best_of(|| write_batches(rt, shape, messages.as_slice()))?;
     print_line(
         rt,
         "finish_populate, prepare_write",
         best,
         "batch",
         encoded.len(),
-        length(encoded.as_slice()),
+        total_length(encoded.as_slice()),
     )?;
     Ok(encoded)
 }
 
 /// Returns how long it takes to make and sign the bytes of batches, and these bytes.
-fn write(rt: &HostRuntime, shape: Shape, messages: &[Entry]) -> Result<(u64, Vec<Vec<u8>>)> {
-    let mut batches = fill(rt.alloc(), shape, messages)?;
-    let (taken, sealed) = time_work(rt, || seal(&mut batches))?;
+fn write_batches(
+    rt: &HostRuntime,
+    shape: Shape,
+    messages: &[Entry],
+) -> Result<(u64, Vec<Vec<u8>>)> {
+    let mut batches = fill_batches(rt.alloc(), shape, messages)?;
+    let (taken, sealed) = time_work(rt, || seal_batches(&mut batches))?;
     sealed?;
     Ok((taken, bytes_of(rt.alloc(), batches.as_slice())?))
 }
@@ -110,7 +114,7 @@ fn write(rt: &HostRuntime, shape: Shape, messages: &[Entry]) -> Result<(u64, Vec
 /// Times how items are read of the bytes of batches.
 fn time_reading(rt: &HostRuntime, encoded: &[Vec<u8>]) -> Result<()> {
     let (best, (items, bytes)) = best_of(|| -> Result<_> {
-        let (taken, decoded) = time_work(rt, || decode(rt.alloc(), encoded))?;
+        let (taken, decoded) = time_work(rt, || decode_batches(rt.alloc(), encoded))?;
         Ok((taken, decoded?))
     })?;
     print_line(
@@ -125,7 +129,7 @@ fn time_reading(rt: &HostRuntime, encoded: &[Vec<u8>]) -> Result<()> {
 }
 
 /// Returns the entries that each region of a batch brings.
-fn messages(alloc: Global, count: u64) -> Result<Vec<Entry>> {
+fn messages_of_region(alloc: Global, count: u64) -> Result<Vec<Entry>> {
     let mut noise = Noise::new();
     let mut messages = Vec::new(alloc);
     for index in 0..count {
@@ -139,7 +143,7 @@ fn messages(alloc: Global, count: u64) -> Result<Vec<Entry>> {
 }
 
 /// Makes open batches of this shape.
-fn fill(alloc: Global, shape: Shape, messages: &[Entry]) -> Result<Vec<LogBatch>> {
+fn fill_batches(alloc: Global, shape: Shape, messages: &[Entry]) -> Result<Vec<LogBatch>> {
     let mut batches = Vec::new(alloc);
     for _ in 0..shape.batches {
         let mut batch = LogBatch::default(alloc);
@@ -175,8 +179,8 @@ fn add_key_value(alloc: Global, batch: &mut LogBatch, region: u64) -> Result<()>
 }
 
 /// Makes the bytes of open batches, and signs them.
-fn seal(batches: &mut Vec<LogBatch>) -> Result<()> {
-    let context = context();
+fn seal_batches(batches: &mut Vec<LogBatch>) -> Result<()> {
+    let context = file_context();
     for batch in batches.iter_mut() {
         if batch.is_open() {
             batch.finish_populate()?;
@@ -200,7 +204,7 @@ fn bytes_of(alloc: Global, batches: &[LogBatch]) -> Result<Vec<Vec<u8>>> {
 }
 
 /// Returns how many bytes these are together.
-fn length(encoded: &[Vec<u8>]) -> usize {
+fn total_length(encoded: &[Vec<u8>]) -> usize {
     let mut length = 0usize;
     for bytes in encoded {
         length = length.saturating_add(bytes.len());
@@ -209,8 +213,8 @@ fn length(encoded: &[Vec<u8>]) -> usize {
 }
 
 /// Returns how many items are read of the batches, and how many bytes their item batches have.
-fn decode(alloc: Global, encoded: &[Vec<u8>]) -> Result<(usize, usize)> {
-    let context = context();
+fn decode_batches(alloc: Global, encoded: &[Vec<u8>]) -> Result<(usize, usize)> {
+    let context = file_context();
     let (mut items, mut bytes) = (0usize, 0usize);
     for batch in encoded {
         let mut front: BytesSlice<'_> = batch.as_slice();

@@ -1,7 +1,7 @@
 //! Times tables by how many entries each of their blocks has, and counts the bytes of what is kept.
 
 use crate::tables::{
-    APPENDED, REGIONS, REWRITTEN, Region, append_all, count_found, empty_regions, run, runs,
+    APPENDED, REGIONS, REWRITTEN, Region, append_all, count_found, empty_regions, run_from, runs,
 };
 use crate::timing::{Noise, best_of, print_time_per_unit, time_work};
 use raft_memtable::{AllocResult, Block, EntryIndex};
@@ -28,7 +28,7 @@ const LOOKUPS: u64 = 1_000_000;
 const STEP: u64 = 64;
 
 /// Times tables of long and of short blocks.
-pub(crate) fn time(rt: &HostRuntime) -> io::Result<()> {
+pub(crate) fn time_blocks(rt: &HostRuntime) -> io::Result<()> {
     for &len in &[64, 8, 1] {
         time_appends(rt, len)?;
     }
@@ -56,7 +56,7 @@ fn kept_bytes(region: &Region) -> usize {
 /// Times appends of runs of `len` entries, each a block, and prints the bytes that are kept for an
 /// entry.
 fn time_appends(rt: &HostRuntime, len: u64) -> io::Result<()> {
-    let (best, bytes) = best_of(|| append(rt, len))?;
+    let (best, bytes) = best_of(|| append_runs(rt, len))?;
     let entries = REGIONS * ENTRIES;
     println!(rt;
         "2,048,000 entries, {len} a call, {len} a block: {} bytes an entry",
@@ -67,7 +67,7 @@ fn time_appends(rt: &HostRuntime, len: u64) -> io::Result<()> {
 
 /// Returns how long it takes to append all runs to regions without records, and how many bytes are
 /// kept then.
-fn append(rt: &HostRuntime, len: u64) -> io::Result<(u64, usize)> {
+fn append_runs(rt: &HostRuntime, len: u64) -> io::Result<(u64, usize)> {
     let mut regions = empty_regions(rt.alloc())?;
     let runs = runs(rt.alloc(), REGIONS, ENTRIES, len, APPENDED)?;
     let (taken, _) = time_work(rt, || append_all(&mut regions, runs))?;
@@ -83,7 +83,7 @@ fn long_table(alloc: Global, first: u64) -> AllocResult<Region> {
     let mut region = Region::new(alloc, 1);
     let mut next = first;
     for _ in 0..BLOCKS {
-        let run = run(alloc, next, SPANS, APPENDED)?;
+        let run = run_from(alloc, next, SPANS, APPENDED)?;
         if region.append(run).is_err() {
             return Ok(region);
         }

@@ -5,7 +5,7 @@ use raft_records::Result;
 use raft_records::util::crc32;
 
 /// Times the checksums of 16 MiB, cut into these many bytes.
-pub(crate) fn time(rt: &HostRuntime) -> Result<()> {
+pub(crate) fn time_checksums(rt: &HostRuntime) -> Result<()> {
     let mut bytes = Vec::new(rt.alloc());
     Noise::new().fill(&mut bytes, 1 << 24)?;
     for &size in &[8usize, 64, 256, 1 << 10, 1 << 12, 1 << 16, 1 << 20, 1 << 24] {

@@ -24,17 +24,17 @@ fn main(rt: HostRuntime) -> io::Result<()> {
     let words = command_words(&rt)?;
     match words.as_slice().split_first() {
         Some((word, _)) if word.as_str() == "recover" => {
-            print_timed(&rt, "", recovery::time(&rt, words.as_slice()))
+            print_timed(&rt, "", recovery::time_recovery(&rt, words.as_slice()))
         }
         Some((word, behind)) if word.as_str() == "merge" => {
-            print_timed(&rt, "merge ", merges::time(&rt, behind))
+            print_timed(&rt, "merge ", merges::time_merges(&rt, behind))
         }
         _ => {
             for word in &words {
                 let timed = if word.as_str() == "shared" {
-                    shared::time(&rt, rt.alloc())
+                    shared::time_shared_tables(&rt, rt.alloc())
                 } else {
-                    time(&rt, word.as_str())
+                    time_word(&rt, word.as_str())
                 };
                 print_error(&rt, timed)?;
             }
@@ -60,13 +60,13 @@ fn print_error(rt: &HostRuntime, timed: Result<()>) -> io::Result<()> {
 }
 
 /// Times what a word names, and prints a line for each work.
-fn time(rt: &HostRuntime, word: &str) -> Result<()> {
+fn time_word(rt: &HostRuntime, word: &str) -> Result<()> {
     match word {
-        "crc32" => checksum::time(rt),
-        "varint" => numbers::time(rt),
-        "batches" => batches::time(rt),
-        "memtable" => Ok(tables::time(rt)?),
-        "blocks" => Ok(blocks::time(rt)?),
+        "crc32" => checksum::time_checksums(rt),
+        "varint" => numbers::time_numbers(rt),
+        "batches" => batches::time_batches(rt),
+        "memtable" => Ok(tables::time_tables(rt)?),
+        "blocks" => Ok(blocks::time_blocks(rt)?),
         _ => Ok(eprintln!(rt;
             "usage: raft_bench [crc32] [varint] [batches] [memtable] [blocks] [shared], or recover .., or merge .."
         )?),

@@ -16,7 +16,7 @@ const CONTEXTS: usize = 4;
 /// Times how long four contexts take to read a quarter of the files each, and to be merged by halves. The words
 /// are those of `raftlog recover`; nothing is timed where they are others, or where the files have fewer than
 /// four batches.
-pub(crate) fn time<R: Files + AllocGlobal + Clock>(
+pub(crate) fn time_merges<R: Files + AllocGlobal + Clock>(
     rt: &R,
     words: &[String],
 ) -> Result<Option<LogTimes>> {

@@ -9,7 +9,7 @@ use std::io;
 const COUNT: usize = 1_000_000;
 
 /// Times the writing and reading of numbers of several lengths.
-pub(crate) fn time(rt: &HostRuntime) -> Result<()> {
+pub(crate) fn time_numbers(rt: &HostRuntime) -> Result<()> {
     for &bits in &[7u32, 14, 28, 56, 64] {
         let mut noise = Noise::new();
         let mut numbers = Vec::new(rt.alloc());
@@ -26,8 +26,8 @@ fn time_length(rt: &HostRuntime, bits: u32, numbers: &[u64]) -> Result<()> {
     let mut bytes = Vec::with_capacity(rt.alloc(), 10 * COUNT)?;
     let ([writing, reading], sum) = best_of(|| -> io::Result<_> {
         bytes.clear();
-        let (writing, ()) = time_work(rt, || write(&mut bytes, numbers))?;
-        let (reading, sum) = time_work(rt, || read(bytes.as_slice()))?;
+        let (writing, ()) = time_work(rt, || write_numbers(&mut bytes, numbers))?;
+        let (reading, sum) = time_work(rt, || sum_numbers(bytes.as_slice()))?;
         Ok(([writing, reading], sum))
     })?;
     let len = bytes.len();
@@ -39,7 +39,7 @@ fn time_length(rt: &HostRuntime, bits: u32, numbers: &[u64]) -> Result<()> {
 }
 
 /// Appends the bytes of the numbers, up to the first one that can't be written.
-fn write(bytes: &mut Vec<u8>, numbers: &[u64]) {
+fn write_numbers(bytes: &mut Vec<u8>, numbers: &[u64]) {
     for number in numbers {
         if bytes.encode_var_u64(*number).is_err() {
             return;
@@ -48,7 +48,7 @@ fn write(bytes: &mut Vec<u8>, numbers: &[u64]) {
 }
 
 /// Returns the sum of the numbers, held in 64 bits.
-fn read(bytes: BytesSlice<'_>) -> u64 {
+fn sum_numbers(bytes: BytesSlice<'_>) -> u64 {
     let mut rest = bytes;
     let mut sum = 0u64;
     for _ in 0..COUNT {

@@ -13,7 +13,7 @@ const RUNS: usize = 15;
 
 /// Times how long it takes from the bytes of files in memory to the tables of all regions. The words are those of
 /// `raftlog recover`; nothing is timed where they are others.
-pub(crate) fn time<R: Threads + Files + AllocGlobal + Clock + Sync>(
+pub(crate) fn time_recovery<R: Threads + Files + AllocGlobal + Clock + Sync>(
     rt: &R,
     words: &[String],
 ) -> Result<Option<LogTimes>> {

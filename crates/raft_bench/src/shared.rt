@@ -1,6 +1,6 @@
 //! Times tables that threads share.
 
-use crate::tables::{APPENDED, run};
+use crate::tables::{APPENDED, run_from};
 use crate::timing::{Noise, best_of, print_time_per_unit, time_work};
 use raft_memtable::{AllocResult, MemTable, MemTableAccessor, Result, TableChange};
 use raft_recover::SharedAccessor;
@@ -23,7 +23,10 @@ const RUN: u64 = 8;
 const LOOKUPS: u64 = 1_000_000;
 
 /// Times appends of some threads, and look-ups beside those of an accessor.
-pub(crate) fn time<R: Threads + Wait + Clock + Print + Sync>(rt: &R, alloc: Global) -> Result<()> {
+pub(crate) fn time_shared_tables<R: Threads + Wait + Clock + Print + Sync>(
+    rt: &R,
+    alloc: Global,
+) -> Result<()> {
     for &threads in &[1, 2, 4] {
         let (best, ()) = best_of(|| append_once(rt, alloc, threads))?;
         let name = format!(in alloc;
@@ -63,7 +66,7 @@ fn append_share<R: Wait>(
     for number in 0..ROUNDS * REGIONS {
         let (round, region) = (number / REGIONS, number % REGIONS);
         if region % threads.max(1) == thread {
-            let run = run(alloc, 1 + round * RUN, RUN, APPENDED)?;
+            let run = run_from(alloc, 1 + round * RUN, RUN, APPENDED)?;
             shared.change(rt, region, TableChange::Append(run))?;
         }
     }
@@ -71,7 +74,7 @@ fn append_share<R: Wait>(
 }
 
 /// Picks regions without a pattern.
-fn picks(alloc: Global) -> AllocResult<Vec<u64>> {
+fn picked_regions(alloc: Global) -> AllocResult<Vec<u64>> {
     let mut noise = Noise::new();
     let mut picks = Vec::with_capacity(alloc, LOOKUPS as usize)?;
     for _ in 0..LOOKUPS {
@@ -81,10 +84,10 @@ fn picks(alloc: Global) -> AllocResult<Vec<u64>> {
 }
 
 /// Returns an accessor in which each region has a run.
-fn full(alloc: Global) -> Result<MemTableAccessor> {
+fn full_accessor(alloc: Global) -> Result<MemTableAccessor> {
     let mut core = MemTableAccessor::new(alloc)?;
     for region in 0..REGIONS {
-        let run = run(alloc, 1, RUN, APPENDED)?;
+        let run = run_from(alloc, 1, RUN, APPENDED)?;
         core.change(region, TableChange::Append(run))?;
     }
     Ok(core)
@@ -92,7 +95,7 @@ fn full(alloc: Global) -> Result<MemTableAccessor> {
 
 /// Returns the same tables, shared.
 fn full_shared(alloc: Global) -> Result<SharedAccessor> {
-    SharedAccessor::from_core(alloc, full(alloc)?)
+    SharedAccessor::from_core(alloc, full_accessor(alloc)?)
 }
 
 /// Returns the last indexes of regions, added up.
@@ -120,12 +123,17 @@ fn shared_last_of_all<R: Wait>(rt: &R, shared: &SharedAccessor, picks: &[u64]) -
 
 /// Times look-ups of tables.
 fn time_looks<R: Wait + Clock + Print>(rt: &R, alloc: Global) -> Result<()> {
-    let picks = picks(alloc)?;
-    look(rt, &full(alloc)?, &full_shared(alloc)?, picks.as_slice())
+    let picks = picked_regions(alloc)?;
+    time_looks_in_turn(
+        rt,
+        &full_accessor(alloc)?,
+        &full_shared(alloc)?,
+        picks.as_slice(),
+    )
 }
 
 /// Times look-ups of these tables in turn.
-fn look<R: Wait + Clock + Print>(
+fn time_looks_in_turn<R: Wait + Clock + Print>(
     rt: &R,
     core: &MemTableAccessor,
     shared: &SharedAccessor,

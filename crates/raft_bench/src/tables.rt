@@ -109,7 +109,7 @@ impl Region {
 }
 
 /// Times each call of a table that a log store makes often.
-pub(crate) fn time(rt: &HostRuntime) -> io::Result<()> {
+pub(crate) fn time_tables(rt: &HostRuntime) -> io::Result<()> {
     time_append(rt)?;
     time_compact_to(rt)?;
     time_reads(rt)?;
@@ -119,7 +119,12 @@ pub(crate) fn time(rt: &HostRuntime) -> io::Result<()> {
 }
 
 /// Returns the entries from `first` on, in one block of a file.
-pub(crate) fn run(alloc: Global, first: u64, len: u64, id: FileId) -> AllocResult<Vec<EntryIndex>> {
+pub(crate) fn run_from(
+    alloc: Global,
+    first: u64,
+    len: u64,
+    id: FileId,
+) -> AllocResult<Vec<EntryIndex>> {
     let mut run = Vec::with_capacity(alloc, len as usize)?;
     for index in first..first.saturating_add(len) {
         run.push(EntryIndex {
@@ -157,7 +162,7 @@ pub(crate) fn runs(
     let mut first = 1u64;
     for _ in 0..entries / len.max(1) {
         for _ in 0..regions {
-            runs.push(run(alloc, first, len, file)?)?;
+            runs.push(run_from(alloc, first, len, file)?)?;
         }
         first = first.saturating_add(len);
     }
@@ -245,7 +250,7 @@ fn time_compact_to(rt: &HostRuntime) -> io::Result<()> {
 
 /// Picks places in regions without a pattern: a region's place, and an index with so many entries
 /// after it.
-fn picks(
+fn picked_places(
     alloc: Global,
     noise: &mut Noise,
     count: u64,
@@ -296,8 +301,8 @@ fn count_fetched(regions: &[Region], picks: &[(usize, u64)], entries: &mut Vec<E
 fn time_reads(rt: &HostRuntime) -> io::Result<()> {
     let regions = full_regions(rt.alloc())?;
     let mut noise = Noise::new();
-    let entries = picks(rt.alloc(), &mut noise, REGIONS * ENTRIES, 0)?;
-    let fetches = picks(rt.alloc(), &mut noise, REGIONS * ENTRIES / FETCH, FETCH)?;
+    let entries = picked_places(rt.alloc(), &mut noise, REGIONS * ENTRIES, 0)?;
+    let fetches = picked_places(rt.alloc(), &mut noise, REGIONS * ENTRIES / FETCH, FETCH)?;
     time_lookups(
         rt,
         regions.as_slice(),

@@ -1,7 +1,7 @@
 //! Crashes that are tried: what is left is recovered, and opened.
 
 use crate::disk::{Crash, Disk};
-use crate::found::{Way, open, records_of, recover_records};
+use crate::found::{Way, open_found_files, records_of, recover_records};
 use crate::noted_files::NotedFiles;
 use raft_base::{Error, LogQueue, Result};
 use raft_engine::Engine;
@@ -78,7 +78,7 @@ impl<'a, R: Host> Crashes<'a, R> {
     fn open(&mut self, way: Way, disk: &mut Disk, dice: &mut Dice) -> Result<Option<Disk>> {
         self.recoveries = self.recoveries.saturating_add(1);
         let (append, rewrite) = disk.files()?;
-        match open(self.rt, self.alloc(), way, append, rewrite) {
+        match open_found_files(self.rt, self.alloc(), way, append, rewrite) {
             Ok(mut engine) => self.crash_again(&mut engine, disk, dice),
             Err(e) => {
                 self.count_refusal("not opened", &e)?;

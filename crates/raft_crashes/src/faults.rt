@@ -7,7 +7,7 @@ use crate::crashes::{Crashes, Host};
 use crate::faults::Step::{
     Again, Purge, PurgeRewrites, Restart, Rewrite, Rotate, Sync, Synced, Write,
 };
-use crate::found::{Way, open};
+use crate::found::{Way, open_found_files};
 use crate::history::History;
 use raft_base::{Error, FileSeq, LogQueue, Result, Version};
 
@@ -262,8 +262,8 @@ fn take_step<R: Host>(
     step: Step,
 ) -> Result<()> {
     match step {
-        Write(choices) => write(crashes, history, choices, false),
-        Synced(choices) => write(crashes, history, choices, true),
+        Write(choices) => write_changes(crashes, history, choices, false),
+        Synced(choices) => write_changes(crashes, history, choices, true),
         Sync => history.sync(crashes),
         Rotate => history.rotate(crashes),
         Rewrite(gate) => history.rewrite(crashes, gate),
@@ -275,7 +275,7 @@ fn take_step<R: Host>(
 }
 
 /// Writes a batch of these changes of region 1, and syncs it where that is asked for.
-fn write<R: Host>(
+fn write_changes<R: Host>(
     crashes: &mut Crashes<'_, R>,
     history: &mut History,
     choices: &[Choice],
@@ -294,7 +294,7 @@ fn lose_page<R: Host>(crashes: &mut Crashes<'_, R>, history: &History) -> Result
     let Some((append, rewrite)) = history.disk.with_lost_page()? else {
         return Ok(());
     };
-    match open(crashes.rt, crashes.rt.alloc(), history.way, append, rewrite) {
+    match open_found_files(crashes.rt, crashes.rt.alloc(), history.way, append, rewrite) {
         Err(Error::Corruption(_)) => Ok(()),
         Err(e) => Err(e),
         Ok(_) => crashes.count_difference("a page was lost, and the files were opened"),

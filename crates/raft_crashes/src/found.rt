@@ -19,7 +19,7 @@ pub(crate) struct Way {
 }
 
 /// Opens an engine over the files of both queues.
-pub(crate) fn open<R: Threads + Sync>(
+pub(crate) fn open_found_files<R: Threads + Sync>(
     rt: &R,
     alloc: Global,
     way: Way,

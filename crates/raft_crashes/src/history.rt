@@ -6,7 +6,7 @@ ghost use Rattle.raft_records.specs.LogBatch.{is_open};
 use crate::choice::Choice;
 use crate::crashes::{Crashes, Host};
 use crate::disk::{Crash, Disk};
-use crate::found::{Way, open, records_of};
+use crate::found::{Way, open_found_files, records_of};
 use crate::noted_files::NotedFiles;
 use raft_base::{FileSeq, LogQueue, Result, Version};
 use raft_engine::Engine;
@@ -177,7 +177,7 @@ impl History {
     /// Opens an engine over the files that the disk has, in place of the old one.
     fn open_disk<R: Host>(&mut self, rt: &R) -> Result<()> {
         let (append, rewrite) = self.disk.files()?;
-        self.engine = open(rt, self.alloc, self.way, append, rewrite)?;
+        self.engine = open_found_files(rt, self.alloc, self.way, append, rewrite)?;
         Ok(())
     }
 

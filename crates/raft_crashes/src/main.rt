@@ -34,7 +34,7 @@ fn main(rt: HostRuntime) -> Result<ExitCode> {
         println!(rt; "{USAGE}")?;
         return Ok(ExitCode::SUCCESS);
     }
-    let Some((seed, count)) = numbers(words.as_slice()) else {
+    let Some((seed, count)) = numbers_in(words.as_slice()) else {
         eprintln!(rt; "{USAGE}")?;
         return Ok(ExitCode::from(2));
     };
@@ -46,7 +46,7 @@ fn main(rt: HostRuntime) -> Result<ExitCode> {
 }
 
 /// Returns the two numbers, if these are the words.
-fn numbers(words: &[String]) -> Option<(u64, u64)> {
+fn numbers_in(words: &[String]) -> Option<(u64, u64)> {
     let [seed, count] = words else {
         return None;
     };

@@ -116,22 +116,22 @@ fn write_long<R: Host>(
 /// Takes a step.
 fn take_step<R: Host>(crashes: &mut Crashes<'_, R>, history: &mut History) -> Result<()> {
     match history.dice.below(24) {
-        0..=8 => write(crashes, history),
+        0..=8 => write_batch(crashes, history),
         9 => history.sync(crashes),
         10 => history.rotate(crashes),
-        11..=13 => rewrite(crashes, history),
+        11..=13 => move_records(crashes, history),
         14 | 15 => history.rewrite_again(crashes),
         16 | 17 => history.purge(crashes, LogQueue::Append),
         18 => history.purge(crashes, LogQueue::Rewrite),
         19 => history.restart(crashes),
         20 | 21 => history.crash(crashes),
-        22 => replace(crashes, history),
+        22 => replace_entries(crashes, history),
         _ => move_again(crashes, history),
     }
 }
 
 /// Writes one to three changes of two regions, of which one batch in four is synced.
-fn write<R: Host>(crashes: &mut Crashes<'_, R>, history: &mut History) -> Result<()> {
+fn write_batch<R: Host>(crashes: &mut Crashes<'_, R>, history: &mut History) -> Result<()> {
     let first = (history.dice.below(2) + 1, Choice::Any);
     let second = (history.dice.below(2) + 1, Choice::Any);
     let third = (history.dice.below(2) + 1, Choice::Any);
@@ -144,7 +144,7 @@ fn write<R: Host>(crashes: &mut Crashes<'_, R>, history: &mut History) -> Result
 }
 
 /// Moves the records of some append files, in half of the steps of all of them.
-fn rewrite<R: Host>(crashes: &mut Crashes<'_, R>, history: &mut History) -> Result<()> {
+fn move_records<R: Host>(crashes: &mut Crashes<'_, R>, history: &mut History) -> Result<()> {
     if history.dice.hits(2) {
         return rewrite_all(crashes, history);
     }
@@ -164,7 +164,7 @@ fn rewrite_all<R: Host>(crashes: &mut Crashes<'_, R>, history: &mut History) -> 
 /// Takes steps in a row that lose or bring back entries where the rewrite queue isn't told of runs that replace some: all records
 /// move, entries are replaced and compacted to their end, and all append files go, in half of the cases after a restart that finds
 /// them.
-fn replace<R: Host>(crashes: &mut Crashes<'_, R>, history: &mut History) -> Result<()> {
+fn replace_entries<R: Host>(crashes: &mut Crashes<'_, R>, history: &mut History) -> Result<()> {
     rewrite_all(crashes, history)?;
     history.write(
         crashes,

@@ -41,8 +41,8 @@ fn main(rt: HostRuntime) -> ExitCode {
 /// Prints what was found, and returns the status to end with.
 fn status_of(rt: &HostRuntime, found: Result<Option<Found>>) -> u8 {
     match found {
-        Ok(Some(Found::Same(answer))) => print(rt, answer),
-        Ok(Some(Found::Different { cutting, way })) => tell(rt, cutting, way),
+        Ok(Some(Found::Same(answer))) => print_result(rt, answer),
+        Ok(Some(Found::Different { cutting, way })) => tell_difference(rt, cutting, way),
         Ok(None) => {
             let _ = eprintln!(rt; "{USAGE}");
             MISUSED
@@ -52,7 +52,7 @@ fn status_of(rt: &HostRuntime, found: Result<Option<Found>>) -> u8 {
 }
 
 /// Prints the lines of a result.
-fn print(rt: &HostRuntime, answer: Answer) -> u8 {
+fn print_result(rt: &HostRuntime, answer: Answer) -> u8 {
     let Answer::Lines(lines) = answer else {
         return REFUSED;
     };
@@ -64,7 +64,7 @@ fn print(rt: &HostRuntime, answer: Answer) -> u8 {
 }
 
 /// Tells which cutting gives something else.
-fn tell(rt: &HostRuntime, cutting: u64, way: Way) -> u8 {
+fn tell_difference(rt: &HostRuntime, cutting: u64, way: Way) -> u8 {
     let way = match way {
         Way::Left => "from the left",
         Way::Right => "from the right",

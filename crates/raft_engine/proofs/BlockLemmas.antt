@@ -116,7 +116,7 @@ written_sound part at items entry_bytes rest tiled range some short stands other
 -- ---- a batch among other bytes
 
 -- where the bytes up to a batch's end are the same, its bytes stand
-bytes_stand : (part : Part) (xs : List ℕ) (i next : ℕ) (items : List Item) → (b : IsBatchAt part i items next) → take next xs ≡ take next part.bytes → drop i xs ≡ b.bytes ++ drop next xs
+pub bytes_stand : (part : Part) (xs : List ℕ) (i next : ℕ) (items : List Item) → (b : IsBatchAt part i items next) → take next xs ≡ take next part.bytes → drop i xs ≡ b.bytes ++ drop next xs
 bytes_stand part xs i next items b same =
     let inside = batch_inside part i items next b in
     let long = ap length same ∙ length-take-le next part.bytes inside.1 in
@@ -126,7 +126,7 @@ bytes_stand part xs i next items b same =
     ap (drop i) (sym (take-append-drop next xs)) ∙ drop-append-le i (take next xs) (drop next xs) begins ∙ ap (λ (t : List ℕ). t ++ drop next xs) (ap (drop i) same ∙ front)
 
 -- so the same batch stands there
-abbrev moved_batch : (part : Part) (xs : List ℕ) (i next : ℕ) (items : List Item) → IsBatchAt part i items next → take next xs ≡ take next part.bytes → IsBatchAt (record part { bytes = xs }) i items next
+abbrev pub moved_batch : (part : Part) (xs : List ℕ) (i next : ℕ) (items : List Item) → IsBatchAt part i items next → take next xs ≡ take next part.bytes → IsBatchAt (record part { bytes = xs }) i items next
 moved_batch part xs i next items b same = record {
   bytes = b.bytes;
   read = b.read;
@@ -140,7 +140,7 @@ moved_batch part xs i next items b same = record {
 -- ---- the batches of a part
 
 -- batches end where they begin or behind it
-stand_on : (p : Part) (from end : ℕ) (bs : List (List Item)) → StandBetween p from end bs → from ≤ end
+pub stand_on : (p : Part) (from end : ℕ) (bs : List (List Item)) → StandBetween p from end bs → from ≤ end
 stand_on p from end [] e = omega (arith, e)
 stand_on p from end (x ∷ bs) s =
     let n = (batch_inside p from x s.0 s.1).0 in
@@ -148,7 +148,7 @@ stand_on p from end (x ∷ bs) s =
     omega (arith, n, m)
 
 -- batches that go on behind a byte at which one stands go on behind that one
-stand_past : (p : Part) (from m i next : ℕ) (items : List Item) (ys xs : List (List Item)) → StandBetween p from m ys → IsBatchAt p m items next → StandBetween p from i xs → m < i → next ≤ i
+pub stand_past : (p : Part) (from m i next : ℕ) (items : List Item) (ys xs : List (List Item)) → StandBetween p from m ys → IsBatchAt p m items next → StandBetween p from i xs → m < i → next ≤ i
 stand_past p from m i next items [] [] s b t less = absurd (omega (arith, s, t, less))
 stand_past p from m i next items [] (x ∷ xs) s b t less =
     let same = (batch_unique p m items x next t.0 b (subst (λ (n : ℕ). IsBatchAt p n x t.0) s t.1)).1 in
@@ -163,7 +163,7 @@ stand_past p from m i next items (y ∷ ys) (x ∷ xs) s b t less =
     stand_past p s.0 m i next items ys xs s.2 b (subst (λ (n : ℕ). StandBetween p n i xs) same t.2) less
 
 -- none go on behind a byte at which no batch can be read
-none_past : (p : Part) (from m i : ℕ) (ys xs : List (List Item)) → StandBetween p from m ys → IsUnreadableAt p m → StandBetween p from i xs → i ≤ m
+pub none_past : (p : Part) (from m i : ℕ) (ys xs : List (List Item)) → StandBetween p from m ys → IsUnreadableAt p m → StandBetween p from i xs → i ≤ m
 none_past p from m i [] [] s none t = omega (arith, s, t)
 none_past p from m i [] (x ∷ xs) s none t = absurd (batch_none p from x t.0 (subst (IsUnreadableAt p) (sym s) none) t.1)
 none_past p from m i (y ∷ ys) [] s none t =

@@ -19,9 +19,10 @@ use Rattle.raft_records.proofs.SealLemmas.{content_is}
 use Rattle.raft_table.specs.Fetches.{block_count}
 use Rattle.raft_files.specs.Asks.{Ask, Read, ask}
 use Rattle.raft_engine.specs.BlockReads.{AreBytesIn, AreNoBytesIn, IsBlockOf, IsKeptOf, IsNoBlockOf, IsOfEntry, IsSoundRead, IsUnsoundRead}
-use Rattle.raft_engine.specs.Reads.{AreReadByBlocks, AreReads, AreUnread, IsDamaged, IsReadAmong, NamesEntry}
+use Rattle.raft_engine.specs.Reads.{IsNothingRead, AreReadByBlocks, AreReads, AreUnread, IsDamaged, IsReadAmong, NamesEntry}
 use Rattle.raft_engine.specs.declared.block_reads.EntryBlock.{EntryBlock}
 use Rattle.raft_engine.proofs.BlockCounts.{EndsAt, ends_more, prefix_count, other_count, same_count}
+use Rattle.raft_engine.specs.FileFailures.{Failures}
 
 -- ---- blocks
 
@@ -264,17 +265,23 @@ more_blocks es rest e n count is =
     joined [] = refl
     joined (x ∷ l) = ap (λ t. x ∷ t) (joined l)
 
-pub no_next_block : (region : ℕ) (es rest : List EntryIndex) (strings : List (List ℕ)) (e : EntryIndex) (kept : Option EntryBlock) (old now new : List Ask) (error : Error)
-    → AreReadSoFar es strings kept old now → IsNoBlockOf region e kept now new error → AreUnread region (es ++ e ∷ rest) old new error
-no_next_block region es rest strings e kept old now new error r b = at b.unread
+pub no_next_block : {MayFail : Failures} (region : ℕ) (es rest : List EntryIndex) (strings : List (List ℕ)) (e : EntryIndex) (kept : Option EntryBlock) (old now new : List Ask) (error : Error)
+    → AreReadSoFar es strings kept old now → IsNoBlockOf MayFail region e kept now new error → AreUnread MayFail region (es ++ e ∷ rest) old new error
+no_next_block {MayFail} region es rest strings e kept old now new error r b = at b.unread
   where
-    at : (new ≡ now) ⊎ ((place : FileBlockHandle) × (e.entries ≡ Some place) × IsUnsoundRead region e.index place now new error) → AreUnread region (es ++ e ∷ rest) old new error
+    at : ((new ≡ now) × ((error ≡ errors.Memory) ⊎ IsNothingRead MayFail e now error)) ⊎ ((place : FileBlockHandle) × (e.entries ≡ Some place) × IsUnsoundRead region e.index place now new error) → AreUnread MayFail region (es ++ e ∷ rest) old new error
     at (inl h) = record {
       some = some_entries es rest e;
       reads = r.read.reads;
       only = r.read.only;
-      asked = h ∙ r.read.asked;
-      why = inl (more_blocks es rest e _ (count_other r.read.reads es e kept r.last b.other) r.read.once);
+      asked = h.0 ∙ r.read.asked;
+      why = elim h.1 [
+        | inl memory ↦ inr (inl memory)
+        | inr nothing ↦ inl (
+          more_blocks es rest e _ (count_other r.read.reads es e kept r.last b.other) r.read.once,
+          (e, at_next es rest e, subst (λ (l : List Ask). IsNothingRead MayFail e l error) (sym h.0) nothing),
+        )
+      ];
     }
     at (inr h) =
         let place : FileBlockHandle = h.0 in
@@ -306,8 +313,8 @@ no_next_block region es rest strings e kept old now new error r b = at b.unread
           ),
         )
 
-pub no_next_bytes : (region : ℕ) (es rest : List EntryIndex) (strings : List (List ℕ)) (e : EntryIndex) (block : EntryBlock) (old new : List Ask) (error : Error)
-    → IsNextBlock es strings e block old new → AreNoBytesIn region block.place block.entries.items e error → AreUnread region (es ++ e ∷ rest) old new error
+pub no_next_bytes : {MayFail : Failures} (region : ℕ) (es rest : List EntryIndex) (strings : List (List ℕ)) (e : EntryIndex) (block : EntryBlock) (old new : List Ask) (error : Error)
+    → IsNextBlock es strings e block old new → AreNoBytesIn region block.place block.entries.items e error → AreUnread MayFail region (es ++ e ∷ rest) old new error
 no_next_bytes region es rest strings e block old new error n (inl m) = record { some = some_entries es rest e; reads = n.reads; only = n.only; asked = n.asked; why = inr (inl m) }
 no_next_bytes region es rest strings e block old new error n (inr c) = record {
   some = some_entries es rest e;
@@ -338,20 +345,20 @@ split_at i es d l = sym (ap (λ (front : List EntryIndex). front ++ drop (i + 1)
 abbrev bytes_in_all : List (Vec ℕ Global) → List (List ℕ)
 bytes_in_all seen = map (λ (s : Vec ℕ Global). s.items) seen
 
-pub no_block_at : (region i : ℕ) (es : List EntryIndex) (d : EntryIndex) (seen : List (Vec ℕ Global)) (kept : Option EntryBlock) (old now new : List Ask) (error : Error) → i < length es
-    → AreReadSoFar (take i es) (map (λ s. s.items) seen) kept old now → IsNoBlockOf region (get_or es i d) kept now new error → AreUnread region es old new error
-no_block_at region i es d seen kept old now new error l r b =
-    subst (λ (es : List EntryIndex). AreUnread region es old new error) (split_at i es d l)
+pub no_block_at : {MayFail : Failures} (region i : ℕ) (es : List EntryIndex) (d : EntryIndex) (seen : List (Vec ℕ Global)) (kept : Option EntryBlock) (old now new : List Ask) (error : Error) → i < length es
+    → AreReadSoFar (take i es) (map (λ s. s.items) seen) kept old now → IsNoBlockOf MayFail region (get_or es i d) kept now new error → AreUnread MayFail region es old new error
+no_block_at {MayFail} region i es d seen kept old now new error l r b =
+    subst (λ (es : List EntryIndex). AreUnread MayFail region es old new error) (split_at i es d l)
     (no_next_block region (take i es) (drop (i + 1) es) (bytes_in_all seen) (get_or es i d) kept old now new error r b)
 
 pub block_at : (i : ℕ) (es : List EntryIndex) (d : EntryIndex) (seen : List (Vec ℕ Global)) (kept : Option EntryBlock) (block : EntryBlock) (old now new : List Ask)
     → AreReadSoFar (take i es) (map (λ s. s.items) seen) kept old now → IsBlockOf (get_or es i d) kept block now new → IsNextBlock (take i es) (map (λ s. s.items) seen) (get_or es i d) block old new
 block_at i es d seen kept block old now new r b = next_block (take i es) (bytes_in_all seen) (get_or es i d) kept block old now new r b
 
-pub no_bytes_at : (region i : ℕ) (es : List EntryIndex) (d : EntryIndex) (seen : List (Vec ℕ Global)) (block : EntryBlock) (old new : List Ask) (entries : List ℕ) (error : Error) → i < length es
-    → IsNextBlock (take i es) (map (λ s. s.items) seen) (get_or es i d) block old new → entries ≡ block.entries.items → AreNoBytesIn region block.place entries (get_or es i d) error → AreUnread region es old new error
-no_bytes_at region i es d seen block old new entries error l n is b =
-    subst (λ (es : List EntryIndex). AreUnread region es old new error) (split_at i es d l)
+pub no_bytes_at : {MayFail : Failures} (region i : ℕ) (es : List EntryIndex) (d : EntryIndex) (seen : List (Vec ℕ Global)) (block : EntryBlock) (old new : List Ask) (entries : List ℕ) (error : Error) → i < length es
+    → IsNextBlock (take i es) (map (λ s. s.items) seen) (get_or es i d) block old new → entries ≡ block.entries.items → AreNoBytesIn region block.place entries (get_or es i d) error → AreUnread MayFail region es old new error
+no_bytes_at {MayFail} region i es d seen block old new entries error l n is b =
+    subst (λ (es : List EntryIndex). AreUnread MayFail region es old new error) (split_at i es d l)
     (no_next_bytes region (take i es) (drop (i + 1) es) (bytes_in_all seen) (get_or es i d) block old new error n
     (subst (λ (bytes : List ℕ). AreNoBytesIn region block.place bytes (get_or es i d) error) is b))
 
@@ -416,14 +423,14 @@ all_joined i es joined kept old new past some =
       subst (λ (strings : List (List ℕ)). AreReadByBlocks es strings old new) (sym (ap (strings_in es) h.are ∙ lengths.1)) h.read.read,
     )
 
-pub unjoined_block_at : (region i : ℕ) (es : List EntryIndex) (d : EntryIndex) (joined : List ℕ) (kept : Option EntryBlock) (old now new : List Ask) (error : Error) → i < length es
-    → AreJoinedSoFar (take i es) joined kept old now → IsNoBlockOf region (get_or es i d) kept now new error → AreUnread region es old new error
-unjoined_block_at region i es d joined kept old now new error l h b =
-    subst (λ (es : List EntryIndex). AreUnread region es old new error) (split_at i es d l)
+pub unjoined_block_at : {MayFail : Failures} (region i : ℕ) (es : List EntryIndex) (d : EntryIndex) (joined : List ℕ) (kept : Option EntryBlock) (old now new : List Ask) (error : Error) → i < length es
+    → AreJoinedSoFar (take i es) joined kept old now → IsNoBlockOf MayFail region (get_or es i d) kept now new error → AreUnread MayFail region es old new error
+unjoined_block_at {MayFail} region i es d joined kept old now new error l h b =
+    subst (λ (es : List EntryIndex). AreUnread MayFail region es old new error) (split_at i es d l)
     (no_next_block region (take i es) (drop (i + 1) es) h.strings (get_or es i d) kept old now new error h.read b)
 
-pub unjoined_bytes_at : (region i : ℕ) (es : List EntryIndex) (d : EntryIndex) (joined : List ℕ) (kept : Option EntryBlock) (block : EntryBlock) (old now new : List Ask) (error : Error) → i < length es
-    → AreJoinedSoFar (take i es) joined kept old now → IsBlockOf (get_or es i d) kept block now new → AreNoBytesIn region block.place block.entries.items (get_or es i d) error → AreUnread region es old new error
-unjoined_bytes_at region i es d joined kept block old now new error l h b none =
-    subst (λ (es : List EntryIndex). AreUnread region es old new error) (split_at i es d l)
+pub unjoined_bytes_at : {MayFail : Failures} (region i : ℕ) (es : List EntryIndex) (d : EntryIndex) (joined : List ℕ) (kept : Option EntryBlock) (block : EntryBlock) (old now new : List Ask) (error : Error) → i < length es
+    → AreJoinedSoFar (take i es) joined kept old now → IsBlockOf (get_or es i d) kept block now new → AreNoBytesIn region block.place block.entries.items (get_or es i d) error → AreUnread MayFail region es old new error
+unjoined_bytes_at {MayFail} region i es d joined kept block old now new error l h b none =
+    subst (λ (es : List EntryIndex). AreUnread MayFail region es old new error) (split_at i es d l)
     (no_next_bytes region (take i es) (drop (i + 1) es) h.strings (get_or es i d) block old new error (next_block (take i es) h.strings (get_or es i d) kept block old now new h.read b) none)

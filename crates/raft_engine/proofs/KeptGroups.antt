@@ -44,6 +44,7 @@ use Rattle.raft_engine.proofs.KeptMoves.{kept_read, read_last, read_synced}
 use Rattle.raft_engine.proofs.PartLemmas.{parts_only}
 use Rattle.raft_engine.proofs.ReadBackLemmas.{none_before}
 use Rattle.raft_engine.proofs.TrustLemmas.{puts_unfailed, unfailed_trusted}
+use Rattle.raft_engine.specs.FileFailures.{Failures}
 
 -- ---- batches of a group, as they are made
 
@@ -139,10 +140,10 @@ module _ (read : ReadsAreStored) (version : Version) (asks : List Ask) (append r
   engine = record { version = version; asks = asks; untold = untold; accessor = accessor; intact = intact }
 
   -- there is no group of its records
-  pub group_unmade : (region : ℕ) (t : Table) → finite.get accessor.tables region ≡ Some t
+  pub group_unmade : {MayFail : Failures} (region : ℕ) (t : Table) → finite.get accessor.tables region ≡ Some t
       → (new : List Ask) (e : Error) → AreOnlyRead asks new
-      → (e ≢ errors.Memory → IsGroupRefused t asks new e)
-      → IsGroupUnmoved region engine (record engine { asks = new }) e
+      → (e ≢ errors.Memory → IsGroupRefused MayFail t asks new e)
+      → IsGroupUnmoved MayFail region engine (record engine { asks = new }) e
   group_unmade region t there new e r refused = inl (record { asked = r; others = refl }, λ some. inl (t, there, refused some))
 
   module _ (is_intact : intact ≡ true) (region : ℕ) (t : Table) (there : finite.get accessor.tables region ≡ Some t) (between : List Ask) (batches : List Batch)
@@ -160,8 +161,8 @@ module _ (read : ReadsAreStored) (version : Version) (asks : List Ask) (append r
     its_last = files_last Rewrite asks rewrite (k.whole is_intact).rewrite_files
 
     -- it is too long
-    pub group_long : (e : Error) → (e ≢ errors.Memory → (e ≡ errors.Full) × IsOneTooLong rewrite.len batches)
-        → IsGroupUnmoved region engine (record engine { asks = between }) e
+    pub group_long : {MayFail : Failures} (e : Error) → (e ≢ errors.Memory → (e ≡ errors.Full) × IsOneTooLong rewrite.len batches)
+        → IsGroupUnmoved MayFail region engine (record engine { asks = between }) e
     group_long e long = inl (
       record { asked = group_reads; others = refl },
       λ some. inr (

@@ -41,6 +41,7 @@ use Rattle.raft_engine.proofs.FilesLemmas.{files_last, files_same, files_told}
 use Rattle.raft_engine.proofs.ReadBackLemmas.{none_before, same_read_back}
 use Rattle.raft_engine.proofs.ReadKept.{none_read, read_only}
 use Rattle.raft_engine.proofs.TrustLemmas.{reads_trusted, reads_unfailed, unfailed_trusted}
+use Rattle.raft_engine.specs.FileFailures.{Failures}
 
 -- ---- reads
 
@@ -133,12 +134,12 @@ module _ (read : ReadsAreStored) (version : Version) (asks : List Ask) (append r
   -- ---- where the region isn't moved
 
   -- there is no batch of its records
-  pub batch_refused : (gate : Option ℕ) (left : List EntryIndex) (region : ℕ) (t : Table) → finite.get accessor.tables region ≡ Some t → (new : List Ask) (e : Error) → AreOnlyRead asks new
-      → (e ≢ errors.Memory → IsBatchRefused gate left t asks new e) → IsBatchUnmoved gate left region engine (record engine { asks = new }) e
+  pub batch_refused : {MayFail : Failures} (gate : Option ℕ) (left : List EntryIndex) (region : ℕ) (t : Table) → finite.get accessor.tables region ≡ Some t → (new : List Ask) (e : Error) → AreOnlyRead asks new
+      → (e ≢ errors.Memory → IsBatchRefused MayFail gate left t asks new e) → IsBatchUnmoved MayFail gate left region engine (record engine { asks = new }) e
   batch_refused gate left region t there new e r refused = inl (only_read new r, λ some. inr (inl (t, there, refused some)))
 
   -- the last rewrite file has too many bytes
-  pub file_refused : (gate : Option ℕ) (left : List EntryIndex) (region : ℕ) → IsLastFull Rewrite asks → IsBatchUnmoved gate left region engine engine errors.Full
+  pub file_refused : {MayFail : Failures} (gate : Option ℕ) (left : List EntryIndex) (region : ℕ) → IsLastFull Rewrite asks → IsBatchUnmoved MayFail gate left region engine engine errors.Full
   file_refused gate left region full = inl (only_read asks (none_read asks asks refl), λ some. inl (refl, refl, full))
 
   module _ (moved : MovedBatchesAreStored) (is_intact : intact ≡ true) (synced : AreSynced (acts_on Append asks)) (none : untold.items ≡ [])
@@ -151,8 +152,8 @@ module _ (read : ReadsAreStored) (version : Version) (asks : List Ask) (append r
     is_moving = record { table = t; there = there; moving = m }
 
     -- the batch has too many bytes
-    pub bytes_refused : (e : Error) → (e ≢ errors.Memory → (e ≡ errors.Full) × (2 ^ 56 ≤ encoded_length batch.items batch.entry_bytes))
-        → IsBatchUnmoved gate left region engine (record engine { asks = between }) e
+    pub bytes_refused : {MayFail : Failures} (e : Error) → (e ≢ errors.Memory → (e ≡ errors.Full) × (2 ^ 56 ≤ encoded_length batch.items batch.entry_bytes))
+        → IsBatchUnmoved MayFail gate left region engine (record engine { asks = between }) e
     bytes_refused e long = inl (only_read between reads, λ some. inr (inr (batch, is_moving, (long some).0, (long some).1)))
 
     its_last : IsLastFile Rewrite asks rewrite.seq (k.whole is_intact).rewrite_files.bytes

@@ -10,6 +10,7 @@ mod MarkerLemmas
 pub mod GroupRowLemmas
 mod ReadQueueLemmas
 pub mod FoundQueueLemmas
+mod DamagedLemmas
 pub mod RecoveredLemmas
 mod FoundDoneLemmas
 mod JoinedLemmas
@@ -80,3 +81,4 @@ mod LifeLemmas
 mod OwnFileLemmas
 mod TrustLemmas
 mod WellPutLemmas
+mod NamedLemmas

@@ -21,6 +21,7 @@ use Rattle.raft_engine.proofs.BlockCounts.{prefix_count}
 use Rattle.raft_engine.proofs.PartLemmas.{parts_only}
 use Rattle.raft_engine.proofs.PartLengths.{bytes_append}
 use Rattle.raft_engine.proofs.RewrittenRegions.{rewritten_ready}
+use Rattle.raft_engine.specs.FileFailures.{Failures}
 
 -- ---- entries that are one part
 
@@ -42,7 +43,7 @@ only_if es n f one = elim (cases_lt n (length es)) [
   | inr most ↦ most
 ]
 
-none_low : 0 ≤ 8192
+none_low : 0 ≤ 4096
 none_low = omega arith
 
 pub one_in_none : (region : ℕ) (o : Option Table) → o ≡ None
@@ -67,8 +68,8 @@ pub group_again : (region : ℕ) (old new : KeptEngine) → ¬ (IsOnePartOf regi
 group_again region old new several (inl none) = absurd (several (one_in_none region (finite.get old.accessor.tables region) none.0))
 group_again region old new several (inr g) = inr (several, g)
 
-pub group_not_again : (region : ℕ) (old new : KeptEngine) (e : Error) → ¬ (IsOnePartOf region old)
-    → IsGroupUnmoved region old new e → IsRegionUnmovedAgain region old new e
+pub group_not_again : {MayFail : Failures} (region : ℕ) (old new : KeptEngine) (e : Error) → ¬ (IsOnePartOf region old)
+    → IsGroupUnmoved MayFail region old new e → IsRegionUnmovedAgain MayFail region old new e
 group_not_again region old new e several g = inr (inr (several, g))
 
 pub moved_ready : (region : ℕ) (old new : KeptEngine) → IsReady old → IsRegionMovedAgain region old new → IsReady new
@@ -94,9 +95,9 @@ pub next_region : (i : ℕ) (regions : List ℕ) (d : ℕ) (old now new : KeptEn
 next_region i regions d old now new l h k =
     subst (λ (rs : List ℕ). AreRegionsMovedAgain rs old new) (sym (take_more regions i d l)) (more_region (get_or regions i d) (take i regions) old now new h k)
 
-pub some_moved : (i : ℕ) (regions : List ℕ) (d : ℕ) (old now new : KeptEngine) (e : Error) → i < length regions
-    → AreRegionsMovedAgain (take i regions) old now → IsRegionUnmovedAgain (get_or regions i d) now new e
-    → AreSomeRegionsMovedAgain regions old new e
+pub some_moved : {MayFail : Failures} (i : ℕ) (regions : List ℕ) (d : ℕ) (old now new : KeptEngine) (e : Error) → i < length regions
+    → AreRegionsMovedAgain (take i regions) old now → IsRegionUnmovedAgain MayFail (get_or regions i d) now new e
+    → AreSomeRegionsMovedAgain MayFail regions old new e
 some_moved i regions d old now new e l h k =
     let split : regions ≡ take i regions ++ get_or regions i d ∷ drop (i + 1) regions = sym (take-append-drop i regions) ∙ ap (λ (rs : List ℕ). take i regions ++ rs) (drop_more regions i d l) in
     record { front = take i regions; region = get_or regions i d; back = drop (i + 1) regions; split = split; between = now; moved = h; unmoved = k }

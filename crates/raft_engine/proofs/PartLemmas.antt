@@ -18,6 +18,7 @@ use Rattle.raft_engine.specs.Reads.{AreOnlyRead, AreReadByBlocks, AreReads}
 use Rattle.raft_engine.specs.Rewriting.{moving_entries, moving_pairs, with_puts}
 use Rattle.raft_engine.specs.Unmoved.{AreKeysRefused}
 use Rattle.raft_engine.proofs.ReadKept.{read_only, unread_only}
+use Rattle.raft_engine.specs.FileFailures.{Failures}
 
 -- ---- the first part
 
@@ -88,7 +89,7 @@ parts_one_more : (parts : List EntriesPart) (part : EntriesPart) (old now new : 
 parts_one_more [] part old now new r k = (new, subst (λ (l : List Ask). AreReadByBlocks part.0 part.1 l new) r k, refl)
 parts_one_more (p ∷ parts) part old now new r k = (r.0, r.1, parts_one_more parts part r.0 now new r.2 k)
 
-pub part_only : (region : ℕ) (es : List EntryIndex) (old new : List Ask) (e : Error) → IsPartRefused region es old new e
+pub part_only : {MayFail : Failures} (region : ℕ) (es : List EntryIndex) (old new : List Ask) (e : Error) → IsPartRefused MayFail region es old new e
     → AreOnlyRead old new
 part_only region es old new e (inl u) = unread_only region es old new e u
 part_only region es old new e (inr r) = read_only es r.0 old new r.1
@@ -154,9 +155,9 @@ pub so_far_only : (es : List EntryIndex) (group id : ℕ) (old now : List Ask) (
     → ArePartsSoFar es group id old now before after rest → AreOnlyRead old now
 so_far_only es group id old now before after rest h = parts_only h.parts old now h.read
 
-pub parts_refused : (es : List EntryIndex) (group id : ℕ) (old now new : List Ask) (before after : List Batch) (rest : List EntryIndex) (n : ℕ) (e : Error)
+pub parts_refused : {MayFail : Failures} (es : List EntryIndex) (group id : ℕ) (old now new : List Ask) (before after : List Batch) (rest : List EntryIndex) (n : ℕ) (e : Error)
     → ArePartsSoFar es group id old now before after rest → IsFirstPart rest n
-    → IsPartRefused id (take n rest) now new e → ArePartsRefused id es old new e
+    → IsPartRefused MayFail id (take n rest) now new e → ArePartsRefused MayFail id es old new e
 parts_refused es group id old now new before after rest n e h first refused = record {
   parts = h.parts;
   rest = rest;
@@ -193,8 +194,8 @@ module _ (t : Table) (group : ℕ) (es : List EntryIndex) (are : es ≡ moving_e
     cut = subst (λ (l : List EntryIndex). AreCutInto l a.parts []) are a.cut;
   }
 
-  pub keys_refused : (ps : List (List ℕ × List ℕ)) (e : Error) → ps ≡ moving_pairs None t.keys → AreKeysRefused ps e
-      → IsGroupRefused t old new e
+  pub keys_refused : {MayFail : Failures} (ps : List (List ℕ × List ℕ)) (e : Error) → ps ≡ moving_pairs None t.keys → AreKeysRefused ps e
+      → IsGroupRefused MayFail t old new e
   keys_refused ps e of_table refused = inr (record {
     parts = a.parts;
     cut = subst (λ (l : List EntryIndex). AreCutInto l a.parts []) are a.cut;
@@ -205,7 +206,7 @@ module _ (t : Table) (group : ℕ) (es : List EntryIndex) (are : es ≡ moving_e
   pub added_only : AreOnlyRead old new
   added_only = parts_only a.parts old new a.read
 
-pub group_refused : (t : Table) (region : ℕ) (es : List EntryIndex) (old new : List Ask) (e : Error)
-    → region ≡ t.region_id → es ≡ moving_entries None t.entries → ArePartsRefused region es old new e → IsGroupRefused t old new e
-group_refused t region es old new e of are refused =
-    inl (subst (λ (l : List EntryIndex). ArePartsRefused t.region_id l old new e) are (subst (λ (r : ℕ). ArePartsRefused r es old new e) of refused))
+pub group_refused : {MayFail : Failures} (t : Table) (region : ℕ) (es : List EntryIndex) (old new : List Ask) (e : Error)
+    → region ≡ t.region_id → es ≡ moving_entries None t.entries → ArePartsRefused MayFail region es old new e → IsGroupRefused MayFail t old new e
+group_refused {MayFail} t region es old new e of are refused =
+    inl (subst (λ (l : List EntryIndex). ArePartsRefused MayFail t.region_id l old new e) are (subst (λ (r : ℕ). ArePartsRefused MayFail r es old new e) of refused))

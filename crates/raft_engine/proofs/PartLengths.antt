@@ -17,7 +17,7 @@ zero_left n = omega arith
 zero_plus : (n : ℕ) → n ≡ 0 → 0 + n ≡ 0
 zero_plus n e = omega (arith, e)
 
-none_low : 0 ≤ 8192
+none_low : 0 ≤ 4096
 none_low = omega arith
 
 none_most : 0 ≤ 1
@@ -193,7 +193,7 @@ pub more_counted : (es : List EntryIndex) (i bytes : ℕ) (d : EntryIndex) → i
     → bytes + len ≡ bytes_of_entries (take (i + 1) es)
 more_counted es i bytes d less sum len is = ap (λ (n : ℕ). bytes + n) is ∙ one_counted es i bytes d less sum
 
-pub capped : (es : List EntryIndex) (i bytes : ℕ) → bytes ≡ bytes_of_entries (take i es) → 8192 < bytes → IsCapped bytes es
+pub capped : (es : List EntryIndex) (i bytes : ℕ) → bytes ≡ bytes_of_entries (take i es) → 4096 < bytes → IsCapped bytes es
 capped es i bytes sum many =
     let all = ap bytes_of_entries (sym (take-append-drop i es)) ∙ bytes_append (take i es) (drop i es) in
     inr (many, omega (arith, all, sum, many))
@@ -223,11 +223,11 @@ joined_cap a b xs ys (inl h) (inl k) = let all = bytes_append xs ys in inl (omeg
 joined_cap a b xs ys (inl h) (inr k) = let all = bytes_append xs ys in let x = k.0 in let y = k.1 in inr (omega (arith, x), omega (arith, all, y))
 joined_cap a b xs ys (inr h) k = let all = bytes_append xs ys in let x = h.0 in let y = h.1 in inr (omega (arith, x), omega (arith, all, y))
 
-many_if : (a : ℕ) (xs : List EntryIndex) → IsCapped a xs → 8192 < a → 8192 < bytes_of_entries xs
+many_if : (a : ℕ) (xs : List EntryIndex) → IsCapped a xs → 4096 < a → 4096 < bytes_of_entries xs
 many_if a xs (inl h) many = omega (arith, h, many)
 many_if a xs (inr h) many = h.1
 
-few_if : (a : ℕ) (xs : List EntryIndex) → IsCapped a xs → a ≤ 8192 → bytes_of_entries xs ≤ 8192
+few_if : (a : ℕ) (xs : List EntryIndex) → IsCapped a xs → a ≤ 4096 → bytes_of_entries xs ≤ 4096
 few_if a xs (inl h) few = omega (arith, h, few)
 few_if a xs (inr h) few = let many = h.0 in absurd (omega (arith, many, few))
 
@@ -275,7 +275,7 @@ module _ (es rest : List EntryIndex) (len bytes k more : ℕ) (is_rest : rest �
       of (inl z) = z
       of (inr z) = let y = z.1 in absurd (omega (arith, y))
 
-  pub one_more_block : (0 < len → bytes + more ≤ 8192) → more < 2 ^ 33 → ArePartSoFar es (len + k) (bytes + more)
+  pub one_more_block : (0 < len → bytes + more ≤ 4096) → more < 2 ^ 33 → ArePartSoFar es (len + k) (bytes + more)
   one_more_block fits small = record {
     at_most = not_past;
     sum = more_sum;
@@ -296,7 +296,7 @@ module _ (es rest : List EntryIndex) (len bytes k more : ℕ) (is_rest : rest �
           inr (omega (arith, count, none, one))
       part (suc n) e = inl (few_if (bytes + more) (take (len + k) es) more_sum (fits (omega (arith, e))))
 
-  pub part_is_full : 0 < len → 8192 < bytes + more → IsFirstPart es len
+  pub part_is_full : 0 < len → 4096 < bytes + more → IsFirstPart es len
   part_is_full above many = record {
     at_most = h.at_most;
     some = λ some. above;

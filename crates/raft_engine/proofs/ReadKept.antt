@@ -16,6 +16,7 @@ use Rattle.raft_engine.specs.KeptEngine.{KeptEngine}
 use Rattle.raft_engine.specs.Reads.{AreOnlyRead, AreReadByBlocks, AreUnread, IsReadAmong}
 use Rattle.raft_engine.proofs.ToldReads.{entries_told}
 use Rattle.raft_table.proofs.KeyValueReads.{entries-empty}
+use Rattle.raft_engine.specs.FileFailures.{Failures}
 
 pub none_read : (old new : List Ask) → new ≡ old → AreOnlyRead old new
 none_read old new e = record { reads = []; only = tt; asked = e }
@@ -23,7 +24,7 @@ none_read old new e = record { reads = []; only = tt; asked = e }
 pub read_only : (es : List EntryIndex) (strings : List (List ℕ)) (old new : List Ask) → AreReadByBlocks es strings old new → AreOnlyRead old new
 read_only es strings old new r = record { reads = r.reads; only = r.only; asked = r.asked }
 
-pub unread_only : (region : ℕ) (es : List EntryIndex) (old new : List Ask) (error : Error) → AreUnread region es old new error → AreOnlyRead old new
+pub unread_only : {MayFail : Failures} (region : ℕ) (es : List EntryIndex) (old new : List Ask) (error : Error) → AreUnread MayFail region es old new error → AreOnlyRead old new
 unread_only region es old new error r = record { reads = r.reads; only = r.only; asked = r.asked }
 
 -- ---- one entry

@@ -73,7 +73,7 @@ pub all_so_far : (gate : Option ℕ) (region : ℕ) (old now new : KeptEngine) (
 all_so_far gate region old now new es left h none m =
     inr (record { behind = h.behind; between = now; first = h.first; last = subst (λ (l : List EntryIndex). IsBatchMoved gate l region now new) none m })
 
-pub unmoved_so_far : (gate : Option ℕ) (region : ℕ) (old now new : KeptEngine) (es left : List EntryIndex) (e : Error) → AreMovedSoFar gate region old now es → IsBatchUnmoved gate left region now new e → IsRegionUnmoved gate region old new e
+pub unmoved_so_far : {MayFail : Failures} (gate : Option ℕ) (region : ℕ) (old now new : KeptEngine) (es left : List EntryIndex) (e : Error) → AreMovedSoFar gate region old now es → IsBatchUnmoved MayFail gate left region now new e → IsRegionUnmoved MayFail gate region old new e
 unmoved_so_far gate region old now new es left e h u = record { behind = h.behind; between = now; first = h.first; left = left; unmoved = u }
 
 pub fault_so_far : (MayFail : Failures) (gate : Option ℕ) (region : ℕ) (old now new : KeptEngine) (es left : List EntryIndex) (e : Error) → AreMovedSoFar gate region old now es → (Breaks now new → IsBatchFault MayFail gate left region now new e)
@@ -81,7 +81,7 @@ pub fault_so_far : (MayFail : Failures) (gate : Option ℕ) (region : ℕ) (old 
 fault_so_far MayFail gate region old now new es left e h f broken = record { behind = h.behind; between = now; first = h.first; left = left; fault = f (h.ready.intact, broken.1) }
 
 -- there is no memory for the list of what moves
-pub unlisted : (gate : Option ℕ) (region : ℕ) (engine : KeptEngine) (e : Error) → e ≡ errors.Memory → IsRegionUnmoved gate region engine engine e
+pub unlisted : {MayFail : Failures} (gate : Option ℕ) (region : ℕ) (engine : KeptEngine) (e : Error) → e ≡ errors.Memory → IsRegionUnmoved MayFail gate region engine engine e
 unlisted gate region engine e memory = record {
   behind = [];
   between = engine;
@@ -100,8 +100,8 @@ pub next_region : (gate : Option ℕ) (i : ℕ) (regions : List ℕ) (d : ℕ) (
 next_region gate i regions d old now new l h k =
     subst (λ (rs : List ℕ). AreRegionsRewritten gate rs old new) (sym (take_more regions i d l)) (more_region gate (get_or regions i d) (take i regions) old now new h k)
 
-pub some_rewritten : (gate : Option ℕ) (i : ℕ) (regions : List ℕ) (d : ℕ) (old now new : KeptEngine) (e : Error) → i < length regions
-    → AreRegionsRewritten gate (take i regions) old now → IsRegionUnmoved gate (get_or regions i d) now new e → AreSomeRewritten gate regions old new e
+pub some_rewritten : {MayFail : Failures} (gate : Option ℕ) (i : ℕ) (regions : List ℕ) (d : ℕ) (old now new : KeptEngine) (e : Error) → i < length regions
+    → AreRegionsRewritten gate (take i regions) old now → IsRegionUnmoved MayFail gate (get_or regions i d) now new e → AreSomeRewritten MayFail gate regions old new e
 some_rewritten gate i regions d old now new e l h k =
     let split : regions ≡ take i regions ++ get_or regions i d ∷ drop (i + 1) regions = sym (take-append-drop i regions) ∙ ap (λ (rs : List ℕ). take i regions ++ rs) (drop_more regions i d l) in
     record { front = take i regions; region = get_or regions i d; back = drop (i + 1) regions; split = split; between = now; moved = h; unmoved = k }

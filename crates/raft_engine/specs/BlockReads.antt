@@ -9,8 +9,9 @@ use Rattle.raft_base.specs.Errors.{IsCorruptionError}
 use Rattle.raft_records.specs.Header.{IsEntryBlockOf}
 use Rattle.raft_files.specs.Asks.{Ask, Read, ask}
 use Rattle.raft_engine_laws.specs.Contents.{bytes_of}
-use Rattle.raft_engine.specs.Reads.{NamesEntry, entry_text}
+use Rattle.raft_engine.specs.Reads.{IsNothingRead, NamesEntry, entry_text}
 use Rattle.raft_engine.specs.declared.block_reads.EntryBlock.{EntryBlock}
+use Rattle.raft_engine.specs.FileFailures.{Failures}
 
 -- the bytes at a place were read, and are a sound block with these entry bytes
 pub record IsSoundRead (place : FileBlockHandle) (entries : List ℕ) (old new : List Ask) : Type 0 where
@@ -39,14 +40,14 @@ pub record IsBlockOf (e : EntryIndex) (kept : Option EntryBlock) (block : EntryB
   pub placed : e.entries ≡ Some block.place
   pub got : ((kept ≡ Some block) × (new ≡ old)) ⊎ ((IsKeptOf e kept → ⊥) × IsSoundRead block.place block.entries.items old new)
 
--- nothing was read for an entry, or no sound block at its place
-abbrev pub IsUnreadOf : ℕ → EntryIndex → List Ask → List Ask → Error → Type 0
-IsUnreadOf region e old new error = (new ≡ old) ⊎ ((place : FileBlockHandle) × (e.entries ≡ Some place) × IsUnsoundRead region e.index place old new error)
+-- nothing was read for an entry, or no sound block at its place; or there is no memory
+abbrev pub IsUnreadOf : Failures → ℕ → EntryIndex → List Ask → List Ask → Error → Type 0
+IsUnreadOf MayFail region e old new error = ((new ≡ old) × ((error ≡ errors.Memory) ⊎ IsNothingRead MayFail e old error)) ⊎ ((place : FileBlockHandle) × (e.entries ≡ Some place) × IsUnsoundRead region e.index place old new error)
 
 -- the block that is kept is another one, and that of the entry isn't read
-pub record IsNoBlockOf (region : ℕ) (e : EntryIndex) (kept : Option EntryBlock) (old new : List Ask) (error : Error) : Type 0 where
+pub record IsNoBlockOf (MayFail : Failures) (region : ℕ) (e : EntryIndex) (kept : Option EntryBlock) (old new : List Ask) (error : Error) : Type 0 where
   pub other : IsKeptOf e kept → ⊥
-  pub unread : IsUnreadOf region e old new error
+  pub unread : IsUnreadOf MayFail region e old new error
 
 -- the bytes of an entry in the entry bytes of a block
 pub record AreBytesIn (entries : List ℕ) (e : EntryIndex) (bytes : List ℕ) : Type 0 where

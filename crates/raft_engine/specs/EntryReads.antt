@@ -9,6 +9,7 @@ use Rattle.raft_files.specs.Asks.{Ask}
 use Rattle.raft_engine_prefixes.specs.Contents.{AreBothTold}
 use Rattle.raft_engine.specs.KeptEngine.{KeptEngine, table_in}
 use Rattle.raft_engine.specs.Reads.{AreReadByBlocks, AreUnread}
+use Rattle.raft_engine.specs.FileFailures.{Failures}
 
 -- ---- one entry
 
@@ -20,9 +21,9 @@ IsEntryGot (Some e) None old new = ⊥
 IsEntryGot (Some e) (Some bytes) old new = AreReadByBlocks (e ∷ []) (bytes ∷ []) old new
 
 -- why an entry of a region isn't read
-abbrev pub IsEntryUnread : ℕ → Option EntryIndex → List Ask → List Ask → Error → Type 0
-IsEntryUnread region None old new error = ⊥
-IsEntryUnread region (Some e) old new error = AreUnread region (e ∷ []) old new error
+abbrev pub IsEntryUnread : Failures → ℕ → Option EntryIndex → List Ask → List Ask → Error → Type 0
+IsEntryUnread MayFail region None old new error = ⊥
+IsEntryUnread MayFail region (Some e) old new error = AreUnread MayFail region (e ∷ []) old new error
 
 -- ---- many entries
 
@@ -47,7 +48,7 @@ pub record AreFetched (region begin end : ℕ) (limit : Option ℕ) (count : ℕ
   pub contents : (content : EntryIndex → List ℕ) → AreBothTold new.asks content → strings ≡ map content es
 
 -- why those of a range aren't fetched: as the table refuses it, and nothing is asked; or they aren't read
-abbrev pub AreUnfetched : ℕ → ℕ → ℕ → Option ℕ → KeptEngine → KeptEngine → Error → Type 0
-AreUnfetched region begin end limit old new error =
+abbrev pub AreUnfetched : Failures → ℕ → ℕ → ℕ → Option ℕ → KeptEngine → KeptEngine → Error → Type 0
+AreUnfetched MayFail region begin end limit old new error =
     (IsFetchFault (answer_of begin end (finite.get old.accessor.tables region)) error × (new.asks ≡ old.asks))
-    ⊎ ((es : List EntryIndex) × AreOfRange region begin end limit old es × AreUnread region es old.asks new.asks error)
+    ⊎ ((es : List EntryIndex) × AreOfRange region begin end limit old es × AreUnread MayFail region es old.asks new.asks error)

@@ -12,6 +12,7 @@ use Rattle.raft_engine.specs.Parts.{IsFirstPart}
 use Rattle.raft_engine.specs.Reads.{AreReadByBlocks, AreUnread}
 use Rattle.raft_engine.specs.Rewriting.{moving_entries, moving_pairs}
 use Rattle.raft_engine.specs.Unmoved.{AreKeysRefused}
+use Rattle.raft_engine.specs.FileFailures.{Failures}
 
 -- a batch goes on with a group: it has some entries of a region, with their bytes as they were read by their blocks
 pub record IsPartRead (group id : ℕ) (es : List EntryIndex) (old new : List Ask) (batch : Batch) : Type 0 where
@@ -45,12 +46,12 @@ pub record IsGroupInParts (t : Table) (old new : List Ask) (group : ℕ) (batche
 -- ---- why there is none
 
 -- the entries of a part, of a region, aren't all read; or they are, and have 2^31 bytes or more
-abbrev pub IsPartRefused : ℕ → List EntryIndex → List Ask → List Ask → Error → Type 0
-IsPartRefused region part old new e =
-    AreUnread region part old new e ⊎ ((strings : List (List ℕ)) × AreReadByBlocks part strings old new × (e ≡ errors.Full) × (2 ^ 31 ≤ length (concat strings)))
+abbrev pub IsPartRefused : Failures → ℕ → List EntryIndex → List Ask → List Ask → Error → Type 0
+IsPartRefused MayFail region part old new e =
+    AreUnread MayFail region part old new e ⊎ ((strings : List (List ℕ)) × AreReadByBlocks part strings old new × (e ≡ errors.Full) × (2 ^ 31 ≤ length (concat strings)))
 
 -- the first parts of entries of a region were read, and the next one is refused
-pub record ArePartsRefused (region : ℕ) (es : List EntryIndex) (old new : List Ask) (e : Error) : Type 0 where
+pub record ArePartsRefused (MayFail : Failures) (region : ℕ) (es : List EntryIndex) (old new : List Ask) (e : Error) : Type 0 where
   pub parts : List EntriesPart
   pub rest : List EntryIndex
   pub cut : AreCutInto es parts rest
@@ -58,7 +59,7 @@ pub record ArePartsRefused (region : ℕ) (es : List EntryIndex) (old new : List
   pub next : IsFirstPart rest count
   pub between : List Ask
   pub read : ArePartsRead parts old between
-  pub refused : IsPartRefused region (take count rest) between new e
+  pub refused : IsPartRefused MayFail region (take count rest) between new e
 
 -- all parts of entries were read, and one of these keys is that of the group markers
 pub record AreGroupKeysRefused (es : List EntryIndex) (pairs : List (List ℕ × List ℕ)) (old new : List Ask) (e : Error) : Type 0 where
@@ -68,6 +69,6 @@ pub record AreGroupKeysRefused (es : List EntryIndex) (pairs : List (List ℕ ×
   pub refused : AreKeysRefused pairs e
 
 -- why there are no batches of what of a table is in rewrite files, if there is memory
-abbrev pub IsGroupRefused : Table → List Ask → List Ask → Error → Type 0
-IsGroupRefused t old new e =
-    ArePartsRefused t.region_id (moving_entries None t.entries) old new e ⊎ AreGroupKeysRefused (moving_entries None t.entries) (moving_pairs None t.keys) old new e
+abbrev pub IsGroupRefused : Failures → Table → List Ask → List Ask → Error → Type 0
+IsGroupRefused MayFail t old new e =
+    ArePartsRefused MayFail t.region_id (moving_entries None t.entries) old new e ⊎ AreGroupKeysRefused (moving_entries None t.entries) (moving_pairs None t.keys) old new e

@@ -15,6 +15,7 @@ pub mod Purged
 pub mod KeptEngineCode
 pub mod KeptEngineView
 -- records that move to the rewrite queue
+pub mod FileFailures
 pub mod Reads
 pub mod Parts
 pub mod Rewriting
@@ -48,9 +49,12 @@ pub mod Restarts
 pub mod OpeningAsks
 pub mod CutTails
 pub mod TailsFound
+pub mod DamagedBatches
+pub mod DamagedStretches
 pub mod FoundQueues
 pub mod ReadQueues
 pub mod ReadFound
+pub mod NamedEntries
 pub mod FoundRecords
 pub mod Markers
 pub mod RowsShown

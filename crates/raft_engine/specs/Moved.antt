@@ -18,6 +18,7 @@ use Rattle.raft_engine.specs.Reads.{AreOnlyRead}
 use Rattle.raft_engine.specs.Rewriting.{IsBatchMoving, moving_entries}
 use Rattle.raft_engine.specs.Unmoved.{IsBatchRefused}
 use Rattle.raft_engine.specs.WrittenBatch.{AreFirstWritten, IsHalfDone, IsLastFull, file_of}
+use Rattle.raft_engine.specs.FileFailures.{Failures}
 
 -- ---- what is told
 
@@ -104,24 +105,24 @@ pub record IsBatchHalfMoved (gate : Option ℕ) (left : List EntryIndex) (region
 
 -- why a batch of a region's records doesn't move, if there is memory: the last rewrite file has more than 2^63 bytes; or there is no
 -- such batch; or it has 2^56 bytes or more
-abbrev pub IsMoveRefused : Option ℕ → List EntryIndex → ℕ → KeptEngine → KeptEngine → Error → Type 0
-IsMoveRefused gate left region old new e =
+abbrev pub IsMoveRefused : Failures → Option ℕ → List EntryIndex → ℕ → KeptEngine → KeptEngine → Error → Type 0
+IsMoveRefused MayFail gate left region old new e =
     ((e ≡ errors.Full) × (new ≡ old) × IsLastFull Rewrite old.asks)
-    ⊎ ((table : Table) × (finite.get old.accessor.tables region ≡ Some table) × IsBatchRefused gate left table old.asks new.asks e)
+    ⊎ ((table : Table) × (finite.get old.accessor.tables region ≡ Some table) × IsBatchRefused MayFail gate left table old.asks new.asks e)
     ⊎ ((batch : Batch) × IsMoving gate left region old new.asks batch × (e ≡ errors.Full) × (2 ^ 56 ≤ encoded_length batch.items batch.entry_bytes))
 
 -- nothing but reads was asked, for one of these reasons; or the batch is half moved
-abbrev pub IsBatchUnmoved : Option ℕ → List EntryIndex → ℕ → KeptEngine → KeptEngine → Error → Type 0
-IsBatchUnmoved gate left region old new e =
-    (IsOnlyRead old new × (e ≢ errors.Memory → IsMoveRefused gate left region old new e)) ⊎ IsBatchHalfMoved gate left region old new
+abbrev pub IsBatchUnmoved : Failures → Option ℕ → List EntryIndex → ℕ → KeptEngine → KeptEngine → Error → Type 0
+IsBatchUnmoved MayFail gate left region old new e =
+    (IsOnlyRead old new × (e ≢ errors.Memory → IsMoveRefused MayFail gate left region old new e)) ⊎ IsBatchHalfMoved gate left region old new
 
 -- the first batches of a region's records moved, and the next one didn't, or not whole
-pub record IsRegionUnmoved (gate : Option ℕ) (region : ℕ) (old new : KeptEngine) (e : Error) : Type 0 where
+pub record IsRegionUnmoved (MayFail : Failures) (gate : Option ℕ) (region : ℕ) (old new : KeptEngine) (e : Error) : Type 0 where
   pub behind : List KeptEngine
   pub between : KeptEngine
   pub first : AreFirstMoved gate region behind old between
   pub left : List EntryIndex
-  pub unmoved : IsBatchUnmoved gate left region between new e
+  pub unmoved : IsBatchUnmoved MayFail gate left region between new e
 
 -- ---- entries that are to move
 
@@ -152,24 +153,24 @@ pub record IsRewritten (gate : ℕ) (old new : KeptEngine) : Type 0 where
   pub moved : AreRegionsRewritten (Some gate) regions told new
 
 -- of these regions the records of the first ones moved, and those of the next one didn't, or not whole
-pub record AreSomeRewritten (gate : Option ℕ) (regions : List ℕ) (old new : KeptEngine) (e : Error) : Type 0 where
+pub record AreSomeRewritten (MayFail : Failures) (gate : Option ℕ) (regions : List ℕ) (old new : KeptEngine) (e : Error) : Type 0 where
   pub front : List ℕ
   pub region : ℕ
   pub back : List ℕ
   pub split : regions ≡ front ++ region ∷ back
   pub between : KeptEngine
   pub moved : AreRegionsRewritten gate front old between
-  pub unmoved : IsRegionUnmoved gate region between new e
+  pub unmoved : IsRegionUnmoved MayFail gate region between new e
 
 -- all is told, and of the regions of all tables the records of some moved
-pub record IsHalfRewritten (gate : ℕ) (old new : KeptEngine) (e : Error) : Type 0 where
+pub record IsHalfRewritten (MayFail : Failures) (gate : ℕ) (old new : KeptEngine) (e : Error) : Type 0 where
   pub was : old.intact ≡ true
   pub told : KeptEngine
   pub is_told : IsTold old told
   pub regions : List ℕ
   pub all : AreRegions old.accessor.tables regions
-  pub some : AreSomeRewritten (Some gate) regions told new e
+  pub some : AreSomeRewritten MayFail (Some gate) regions told new e
 
 -- it isn't told, or in part: where nothing was asked, for one of those reasons, the engine is as it was; or of the records some moved
-abbrev pub IsUnrewritten : ℕ → KeptEngine → KeptEngine → Error → Type 0
-IsUnrewritten gate old new e = IsUntold old new e ⊎ IsHalfRewritten gate old new e
+abbrev pub IsUnrewritten : Failures → ℕ → KeptEngine → KeptEngine → Error → Type 0
+IsUnrewritten MayFail gate old new e = IsUntold old new e ⊎ IsHalfRewritten MayFail gate old new e

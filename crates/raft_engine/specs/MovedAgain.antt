@@ -8,6 +8,7 @@ use Rattle.raft_engine.specs.KeptEngine.{IsLastFile, KeptEngine}
 use Rattle.raft_engine.specs.Moved.{AreRegions, IsTold, IsUntold}
 use Rattle.raft_engine.specs.MovedGroups.{AreRegionsMovedAgain, AreSomeRegionsMovedAgain}
 use Rattle.raft_engine.specs.WrittenBatch.{IsHalfDone}
+use Rattle.raft_engine.specs.FileFailures.{Failures}
 
 -- ---- a new file
 
@@ -59,7 +60,7 @@ pub record IsToldAlone (old new : KeptEngine) (e : Error) : Type 0 where
   pub unbegun : IsRewriteUnrotated told new e
 
 -- all is told, a new file is begun, and of the regions of all tables the records of some moved
-pub record AreSomeMovedAgain (old new : KeptEngine) (e : Error) : Type 0 where
+pub record AreSomeMovedAgain (MayFail : Failures) (old new : KeptEngine) (e : Error) : Type 0 where
   pub was : old.intact ≡ true
   pub told : KeptEngine
   pub is_told : IsTold old told
@@ -67,9 +68,9 @@ pub record AreSomeMovedAgain (old new : KeptEngine) (e : Error) : Type 0 where
   pub is_begun : IsRewriteRotated told begun
   pub regions : List ℕ
   pub all : AreRegions old.accessor.tables regions
-  pub some : AreSomeRegionsMovedAgain regions begun new e
+  pub some : AreSomeRegionsMovedAgain MayFail regions begun new e
 
 -- it isn't told, or in part: where nothing was asked, for one of those reasons, the engine is as it was; or it is told alone; or of the
 -- records some moved
-abbrev pub AreUnmovedAgain : KeptEngine → KeptEngine → Error → Type 0
-AreUnmovedAgain old new e = IsUntold old new e ⊎ IsToldAlone old new e ⊎ AreSomeMovedAgain old new e
+abbrev pub AreUnmovedAgain : Failures → KeptEngine → KeptEngine → Error → Type 0
+AreUnmovedAgain MayFail old new e = IsUntold old new e ⊎ IsToldAlone old new e ⊎ AreSomeMovedAgain MayFail old new e

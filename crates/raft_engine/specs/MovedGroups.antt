@@ -16,6 +16,7 @@ use Rattle.raft_engine.specs.Moved.{IsOnlyRead, IsRegionRewritten, IsRegionUnmov
 use Rattle.raft_engine.specs.Parts.{AreOnePart}
 use Rattle.raft_engine.specs.Rewriting.{moving_entries}
 use Rattle.raft_engine.specs.WrittenBatch.{AreFirstWritten, file_of}
+use Rattle.raft_engine.specs.FileFailures.{Failures}
 
 -- ---- one region, in a group
 
@@ -61,15 +62,15 @@ pub record IsGroupTooLong (region : ℕ) (old new : KeptEngine) : Type 0 where
   pub long : IsOneTooLong (length bytes) batches
 
 -- why the records of a region don't move in a group, if there is memory: there is none of them; or it is too long
-abbrev pub IsGroupRegionRefused : ℕ → KeptEngine → KeptEngine → Error → Type 0
-IsGroupRegionRefused region old new e =
-    ((table : Table) × (finite.get old.accessor.tables region ≡ Some table) × IsGroupRefused table old.asks new.asks e)
+abbrev pub IsGroupRegionRefused : Failures → ℕ → KeptEngine → KeptEngine → Error → Type 0
+IsGroupRegionRefused MayFail region old new e =
+    ((table : Table) × (finite.get old.accessor.tables region ≡ Some table) × IsGroupRefused MayFail table old.asks new.asks e)
     ⊎ ((e ≡ errors.Full) × IsGroupTooLong region old new)
 
 -- nothing but reads was asked, for one of these reasons; or the group is half moved
-abbrev pub IsGroupUnmoved : ℕ → KeptEngine → KeptEngine → Error → Type 0
-IsGroupUnmoved region old new e =
-    (IsOnlyRead old new × (e ≢ errors.Memory → IsGroupRegionRefused region old new e)) ⊎ IsGroupHalfMoved region old new
+abbrev pub IsGroupUnmoved : Failures → ℕ → KeptEngine → KeptEngine → Error → Type 0
+IsGroupUnmoved MayFail region old new e =
+    (IsOnlyRead old new × (e ≢ errors.Memory → IsGroupRegionRefused MayFail region old new e)) ⊎ IsGroupHalfMoved region old new
 
 -- ---- one region, in a batch or a group
 
@@ -83,11 +84,11 @@ IsRegionMovedAgain region old new =
     (IsOnePartOf region old × IsRegionRewritten None region old new) ⊎ (¬ (IsOnePartOf region old) × IsGroupMoved region old new)
 
 -- it doesn't, or not whole: for want of memory nothing is asked, or so it is with one batch, or with a group
-abbrev pub IsRegionUnmovedAgain : ℕ → KeptEngine → KeptEngine → Error → Type 0
-IsRegionUnmovedAgain region old new e =
+abbrev pub IsRegionUnmovedAgain : Failures → ℕ → KeptEngine → KeptEngine → Error → Type 0
+IsRegionUnmovedAgain MayFail region old new e =
     ((new ≡ old) × (e ≡ errors.Memory))
-    ⊎ (IsOnePartOf region old × IsRegionUnmoved None region old new e)
-    ⊎ (¬ (IsOnePartOf region old) × IsGroupUnmoved region old new e)
+    ⊎ (IsOnePartOf region old × IsRegionUnmoved MayFail None region old new e)
+    ⊎ (¬ (IsOnePartOf region old) × IsGroupUnmoved MayFail region old new e)
 
 -- ---- all regions
 
@@ -98,11 +99,11 @@ AreRegionsMovedAgain (region ∷ regions) old new =
     (between : KeptEngine) × IsRegionMovedAgain region old between × AreRegionsMovedAgain regions between new
 
 -- of these regions the rewritten records of the first ones moved, and those of the next one didn't, or not whole
-pub record AreSomeRegionsMovedAgain (regions : List ℕ) (old new : KeptEngine) (e : Error) : Type 0 where
+pub record AreSomeRegionsMovedAgain (MayFail : Failures) (regions : List ℕ) (old new : KeptEngine) (e : Error) : Type 0 where
   pub front : List ℕ
   pub region : ℕ
   pub back : List ℕ
   pub split : regions ≡ front ++ region ∷ back
   pub between : KeptEngine
   pub moved : AreRegionsMovedAgain front old between
-  pub unmoved : IsRegionUnmovedAgain region between new e
+  pub unmoved : IsRegionUnmovedAgain MayFail region between new e

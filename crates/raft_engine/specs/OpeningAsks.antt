@@ -14,16 +14,13 @@ use Rattle.raft_engine.specs.Opening.{AreRecovered}
 use Rattle.raft_engine.specs.StoredFound.{told_asks}
 use Rattle.raft_engine.specs.declared.missing.Missing.{Missing}
 use Rattle.raft_engine.specs.declared.missing.Missing.TheVariants.{Nothing, FirstFile, Cut}
+pub use Rattle.raft_engine.specs.FileFailures.{Failures}
 
 -- what is asked of a queue's files where this is missing of them
 abbrev pub missing_asks : LogQueue → Missing → List Ask
 missing_asks queue Nothing = []
 missing_asks queue FirstFile = ask queue (Begin 1) ∷ []
 missing_asks queue (Cut tail) = ask queue (asks.Cut tail.offset) ∷ []
-
--- with which errors calls of files may fail that ask this, behind all that was asked so far
-abbrev pub Failures : Type 1
-Failures = List Ask → Ask → Error → Type 0
 
 -- The wanted asks, newest first, were made in order up to one; the call for that one failed with this error, and may have made it or not; of a sync it may be noted that it failed.
 pub record FailsAmong (MayFail : Failures) (wanted old new : List Ask) (e : Error) : Type 0 where

@@ -8,9 +8,9 @@ abbrev pub bytes_of_entries : List EntryIndex → ℕ
 bytes_of_entries [] = 0
 bytes_of_entries (e ∷ es) = e.entry_len + bytes_of_entries es
 
--- entries of one part: they have 8 KiB together at most, or stand in one block
+-- entries of one part: they have 4 KiB together at most, or stand in one block
 abbrev pub AreOnePart : List EntryIndex → Type 0
-AreOnePart es = (bytes_of_entries es ≤ 8192) ⊎ (block_count es ≤ 1)
+AreOnePart es = (bytes_of_entries es ≤ 4096) ⊎ (block_count es ≤ 1)
 
 -- so many entries are the first part of all: one at least, if there are any, and no block is in two parts; with the first ones of the next block they would be too many for a part
 pub record IsFirstPart (es : List EntryIndex) (count : ℕ) : Type 0 where
@@ -24,7 +24,7 @@ pub record IsFirstPart (es : List EntryIndex) (count : ℕ) : Type 0 where
 
 -- this number is how many bytes entries have, or both are more than a part has
 abbrev pub IsCapped : ℕ → List EntryIndex → Type 0
-IsCapped bytes es = (bytes ≡ bytes_of_entries es) ⊎ ((8192 < bytes) × (8192 < bytes_of_entries es))
+IsCapped bytes es = (bytes ≡ bytes_of_entries es) ⊎ ((4096 < bytes) × (4096 < bytes_of_entries es))
 
 -- so many entries are those of the first block, up to the first entry that stands in another one
 pub record IsFirstBlock (es : List EntryIndex) (count : ℕ) : Type 0 where

@@ -1,5 +1,5 @@
 -- Reads of blocks, for the entries that are in them.
-use Rattle.std.specs.Prelude.{◌≡◌, ◌≢◌, ◌⊎◌, ℕ, ◌+◌, ◌<◌, ◌≤◌, List, [], ◌∷◌, ◌++◌, Contains, codes, length, Some}
+use Rattle.std.specs.Prelude.{◌≡◌, ◌≢◌, ◌⊎◌, ℕ, ◌+◌, ◌<◌, ◌≤◌, List, [], ◌∷◌, ◌++◌, Contains, codes, length, Some, None}
 use Rattle.std.specs.Fmt.{decimal}
 use Rattle.std.specs.List.{AllZip}
 use Rattle.raft_base.specs.declared.entry_index.EntryIndex.{EntryIndex}
@@ -13,6 +13,7 @@ use Rattle.raft_table.specs.Fetches.{block_count}
 use Rattle.raft_files.specs.Asks.{Ask, Read, ask}
 use Rattle.raft_engine_laws.specs.Contents.{bytes_of}
 use Rattle.raft_replay.specs.Stops.{place_text}
+use Rattle.raft_engine.specs.FileFailures.{Failures}
 
 -- ---- what is asked
 
@@ -72,11 +73,20 @@ entry_text region index place =
 abbrev pub NamesEntry : ℕ → ℕ → FileBlockHandle → Error → Type 0
 NamesEntry region index place error = (reason : List ℕ) × IsCorruption (entry_text region index place ++ reason) error
 
--- why these entries of a region, one at least, aren't read, after reads alone: not all of their blocks were read; or there is no memory; or one of them is damaged, and the refusal names it
-pub record AreUnread (region : ℕ) (es : List EntryIndex) (old new : List Ask) (error : Error) : Type 0 where
+-- why nothing is read for an entry behind all that was asked so far, if there is memory: it has no place, and that is a corruption; or the files fail to read there
+abbrev pub IsNothingRead : Failures → EntryIndex → List Ask → Error → Type 0
+IsNothingRead MayFail e asks error =
+    ((e.entries ≡ None) × IsCorruptionError error) ⊎ ((place : FileBlockHandle) × (e.entries ≡ Some place) × MayFail asks (ask place.id.queue (Read place [])) error)
+
+-- so it is for one of these entries
+abbrev pub IsOneUnread : Failures → List EntryIndex → List Ask → Error → Type 0
+IsOneUnread MayFail es asks error = (e : EntryIndex) × Contains es e × IsNothingRead MayFail e asks error
+
+-- why these entries of a region, one at least, aren't read, after reads alone: not all of their blocks were read, and nothing is read for one of them; or there is no memory; or one of them is damaged, and the refusal names it
+pub record AreUnread (MayFail : Failures) (region : ℕ) (es : List EntryIndex) (old new : List Ask) (error : Error) : Type 0 where
   pub some : es ≢ []
   pub reads : List Ask
   pub only : AreReads reads
   pub asked : new ≡ reads ++ old
-  pub why : (length reads < block_count es) ⊎ (error ≡ errors.Memory)
+  pub why : ((length reads < block_count es) × IsOneUnread MayFail es new error) ⊎ (error ≡ errors.Memory)
       ⊎ (IsCorruptionError error × ((e : EntryIndex) × Contains es e × (damaged : IsDamaged reads e) × NamesEntry region e.index damaged.place error))

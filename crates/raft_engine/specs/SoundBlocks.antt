@@ -1,4 +1,4 @@
--- The entry blocks of the last rewrite file, which an opening checks.
+-- The entry blocks of a queue's last file, which an opening checks.
 use Rattle.std.specs.Prelude.{◌≡◌, ℕ, List, [], ◌∷◌, ◌++◌, codes}
 use Rattle.raft_base.specs.Corruption.{IsCorruption}
 use Rattle.raft_base.specs.declared.errors.Error.{Error}
@@ -22,6 +22,10 @@ HasSoundBlock b = (entry_bytes : List ℕ) × (b.between ≡ entry_block entry_b
 -- so it is of each batch of a part, up to where reading stops
 abbrev pub AreBlocksSound : Part → Type 0
 AreBlocksSound part = (at next : ℕ) (items : List Item) → AreBatchesUpTo part at → (b : IsBatchAt part at items next) → HasSoundBlock b
+
+-- so it isn't of the batch that begins at this byte of a part, which reading reaches
+abbrev pub IsUnsoundAt : Part → ℕ → Type 0
+IsUnsoundAt part at = AreBatchesUpTo part at × ((items : List Item) × (next : ℕ) × (b : IsBatchAt part at items next) × ¬ (HasSoundBlock b))
 
 -- so it isn't of a batch of a part, but of all batches in front of it
 pub record HasUnsoundBlock (part : Part) : Type 0 where

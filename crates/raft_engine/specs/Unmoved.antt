@@ -9,6 +9,7 @@ use Rattle.raft_files.specs.Asks.{Ask}
 use Rattle.raft_engine_laws.specs.Moving.{AreOrdinary}
 use Rattle.raft_engine.specs.Reads.{AreReadByBlocks, AreUnread}
 use Rattle.raft_engine.specs.Rewriting.{IsNextPart, moving_entries, moving_pairs, pairs_with}
+use Rattle.raft_engine.specs.FileFailures.{Failures}
 
 -- one of these keys is that of the group markers
 abbrev pub AreKeysRefused : List (List ℕ × List ℕ) → Error → Type 0
@@ -21,8 +22,8 @@ AreRecordsRefused strings pairs e = ((e ≡ errors.Full) × (2 ^ 31 ≤ length (
 
 -- why there is no batch of the next ones of what of a table moves past a gate, or without one, if there is memory: the entries
 -- aren't all read; or they are, and they or the keys are refused
-pub record IsBatchRefused (gate : Option ℕ) (left : List EntryIndex) (t : Table) (old new : List Ask) (e : Error) : Type 0 where
+pub record IsBatchRefused (MayFail : Failures) (gate : Option ℕ) (left : List EntryIndex) (t : Table) (old new : List Ask) (e : Error) : Type 0 where
   pub part : List EntryIndex
   pub next : IsNextPart gate (moving_entries gate t.entries) part left
-  pub why : AreUnread t.region_id part old new e
+  pub why : AreUnread MayFail t.region_id part old new e
       ⊎ ((strings : List (List ℕ)) × AreReadByBlocks part strings old new × AreRecordsRefused strings (pairs_with left (moving_pairs gate t.keys)) e)

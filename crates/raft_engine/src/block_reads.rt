@@ -1,13 +1,16 @@
 //! Entries that are read by their blocks.
 
-ghost use Rattle.std.specs.Prelude.{◌≡◌, ◌↔◌, ◌+◌, ◌≤◌, ◌∷◌, ◌++◌, ℕ, [], List, length, map, take, IfErr, IfOk, IfSome, IsSome, IsTrue, OnErr, OnOk, Some};
+ghost use Rattle.std.specs.Prelude.{◌≡◌, ◌↔◌, ◌+◌, ◌<◌, ◌≤◌, ◌∷◌, ◌++◌, ℕ, [], List, length, map, take, IfErr, IfOk, IfSome, IsSome, IsTrue, OnErr, OnOk, Some};
 ghost use Rattle.raft_records.specs.Entries.{strings_in};
+ghost use Rattle.raft_records.specs.Faults.{IsAnyCorruption};
 ghost use Rattle.raft_records.specs.ItemBatch.{entry_lengths};
 ghost use Rattle.raft_records.specs.Header.{IsEntryBlockOf, IsLentBlockFault};
 ghost use Rattle.raft_engine_laws.specs.Contents.{bytes_of};
 ghost use Rattle.raft_engine.specs.BlockReads.{AreBytesIn, AreNoBytesIn, IsBlockOf, IsKeptOf, IsNoBlockOf, IsOfEntry, IsSoundRead, IsUnreadOf};
 ghost use Rattle.raft_engine.specs.Reads.{AreReadByBlocks, AreUnread};
 
+use crate::limits::MAX_REWRITE_BATCH_BYTES;
+use crate::parts;
 use raft_base::{CompressionType, EntryIndex, Error, FileBlockHandle, FileId, Result};
 use raft_files::EngineFiles;
 use raft_records::{entry_bytes, lent_entry_block};
@@ -34,7 +37,7 @@ pub fn read_alone<F: EngineFiles>(
 ) -> Result<Vec<u8>>
     ensures ok { IfOk result (λ bytes. AreReadByBlocks (entry.now ∷ []) (bytes.items ∷ [])
         (F.asked files.old) (F.asked files.new)) }
-    ensures err { IfErr result (AreUnread region (entry.now ∷ []) (F.asked files.old) (F.asked files.new)) }
+    ensures err { IfErr result (AreUnread F.may_fail region (entry.now ∷ []) (F.asked files.old) (F.asked files.new)) }
 {
     let block = block_of(alloc, files, region, entry)?;
     bytes_in(alloc, region, &block, entry)
@@ -54,7 +57,7 @@ pub fn read_by_blocks<F: EngineFiles>(
 ) -> Result<Vec<Vec<u8>>>
     ensures ok { IfOk result (λ strings. AreReadByBlocks entries.now
         (map (λ s. s.items) strings.items) (F.asked files.old) (F.asked files.new)) }
-    ensures err { IfErr result (AreUnread region entries.now (F.asked files.old) (F.asked files.new)) }
+    ensures err { IfErr result (AreUnread F.may_fail region entries.now (F.asked files.old) (F.asked files.new)) }
 {
     let mut strings = Vec::new(alloc);
     let mut last = None;
@@ -80,9 +83,13 @@ pub fn read_joined<F: EngineFiles>(
     ensures lengths { IfOk result (λ bytes. entry_lengths entries.now ≡ length bytes.items) }
     ensures ok { IfOk result (λ bytes. AreReadByBlocks entries.now
         (strings_in entries.now bytes.items) (F.asked files.old) (F.asked files.new)) }
-    ensures err { IfErr result (AreUnread region entries.now (F.asked files.old) (F.asked files.new)) }
+    ensures err { IfErr result (AreUnread F.may_fail region entries.now (F.asked files.old) (F.asked files.new)) }
 {
-    let mut joined = Vec::new(alloc);
+    if entries.is_empty() {
+        return Ok(Vec::new(alloc));
+    }
+    let room = parts::bytes_of(entries).min(MAX_REWRITE_BATCH_BYTES) as usize;
+    let mut joined = Vec::with_capacity(alloc, room)?;
     let mut last = None;
     for entry in entries {
         keep_block(alloc, files, region, entry, &mut last)?;
@@ -107,7 +114,7 @@ fn keep_block<F: EngineFiles>(
     ensures some { OnOk result (IsSome kept.new) }
     ensures ok { OnOk result (IfSome kept.new (λ block. IsBlockOf entry.now kept.old block
         (F.asked files.old) (F.asked files.new))) }
-    ensures err { IfErr result (IsNoBlockOf region entry.now kept.old (F.asked files.old)
+    ensures err { IfErr result (IsNoBlockOf F.may_fail region entry.now kept.old (F.asked files.old)
         (F.asked files.new)) }
 {
     if !is_kept(kept, entry) {
@@ -140,13 +147,10 @@ fn block_of<F: EngineFiles>(
     ensures placed { IfOk result (λ block. entry.now.entries ≡ Some block.place) }
     ensures ok { IfOk result (λ block. IsSoundRead block.place block.entries.items
         (F.asked files.old) (F.asked files.new)) }
-    ensures err { IfErr result (IsUnreadOf region entry.now (F.asked files.old) (F.asked files.new)) }
+    ensures err { IfErr result (IsUnreadOf F.may_fail region entry.now (F.asked files.old) (F.asked files.new)) }
 {
     let Some(place) = entry.entries else {
-        return Err(Error::Corruption(format!(in alloc;
-            "region {region}, index {}: the entry has no place",
-            entry.index
-        )?));
+        return Err(of_no_place(alloc, region, entry.index));
     };
     let mut entries = files.read(place)?;
     match entries_len(alloc, entries.as_slice(), place.len, entry.compression_type) {
@@ -155,6 +159,18 @@ fn block_of<F: EngineFiles>(
             Ok(EntryBlock { place, entries })
         }
         Err(unsound) => Err(of_entry(alloc, region, entry.index, place, unsound)),
+    }
+}
+
+/// Returns why an entry of a region isn't found that has no place.
+#[inline(never)]
+fn of_no_place(alloc: Global, region: u64, index: u64) -> Error
+    ensures { IsAnyCorruption result }
+{
+    let text = format!(in alloc; "region {region}, index {index}: the entry has no place");
+    match text {
+        Ok(text) => Error::Corruption(text),
+        Err(_) => Error::Memory,
     }
 }
 
@@ -188,10 +204,12 @@ fn bytes_in(alloc: Global, region: u64, block: &EntryBlock, entry: &EntryIndex) 
     ensures err { IfErr result
         (AreNoBytesIn region block.now.place block.now.entries.items entry.now) }
 {
-    match entry_bytes(alloc, block.entries.as_slice(), entry) {
-        Ok(bytes) => Ok(Vec::from_slice(alloc, bytes)?),
-        Err(error) => Err(of_entry(alloc, region, entry.index, block.place, error)),
+    let begin = entry.entry_offset as usize;
+    let end = begin + entry.entry_len as usize;
+    if block.entries.len() < end {
+        return Err(of_lacking(alloc, region, block, entry));
     }
+    Ok(Vec::from_slice(alloc, &block.entries[begin..end])?)
 }
 
 /// Pushes the bytes of an entry of a region in its block behind others.
@@ -212,10 +230,23 @@ fn push_bytes(
     ensures err { IfErr result
         (AreNoBytesIn region block.now.place block.now.entries.items entry.now) }
 {
-    let alloc = *joined.allocator();
+    let begin = entry.entry_offset as usize;
+    let end = begin + entry.entry_len as usize;
+    if block.entries.len() < end {
+        return Err(of_lacking(*joined.allocator(), region, block, entry));
+    }
+    Ok(joined.extend_from_slice(&block.entries[begin..end])?)
+}
+
+/// Returns why the bytes of an entry of a region, which would end past those of its block, aren't found.
+#[inline(never)]
+fn of_lacking(alloc: Global, region: u64, block: &EntryBlock, entry: &EntryIndex) -> Error
+    requires { length block.now.entries.items < entry.now.entry_offset + entry.now.entry_len }
+    ensures { AreNoBytesIn region block.now.place block.now.entries.items entry.now result }
+{
     match entry_bytes(alloc, block.entries.as_slice(), entry) {
-        Ok(bytes) => Ok(joined.extend_from_slice(bytes)?),
-        Err(error) => Err(of_entry(alloc, region, entry.index, block.place, error)),
+        Ok(_) => unreachable!(),
+        Err(error) => of_entry(alloc, region, entry.index, block.place, error),
     }
 }
 

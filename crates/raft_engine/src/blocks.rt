@@ -14,10 +14,10 @@ use raft_records::{FilePart, LogBatch, lent_entry_block};
 use raft_replay::segment::corruption_at;
 
 /// How many bytes the header of a batch has.
-const HEADER_LEN: usize = 16;
+pub(crate) const HEADER_LEN: usize = 16;
 
-/// Why a file is refused of which the entry block of a batch doesn't end in its checksum.
-const DAMAGED_ENTRIES: &str = "the entries of this batch are damaged";
+/// Why the entries of a batch are refused whose entry block doesn't end in its checksum.
+pub(crate) const DAMAGED_ENTRIES: &str = "the entries of this batch are damaged";
 
 /// Refuses a rewrite file with this tail in which the entries of a batch are damaged: a purge would delete the older places of
 /// records that moved there. Of an append file nothing is checked. Of the items of batches none is read.
@@ -38,7 +38,7 @@ pub fn check_blocks(file: &FilePart, tail: &Option<CutTail>) -> Result<()>
 }
 
 /// Returns where the batches of a file with this tail end.
-fn batches_end(file: &FilePart, tail: &Option<CutTail>) -> usize
+pub(crate) fn batches_end(file: &FilePart, tail: &Option<CutTail>) -> usize
     requires { IsTornAs file.now tail.now }
     ensures { StopsAt file.now result }
 {

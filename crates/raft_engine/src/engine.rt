@@ -14,6 +14,7 @@ ghost use Rattle.raft_table.specs.TableEntries.{start_of};
 ghost use Rattle.raft_engine_prefixes.specs.Contents.{AreBothTold};
 ghost use Rattle.raft_engine.specs.KeptEngine.{table_in};
 ghost use Rattle.raft_engine.specs.CutTails.{IsRecoveredOf};
+ghost use Rattle.raft_engine.specs.DamagedBatches.{AreDamagedTold};
 ghost use Rattle.raft_engine.specs.Faults.{Breaks, IsFirstFault, IsPurgeFault, IsRotationFault, IsSyncFault, IsWritingFault};
 ghost use Rattle.raft_engine.specs.Lasting.{IsLasting};
 ghost use Rattle.raft_files.specs.HeldFiles.{file_shown};
@@ -31,7 +32,7 @@ use crate::put::{put, sync_if};
 use crate::queue_files::QueueFiles;
 use crate::read_back::batches_are_read_back;
 use crate::reading::{Reading, read_found};
-use crate::recovered::Recovered;
+use crate::recovered::{DamagedBatch, Recovered};
 use crate::recovery_mode::RecoveryMode;
 use crate::stored::{asks_are_stored, what_is_done_lasts};
 use crate::stored_found::found_files_are_stored;
@@ -185,7 +186,8 @@ impl<F: EngineFiles> Engine<F> {
     }
 
     /// Opens the files that a stop of the machine left in a mode, and tells what was cut off from them: of each queue's last file
-    /// the tail, with the reason why no batch can be read there. In the mode `TolerateTornTail` it does what [`Engine::open`] does.
+    /// the tail, with the reason why no batch can be read there; and which batches of the last append file have damaged entries, which
+    /// are refused when they are read. In the mode `TolerateTornTail` it does what [`Engine::open`] does.
     ///
     /// # Errors
     ///
@@ -208,18 +210,20 @@ impl<F: EngineFiles> Engine<F> {
             (map file_shown rewrite.items) opened.engine) }
         ensures recovered { IfOk result (λ opened. IsRecoveredOf version (map file_shown append.items)
             (map file_shown rewrite.items) opened.recovered) }
+        ensures damaged { IfOk result (λ opened. AreDamagedTold version (map file_shown append.items) opened.damaged.items) }
         ensures accepted { OnOk result (AreBothAccepted mode version (map file_shown append.items)
             (map file_shown rewrite.items)) }
         ensures err { IfErr result (λ unopened. IsUnopened (AreUnrecoveredAs version workers) F.may_fail mode version
             (map file_shown append.items) (map file_shown rewrite.items) (F.asked unopened.files) unopened.error) }
     {
         match read_found(rt, alloc, mode, version, append, rewrite, workers) {
-            Ok(reading) => Engine::of_reading(version, files, reading),
+            Ok(read) => Engine::of_reading(version, files, read.reading, read.damaged),
             Err(error) => Err(Unopened { files, error }),
         }
     }
 
-    /// Asks of found files what their reading says, and makes an engine over them then, with the tables that they give.
+    /// Asks of found files what their reading says, and makes an engine over them then, with the tables that they give. It tells of
+    /// these damaged batches.
     ///
     /// # Errors
     ///
@@ -230,6 +234,7 @@ impl<F: EngineFiles> Engine<F> {
         version: Version,
         files: F,
         reading: Reading,
+        damaged: Vec<DamagedBatch>,
     ) -> std::result::Result<Opened<F>, Unopened<F>>
         requires to_be_told { IsToBeTold reading }
         requires found { (append : List NumberedBytes) × (rewrite : List NumberedBytes)
@@ -239,6 +244,7 @@ impl<F: EngineFiles> Engine<F> {
             → IfOk result (λ opened. IsOpened version append rewrite opened.engine) }
         ensures recovered { (append rewrite : List NumberedBytes) → AreReadFound version append rewrite reading
             → IfOk result (λ opened. IsRecoveredOf version append rewrite opened.recovered) }
+        ensures damaged { IfOk result (λ opened. opened.damaged.items ≡ damaged.items) }
         ensures err { (append rewrite : List NumberedBytes) → F.asked files ≡ found_asks append rewrite
             → AreReadFound version append rewrite reading
             → IfErr result (λ unopened. IsHalfOpened F.may_fail version append rewrite
@@ -262,7 +268,11 @@ impl<F: EngineFiles> Engine<F> {
                     accessor: reading.accessor,
                     intact: true,
                 };
-                Ok(Opened { engine, recovered })
+                Ok(Opened {
+                    engine,
+                    recovered,
+                    damaged,
+                })
             }
             Err(error) => Err(Unopened { files, error }),
         }
@@ -327,7 +337,7 @@ impl<F: EngineFiles> Engine<F> {
         self.accessor.get(region)?.last_index()
     }
 
-    /// Makes all that was written last.
+    /// Syncs the append queue: all that was written outlasts a crash then.
     ///
     /// # Errors
     ///
@@ -350,7 +360,7 @@ impl<F: EngineFiles> Engine<F> {
         Ok(())
     }
 
-    /// Makes all that was written last, if that is wanted.
+    /// Syncs the append queue where `sync` says so; else it does nothing.
     ///
     /// # Errors
     ///
@@ -367,7 +377,7 @@ impl<F: EngineFiles> Engine<F> {
         Ok(())
     }
 
-    /// Begins a new file of the append queue, in which the next batch is put. All that was written lasts then.
+    /// Begins a new file of the append queue, in which the next batch is put. All that was written is synced then.
     ///
     /// # Errors
     ///
@@ -391,8 +401,8 @@ impl<F: EngineFiles> Engine<F> {
     }
 
     /// Writes a batch: its bytes behind those of the append queue's last file, and its items with their places to the
-    /// tables. With `sync` all that was written lasts once the call returns `Ok`. The batch is empty then; one without
-    /// items changes nothing else. No byte of a batch is asked for that the tables would refuse.
+    /// tables. With `sync` all that was written is synced once the call returns `Ok`. The batch is empty then; one without
+    /// items changes nothing else. A batch that the tables would refuse is not written.
     ///
     /// # Errors
     ///

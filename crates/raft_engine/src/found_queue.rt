@@ -1,27 +1,31 @@
 //! The found files of a queue.
 
 ghost use Rattle.std.specs.Prelude.{◌≡◌, ◌≢◌, ◌<◌, ◌≤◌, ◌^◌, List, [], ◌∷◌, ◌++◌, length, map, IfErr, IfOk, MatchOption, OnOk};
+ghost use Rattle.raft_base.specs.declared.pipe_log.LogQueue.TheVariants.{Append};
 ghost use Rattle.raft_files.specs.Asks.{NumberedBytes};
 ghost use Rattle.raft_files.specs.Disk.{cut_last};
 ghost use Rattle.raft_files.specs.HeldFiles.{file_shown};
 ghost use Rattle.raft_recover.specs.Files.{AreWholeFiles};
 ghost use Rattle.raft_engine.specs.CutTails.{IsTailTold};
+ghost use Rattle.raft_engine.specs.DamagedBatches.{AreDamagedTold};
 ghost use Rattle.raft_engine.specs.FoundFiles.{AreApartAs, IsFoundFault};
 ghost use Rattle.raft_engine.specs.FoundQueues.{IsFoundQueue, IsLastOf, IsMissingOf, IsReadyQueue, begun_or_first, known_with, left_by};
 ghost use Rattle.raft_engine.specs.QueueFilesOf.{AreOf};
 ghost use Rattle.raft_engine_prefixes.specs.Done.{AreConsecutive, numbers};
 
 use crate::blocks::check_blocks;
+use crate::damaged::{damaged_batches, damaged_batches_alone};
 use crate::found::{check_numbers, check_tail, tail_of};
 use crate::limits::FIRST_SEQ;
 use crate::missing::Missing;
 use crate::queue_files::QueueFiles;
-use crate::recovered::CutTail;
+use crate::recovered::{CutTail, DamagedBatch};
 use crate::recovery_mode::RecoveryMode;
 use raft_base::{Error, FileId, FileSeq, LogQueue, Result, Version};
 use raft_records::FilePart;
 use raft_recover::file_segments;
 use raft_replay::Segment;
+use std::thread::Threads;
 
 /// The found files of a queue.
 #[derive(Drop)]
@@ -74,6 +78,47 @@ impl FoundQueue {
         match last_part(self.segments.as_slice()) {
             Some(last) => tail_of(last),
             None => Ok(None),
+        }
+    }
+
+    /// Returns the batches of the last file, which has this tail, whose entries are damaged, by so many workers.
+    ///
+    /// # Errors
+    ///
+    /// `Memory`.
+    pub fn damaged<R: Threads + Sync>(
+        &self,
+        rt: &R,
+        tail: &Option<CutTail>,
+        workers: usize,
+    ) -> Result<Vec<DamagedBatch>>
+        requires { (queue : LogQueue) × (version : Version) × (files : List NumberedBytes)
+            × IsFoundQueue queue version files self.now × IsTailTold queue version files tail.now }
+        ensures ok { (version : Version) (files : List NumberedBytes) → IsFoundQueue Append version files self.now
+            → IfOk result (λ damaged. AreDamagedTold version files damaged.items) }
+        ensures memory { IfErr result (λ e. e ≡ Error.Memory) }
+    {
+        match last_part(self.segments.as_slice()) {
+            Some(last) => damaged_batches(rt, last, tail, workers),
+            None => Ok(Vec::new(self.known.allocator())),
+        }
+    }
+
+    /// Does what [`FoundQueue::damaged`] does, without threads.
+    ///
+    /// # Errors
+    ///
+    /// `Memory`.
+    pub fn damaged_alone(&self, tail: &Option<CutTail>) -> Result<Vec<DamagedBatch>>
+        requires { (queue : LogQueue) × (version : Version) × (files : List NumberedBytes)
+            × IsFoundQueue queue version files self.now × IsTailTold queue version files tail.now }
+        ensures ok { (version : Version) (files : List NumberedBytes) → IsFoundQueue Append version files self.now
+            → IfOk result (λ damaged. AreDamagedTold version files damaged.items) }
+        ensures memory { IfErr result (λ e. e ≡ Error.Memory) }
+    {
+        match last_part(self.segments.as_slice()) {
+            Some(last) => damaged_batches_alone(last, tail),
+            None => Ok(Vec::new(self.known.allocator())),
         }
     }
 

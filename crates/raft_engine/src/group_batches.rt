@@ -37,7 +37,7 @@ pub fn moving_group<F: EngineFiles>(
     ensures ok { IfOk result (λ batches. IsGroupInParts table.now (F.asked files.old)
         (F.asked files.new) group batches.items) }
     ensures err { OnErr result (AreOnlyRead (F.asked files.old) (F.asked files.new)) }
-    ensures refused { IfErr result (λ e. e ≢ Error.Memory → IsGroupRefused table.now
+    ensures refused { IfErr result (λ e. e ≢ Error.Memory → IsGroupRefused F.may_fail table.now
         (F.asked files.old) (F.asked files.new) e) }
 {
     let entries = entries_to_move(alloc, table, None)?;
@@ -93,7 +93,7 @@ fn push_parts<F: EngineFiles>(
     ensures state { OnOk result (IsRunning builder.new.state) }
     ensures id { OnOk result (builder.new.id ≡ builder.old.id) }
     ensures err { OnErr result (AreOnlyRead (F.asked files.old) (F.asked files.new)) }
-    ensures refused { IfErr result (λ e. e ≢ Error.Memory → ArePartsRefused region entries.now
+    ensures refused { IfErr result (λ e. e ≢ Error.Memory → ArePartsRefused F.may_fail region entries.now
         (F.asked files.old) (F.asked files.new) e) }
 {
     let mut rest = entries;
@@ -124,7 +124,7 @@ fn part_batch<F: EngineFiles>(
     ensures state { OnOk result (IsRunning builder.new.state) }
     ensures id { OnOk result (builder.new.id ≡ builder.old.id) }
     ensures err { OnErr result (AreOnlyRead (F.asked files.old) (F.asked files.new)) }
-    ensures refused { IfErr result (λ e. e ≢ Error.Memory → IsPartRefused region entries.now
+    ensures refused { IfErr result (λ e. e ≢ Error.Memory → IsPartRefused F.may_fail region entries.now
         (F.asked files.old) (F.asked files.new) e) }
 {
     let bytes = read_joined(alloc, files, region, entries)?;

@@ -40,7 +40,7 @@ pub struct GroupRows {
 }
 
 impl GroupRows {
-    /// Returns what is known of no batch.
+    /// Makes the summary of no batch at all.
     pub fn new() -> GroupRows
         ensures { IsSummaryOf (rows_shown result) [] }
     {

@@ -6,6 +6,7 @@ mod blocks;
 #[doc(hidden)]
 pub mod both;
 mod both_reading;
+mod damaged;
 pub mod engine;
 #[doc(hidden)]
 pub mod found;
@@ -26,6 +27,7 @@ pub mod missing;
 #[doc(hidden)]
 pub mod moments;
 mod moved;
+pub mod named_entries;
 pub mod of_version;
 mod opened;
 mod parts;
@@ -51,6 +53,6 @@ mod unopened;
 mod untold;
 
 pub use engine::Engine;
-pub use recovered::{CutTail, Recovered};
+pub use recovered::{CutTail, DamagedBatch, Recovered};
 pub use recovery_mode::RecoveryMode;
 pub use unopened::{Opened, Unopened};

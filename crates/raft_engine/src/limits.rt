@@ -9,4 +9,4 @@ pub const FIRST_SEQ: FileSeq = 1;
 pub const LAST_OFFSET: u64 = 1 << 63;
 
 /// The most bytes that the entries of a batch have together which moves records, unless it has one entry alone.
-pub const MAX_REWRITE_BATCH_BYTES: u64 = 8 * 1024;
+pub const MAX_REWRITE_BATCH_BYTES: u64 = 4 * 1024;

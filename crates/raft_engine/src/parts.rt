@@ -52,7 +52,7 @@ fn stands_at(entry: &EntryIndex, place: Option<FileBlockHandle>) -> bool
 }
 
 /// Returns how many bytes entries have together, or, where these are more than [`MAX_REWRITE_BATCH_BYTES`], some number above it.
-fn bytes_of(entries: &[EntryIndex]) -> u64
+pub(crate) fn bytes_of(entries: &[EntryIndex]) -> u64
     ensures capped { IsCapped result entries.now }
     ensures small { result < 2 ^ 33 }
 {

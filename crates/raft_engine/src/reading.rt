@@ -5,6 +5,7 @@ ghost use Rattle.raft_base.specs.declared.pipe_log.LogQueue.TheVariants.{Append,
 ghost use Rattle.raft_files.specs.Asks.{NumberedBytes};
 ghost use Rattle.raft_files.specs.HeldFiles.{file_shown};
 ghost use Rattle.raft_engine.specs.CutTails.{IsTailTold};
+ghost use Rattle.raft_engine.specs.DamagedBatches.{AreDamagedTold};
 ghost use Rattle.raft_engine.specs.FileSegments.{AreSegmentsOfFiles};
 ghost use Rattle.raft_engine.specs.FoundFiles.{IsFoundFault};
 ghost use Rattle.raft_engine.specs.FoundQueues.{IsFoundQueue, left_by};
@@ -17,7 +18,7 @@ use crate::found_queue::{FoundQueue, ReadyQueue, complete_segments};
 use crate::groups::check_groups;
 use crate::missing::Missing;
 use crate::queue_files::QueueFiles;
-use crate::recovered::CutTail;
+use crate::recovered::{CutTail, DamagedBatch};
 use crate::recovery_mode::RecoveryMode;
 use crate::segments::check_few;
 use raft_accessor::MemTableAccessor;
@@ -61,6 +62,13 @@ pub struct Reading {
     pub told_len: usize,
     /// What the rewrite queue may be told later.
     pub untold: LogBatch,
+}
+
+/// What the reading of found files gives, and which batches of the last append file have damaged entries.
+#[derive(Drop)]
+pub struct ReadFiles {
+    pub reading: Reading,
+    pub damaged: Vec<DamagedBatch>,
 }
 
 impl Ready {
@@ -143,8 +151,8 @@ impl Ready {
 }
 
 impl ReadySegments {
-    /// Makes found files ready in a mode, whose last ones are read to find their tails, and the segments those of the files that are
-    /// there once what is missing was asked.
+    /// Makes found files ready in a mode, of which the last append file has this tail, and the last rewrite file is read to find its
+    /// own, and the segments those of the files that are there once what is missing was asked.
     ///
     /// # Errors
     ///
@@ -153,18 +161,20 @@ impl ReadySegments {
         mode: RecoveryMode,
         version: Version,
         append: FoundQueue,
+        append_tail: Option<CutTail>,
         rewrite: FoundQueue,
     ) -> Result<ReadySegments>
         requires { (append_files : List NumberedBytes) × (rewrite_files : List NumberedBytes)
-            × IsFoundQueue Append version append_files append × IsFoundQueue Rewrite version rewrite_files rewrite }
+            × IsFoundQueue Append version append_files append × IsFoundQueue Rewrite version rewrite_files rewrite
+            × IsTailTold Append version append_files append_tail }
         ensures ok { (append_files rewrite_files : List NumberedBytes) → IsFoundQueue Append version append_files append
-            → IsFoundQueue Rewrite version rewrite_files rewrite → IfOk result (λ both. AreReadyFiles mode version append_files rewrite_files both.ready
+            → IsFoundQueue Rewrite version rewrite_files rewrite → IsTailTold Append version append_files append_tail → IfOk result (λ both. AreReadyFiles mode version append_files rewrite_files both.ready
             × AreSegmentsOfFiles Append version (left_by both.ready.append.missing append_files) both.append.items
             × AreSegmentsOfFiles Rewrite version (left_by both.ready.rewrite.missing rewrite_files) both.rewrite.items) }
         ensures fault { (append_files rewrite_files : List NumberedBytes) → IsFoundQueue Append version append_files append
-            → IsFoundQueue Rewrite version rewrite_files rewrite → IfErr result (IsOpeningRefusal IsNoRefusal mode version append_files rewrite_files) }
+            → IsFoundQueue Rewrite version rewrite_files rewrite → IsTailTold Append version append_files append_tail
+            → IfErr result (IsOpeningRefusal IsNoRefusal mode version append_files rewrite_files) }
     {
-        let append_tail = append.tail()?;
         let rewrite_tail = rewrite.tail()?;
         let mut both = Ready::of(mode, append, append_tail, rewrite, rewrite_tail)?;
         complete_segments(
@@ -185,7 +195,8 @@ impl ReadySegments {
     }
 }
 
-/// Reads found files, each byte once, and recovers the tables of those that are there once what is missing was asked.
+/// Reads found files, each byte once, and recovers the tables of those that are there once what is missing was asked; and checks the
+/// entries of the last append file.
 ///
 /// # Errors
 ///
@@ -199,9 +210,10 @@ pub fn read_found<R: Threads + Sync>(
     append: Vec<(FileSeq, Vec<u8>)>,
     rewrite: Vec<(FileSeq, Vec<u8>)>,
     workers: usize,
-) -> Result<Reading>
-    ensures ok { IfOk result (AreReadFound version (map file_shown append.items)
-        (map file_shown rewrite.items)) }
+) -> Result<ReadFiles>
+    ensures ok { IfOk result (λ read. AreReadFound version (map file_shown append.items)
+        (map file_shown rewrite.items) read.reading) }
+    ensures damaged { IfOk result (λ read. AreDamagedTold version (map file_shown append.items) read.damaged.items) }
     ensures accepted { OnOk result (AreBothAccepted mode version (map file_shown append.items)
         (map file_shown rewrite.items)) }
     ensures fault { IfErr result (IsOpeningRefusal (AreUnrecoveredAs version workers) mode version (map file_shown append.items)
@@ -218,9 +230,12 @@ pub fn read_found<R: Threads + Sync>(
     files_hold_few_records();
     torn_tails_are_found();
     let (appended, rewritten) = (read.appended, read.rewritten);
+    let damaged = append.damaged(rt, &appended.tail, workers)?;
     let both = Ready::of(mode, append, appended.tail, rewrite, rewritten.tail)?;
-    both.ready
-        .with_contexts(alloc, appended.machine, rewritten.machine)
+    let reading = both
+        .ready
+        .with_contexts(alloc, appended.machine, rewritten.machine)?;
+    Ok(ReadFiles { reading, damaged })
 }
 
 /// Reads found files that a reading refused, to say why.
@@ -237,11 +252,13 @@ fn read_again<R: Threads + Sync>(
     append: FoundQueue,
     rewrite: FoundQueue,
     workers: usize,
-) -> Result<Reading>
+) -> Result<ReadFiles>
     requires { (append_files : List NumberedBytes) × (rewrite_files : List NumberedBytes)
         × IsFoundQueue Append version append_files append × IsFoundQueue Rewrite version rewrite_files rewrite }
     ensures ok { (append_files rewrite_files : List NumberedBytes) → IsFoundQueue Append version append_files append
-        → IsFoundQueue Rewrite version rewrite_files rewrite → IfOk result (AreReadFound version append_files rewrite_files) }
+        → IsFoundQueue Rewrite version rewrite_files rewrite → IfOk result (λ read. AreReadFound version append_files rewrite_files read.reading) }
+    ensures damaged { (append_files : List NumberedBytes) → IsFoundQueue Append version append_files append
+        → IfOk result (λ read. AreDamagedTold version append_files read.damaged.items) }
     ensures accepted { (append_files rewrite_files : List NumberedBytes) → IsFoundQueue Append version append_files append
         → IsFoundQueue Rewrite version rewrite_files rewrite → OnOk result (AreBothAccepted mode version append_files rewrite_files) }
     ensures fault { (append_files rewrite_files : List NumberedBytes) → IsFoundQueue Append version append_files append
@@ -250,11 +267,14 @@ fn read_again<R: Threads + Sync>(
 {
     files_hold_few_records();
     segments_read_as_one_history();
-    let both = ReadySegments::of(mode, version, append, rewrite)?;
+    let tail = append.tail()?;
+    let damaged = append.damaged(rt, &tail, workers)?;
+    let both = ReadySegments::of(mode, version, append, tail, rewrite)?;
     let (append, rewrite) = (both.append.as_slice(), both.rewrite.as_slice());
     let (rewritten, appended) = replay_both(rt, alloc, rewrite, append, workers)?;
     check_groups(alloc, rewrite)?;
-    both.ready.with_contexts(alloc, appended, rewritten)
+    let reading = both.ready.with_contexts(alloc, appended, rewritten)?;
+    Ok(ReadFiles { reading, damaged })
 }
 
 /// Reads found files as [`read_found`] does, with the contexts that read them.
@@ -270,10 +290,11 @@ pub fn read_over(
     rewrite: Vec<(FileSeq, Vec<u8>)>,
     appended: MemTableRecoverContext,
     rewritten: MemTableRecoverContext,
-) -> Result<Reading>
+) -> Result<ReadFiles>
     requires { HaveReadFound version (map file_shown append.items) (map file_shown rewrite.items) appended rewritten }
-    ensures ok { IfOk result (AreReadFound version (map file_shown append.items)
-        (map file_shown rewrite.items)) }
+    ensures ok { IfOk result (λ read. AreReadFound version (map file_shown append.items)
+        (map file_shown rewrite.items) read.reading) }
+    ensures damaged { IfOk result (λ read. AreDamagedTold version (map file_shown append.items) read.damaged.items) }
     ensures accepted { OnOk result (AreBothAccepted mode version (map file_shown append.items)
         (map file_shown rewrite.items)) }
     ensures fault { IfErr result (IsOpeningRefusal (AreUngroupedAs version) mode version (map file_shown append.items)
@@ -284,7 +305,10 @@ pub fn read_over(
     segments_read_as_one_history();
     let append = FoundQueue::of(LogQueue::Append, version, append)?;
     let rewrite = FoundQueue::of(LogQueue::Rewrite, version, rewrite)?;
-    let both = ReadySegments::of(mode, version, append, rewrite)?;
+    let tail = append.tail()?;
+    let damaged = append.damaged_alone(&tail)?;
+    let both = ReadySegments::of(mode, version, append, tail, rewrite)?;
     check_groups(alloc, both.rewrite.as_slice())?;
-    both.ready.with_contexts(alloc, appended, rewritten)
+    let reading = both.ready.with_contexts(alloc, appended, rewritten)?;
+    Ok(ReadFiles { reading, damaged })
 }

@@ -1,4 +1,4 @@
-//! What an opening cuts off from found files.
+//! What an opening cuts off from found files, and which batches it names.
 
 ghost use Rattle.std.specs.Prelude.{◌<◌, length};
 ghost use Rattle.raft_engine.specs.TailsFound.{IsTailFrom};
@@ -32,6 +32,17 @@ impl CutTail {
             error,
         }
     }
+}
+
+/// A batch of the last append file whose entries are damaged. An opening keeps it; its entries are refused when they are read.
+#[derive(Drop)]
+pub struct DamagedBatch {
+    /// The number of the file.
+    pub file: FileSeq,
+    /// At which byte of the file the batch begins.
+    pub offset: u64,
+    /// The refusal of its entries, with file and offset in front of its text.
+    pub error: Error,
 }
 
 /// What an opening cut off from the last file of each queue; nothing where that file ends with its batches, or there is none.

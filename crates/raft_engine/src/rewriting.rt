@@ -125,7 +125,7 @@ pub fn moving_batch<F: EngineFiles>(
     ensures ok { IfOk result (IsBatchMoving gate left.now table.now (F.asked files.old)
         (F.asked files.new)) }
     ensures err { OnErr result (AreOnlyRead (F.asked files.old) (F.asked files.new)) }
-    ensures refused { IfErr result (λ e. e ≢ Error.Memory → IsBatchRefused gate left.now table.now
+    ensures refused { IfErr result (λ e. e ≢ Error.Memory → IsBatchRefused F.may_fail gate left.now table.now
         (F.asked files.old) (F.asked files.new) e) }
 {
     let pairs = batch_pairs(alloc, table, gate, left)?;
@@ -137,8 +137,8 @@ pub fn moving_batch<F: EngineFiles>(
     Ok(batch)
 }
 
-/// Returns the keys, with their values, that are in a batch behind which these entries are left: those that move where none are,
-/// else none.
+/// Returns the keys, with their values, that go into a batch of a table that moves: all of those that move up to the gate if
+/// `left` is empty, so that no batch follows, else none.
 ///
 /// # Errors
 ///

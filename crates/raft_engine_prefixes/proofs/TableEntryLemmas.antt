@@ -134,7 +134,7 @@ module _ (IsSo : EntryIndex → Type 0) where
   kept_so r true t h = h
   kept_so r false t h = tt
 
-  both_so : (rewrite append : List Event) (tables : Tables) (cleaned : List ℕ) → EachEntryAmong IsSo rewrite → EachEntryAmong IsSo append
+  pub both_so : (rewrite append : List Event) (tables : Tables) (cleaned : List ℕ) → EachEntryAmong IsSo rewrite → EachEntryAmong IsSo append
       → IsReadingOfBoth rewrite append tables cleaned → (r : ℕ) → Each (table_of r (finite.get tables r)).entries
   both_so rewrite append tables cleaned h k b r =
       let ss = steps_of r (batches append) in

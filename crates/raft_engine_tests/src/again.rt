@@ -4,7 +4,7 @@
 ghost use Rattle.std.specs.Prelude.{◌≡◌};
 
 use crate::batches::Part;
-use crate::batches::Part::{Clean, Compact, Delete, Entries, Large, Put, Truncate};
+use crate::batches::Part::{Clean, Compact, Delete, Entries, Medium, Put, Truncate};
 use crate::calls::{
     count_files, holds, open, purge, purge_rewrites, rewrite, rewrite_again, rotate, write,
 };
@@ -204,7 +204,7 @@ static MOVING: [Moving; 2] = [
         calls: 16,
     },
     Moving {
-        entries: &[Large(1, 2), Large(2, 3), Large(3, 4)],
+        entries: &[Medium(1, 2), Medium(2, 3), Medium(3, 4)],
         text: "[1,4)k=v",
         calls: 23,
     },

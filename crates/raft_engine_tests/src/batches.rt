@@ -16,6 +16,8 @@ pub const REGION: u64 = 1;
 pub enum Part {
     /// Entries from the first index on and below the second, of one byte each.
     Entries(u64, u64),
+    /// Such entries of 1,500 bytes each.
+    Medium(u64, u64),
     /// Such entries of 3 KiB each.
     Large(u64, u64),
     /// A value of the key `k`.
@@ -31,6 +33,9 @@ pub enum Part {
     /// The last one.
     End(u64),
 }
+
+/// The bytes of a medium entry.
+static MEDIUM: [u8; 1_500] = [b'x'; 1_500];
 
 /// The bytes of a large entry.
 static LARGE: [u8; 3_072] = [b'x'; 3_072];
@@ -81,6 +86,10 @@ fn add(alloc: Global, batch: &mut LogBatch, part: Part) -> Result<()>
     match part {
         Part::Entries(first, end) => {
             let entries = entries_from(alloc, first, end, b"x")?;
+            batch.add_entries::<Proposals>(REGION, entries.as_slice())
+        }
+        Part::Medium(first, end) => {
+            let entries = entries_from(alloc, first, end, &MEDIUM)?;
             batch.add_entries::<Proposals>(REGION, entries.as_slice())
         }
         Part::Large(first, end) => {

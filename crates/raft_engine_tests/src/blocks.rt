@@ -1,9 +1,10 @@
-//! Damaged entries in found files: in the last rewrite file they refuse the opening, in other files the read.
+//! Damaged entries in found files: in the last rewrite file they refuse the opening, in other files the read, and in the last append
+//! file an opening names their batches.
 
-use crate::calls::{LogFiles, holds, open_in_mode, with_flipped};
+use crate::calls::{LogFiles, are_named, holds, open_in_mode, with_flipped};
 use crate::found::{Answer, four_files, names, one_file, says};
 use crate::reopened::holds;
-use raft_engine::{Engine, RecoveryMode};
+use raft_engine::{Opened, RecoveryMode};
 use raft_files::MemoryFiles;
 use raft_records::Result;
 use std::alloc::Global;
@@ -13,37 +14,45 @@ use std::thread::Threads;
 enum Files {
     /// One append file.
     Append,
+    /// The first of four append files.
+    ClosedAppend,
     /// One rewrite file.
     LastRewrite,
     /// The first of four rewrite files.
     ClosedRewrite,
 }
 
-/// In which files the lowest bit of which byte is changed, and what an opening answers in each mode.
-type Row = (Files, usize, Answer);
+/// In which files the lowest bit of which byte is changed, what an opening answers in each mode, and where the batches begin that it
+/// names.
+type Row = (Files, usize, Answer, &'static [u64]);
 
-static ROWS: [Row; 6] = [
+static ROWS: [Row; 8] = [
     // The first entry of the first batch, and the checksum of its entries.
     (
         Files::LastRewrite,
         16,
         Answer::Says("rewrite file 1, offset 0: the entries of this batch are damaged"),
+        &[],
     ),
     (
         Files::LastRewrite,
         18,
         Answer::Says("rewrite file 1, offset 0: the entries of this batch are damaged"),
+        &[],
     ),
     // The last entry of the last batch.
     (
         Files::LastRewrite,
         82,
         Answer::Says("rewrite file 1, offset 61: the entries of this batch are damaged"),
+        &[],
     ),
     // Entries of other files are refused when they are read.
-    (Files::Append, 16, Answer::Holds("[1,9)k=v")),
-    (Files::Append, 82, Answer::Holds("[1,9)k=v")),
-    (Files::ClosedRewrite, 16, Answer::Holds("[1,12)k=v")),
+    (Files::Append, 16, Answer::Holds("[1,9)k=v"), &[0]),
+    (Files::Append, 18, Answer::Holds("[1,9)k=v"), &[0]),
+    (Files::Append, 82, Answer::Holds("[1,9)k=v"), &[61]),
+    (Files::ClosedAppend, 16, Answer::Holds("[1,12)k=v"), &[]),
+    (Files::ClosedRewrite, 16, Answer::Holds("[1,12)k=v"), &[]),
 ];
 
 fn rows() -> &'static [Row] {
@@ -56,21 +65,26 @@ fn opened<R: Threads + Sync>(
     alloc: Global,
     mode: RecoveryMode,
     row: &Row,
-) -> Result<Engine<MemoryFiles>> {
+) -> Result<Opened<MemoryFiles>> {
     let none = Vec::new(alloc);
     let (append, rewrite): (LogFiles, LogFiles) = match row.0 {
         Files::Append => (with_flipped(one_file(alloc)?, row.1), none),
+        Files::ClosedAppend => (with_flipped(four_files(alloc)?, row.1), none),
         Files::LastRewrite => (none, with_flipped(one_file(alloc)?, row.1)),
         Files::ClosedRewrite => (none, with_flipped(four_files(alloc)?, row.1)),
     };
-    let opened = open_in_mode(rt, alloc, mode, append, rewrite)??;
-    Ok(opened.engine)
+    Ok(open_in_mode(rt, alloc, mode, append, rewrite)??)
 }
 
-/// Tests whether an opened engine holds this.
-fn is_held(alloc: Global, opened: Result<Engine<MemoryFiles>>, text: &str) -> Result<bool> {
-    let engine = opened?;
-    holds(alloc, &engine, text)
+/// Tests whether an opened engine holds this, and these batches were named.
+fn is_held(
+    alloc: Global,
+    opened: Result<Opened<MemoryFiles>>,
+    text: &str,
+    named: &[u64],
+) -> Result<bool> {
+    let opened = opened?;
+    Ok(are_named(opened.damaged.as_slice(), named) && holds(alloc, &opened.engine, text)?)
 }
 
 fn is_answered<R: Threads + Sync>(
@@ -81,14 +95,14 @@ fn is_answered<R: Threads + Sync>(
 ) -> Result<bool> {
     let opened = opened(rt, alloc, mode, row);
     match &row.2 {
-        Answer::Holds(text) => is_held(alloc, opened, text),
+        Answer::Holds(text) => is_held(alloc, opened, text, row.3),
         Answer::Says(text) => says(opened, text),
         Answer::Names(text) => names(opened, text),
     }
 }
 
 #[test]
-fn damaged_entries_of_the_last_rewrite_file_are_refused_in_each_mode(rt: HostRuntime) {
+fn damaged_entries_of_last_files_are_refused_or_named_in_each_mode(rt: HostRuntime) {
     for (i, row) in rows().iter().enumerate() {
         for mode in [
             RecoveryMode::AbsoluteConsistency,

@@ -4,7 +4,7 @@
 
 use crate::batches::{Part, batch_of};
 use raft_base::{FileSeq, LogQueue, Version};
-use raft_engine::{Engine, Recovered, RecoveryMode, Unopened};
+use raft_engine::{DamagedBatch, Engine, Recovered, RecoveryMode, Unopened};
 use raft_files::{EngineFiles, MemoryFiles};
 use raft_memtable::MemTableAccessor;
 use raft_records::{Error, LogBatch, Result};
@@ -85,6 +85,13 @@ pub fn open_in_mode<R: Threads + Sync>(
         rewrite,
         RIGHT.workers,
     ))
+}
+
+/// Tests whether these batches of the first append file begin at these offsets, one after the other, and are refused with their place.
+pub fn are_named(damaged: &[DamagedBatch], offsets: &[u64]) -> bool {
+    damaged.len() == offsets.len()
+        && damaged.iter().zip(offsets).all(|(batch, offset)| batch.offset == *offset
+            && batch.file == 1)
 }
 
 /// Opens an engine over files, with two workers.

@@ -235,7 +235,7 @@ fn rows_of_modes() -> &'static [(RecoveryMode, Change, Answer)] {
 }
 
 /// Tests whether an opening is refused as damage with this text. Another refusal is handed on.
-pub fn says(opened: Result<Engine<MemoryFiles>>, text: &str) -> Result<bool> {
+pub fn says<T: Drop>(opened: Result<T>, text: &str) -> Result<bool> {
     match opened {
         Ok(_) => Ok(false),
         Err(Error::Corruption(found)) => Ok(found.as_str() == text),
@@ -244,7 +244,7 @@ pub fn says(opened: Result<Engine<MemoryFiles>>, text: &str) -> Result<bool> {
 }
 
 /// Tests whether an opening is refused as an invalid argument with this text. Another refusal is handed on.
-pub fn names(opened: Result<Engine<MemoryFiles>>, text: &str) -> Result<bool> {
+pub fn names<T: Drop>(opened: Result<T>, text: &str) -> Result<bool> {
     match opened {
         Ok(_) => Ok(false),
         Err(Error::InvalidArgument(found)) => Ok(found.as_str() == text),

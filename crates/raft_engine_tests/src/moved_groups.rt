@@ -1,7 +1,7 @@
 //! A region whose entries are more than one part moves in several batches, and from rewrite files in an atomic group.
 
 use crate::again::{empty_append_files, is_found_again, write_each};
-use crate::batches::Part::{Large, Put};
+use crate::batches::Part::{Medium, Put};
 use crate::calls::{copies, holds, new_engine, purge_rewrites, rewrite_again, write};
 use crate::reopened::is_found;
 use raft_base::{FileId, LogQueue, Version};
@@ -12,7 +12,7 @@ use raft_records::{AtomicGroupStatus, FilePart, Result, next_batch};
 use std::alloc::Global;
 use std::thread::Threads;
 
-/// Entries of 3 KiB each, of which two are one part, and a key.
+/// Entries of 1,500 bytes each, of which two are one part, and a key.
 const TEXT: &str = "[1,4)k=v";
 
 type Marker = Option<(u64, AtomicGroupStatus)>;
@@ -25,7 +25,7 @@ fn grown(alloc: Global) -> Result<Engine<MemoryFiles>> {
 }
 
 fn grow(alloc: Global, engine: &mut Engine<MemoryFiles>) -> Result<()> {
-    write_each(alloc, engine, &[Large(1, 2), Large(2, 3), Large(3, 4)])?;
+    write_each(alloc, engine, &[Medium(1, 2), Medium(2, 3), Medium(3, 4)])?;
     write(alloc, engine, &[Put("v")], false)?;
     empty_append_files(engine)?;
     Ok(())

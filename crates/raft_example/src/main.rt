@@ -38,11 +38,11 @@ const REGIONS: [u64; 2] = [7, 8];
 fn main(rt: HostRuntime) -> Result<()> {
     match env::args(&rt)?.nth(1) {
         Some(word) if is_help(word.as_str()) => Ok(println!(rt; "{USAGE}")?),
-        Some(folder) => run(&rt, folder.as_str()),
+        Some(folder) => run_example(&rt, folder.as_str()),
         None => {
-            clear(&rt)?;
-            run(&rt, FOLDER)?;
-            clear(&rt)
+            remove_folder(&rt)?;
+            run_example(&rt, FOLDER)?;
+            remove_folder(&rt)
         }
     }
 }
@@ -53,7 +53,7 @@ fn is_help(word: &str) -> bool {
 }
 
 /// Removes the program's own folder, if it is there.
-fn clear<R: Host>(rt: &R) -> Result<()> {
+fn remove_folder<R: Host>(rt: &R) -> Result<()> {
     if fs::exists(rt, FOLDER)? {
         fs::remove_dir_all(rt, FOLDER)?;
     }
@@ -61,15 +61,15 @@ fn clear<R: Host>(rt: &R) -> Result<()> {
 }
 
 /// Goes through what an engine does. Each engine is let go before the next one opens the folder.
-fn run<R: Host>(rt: &R, folder: &str) -> Result<()> {
+fn run_example<R: Host>(rt: &R, folder: &str) -> Result<()> {
     write_and_move(rt, folder)?;
     write_torn(rt, folder)?;
     write_again(rt, folder)?;
-    print_tables(rt, &open(rt, folder)?, "opened")
+    print_tables(rt, &open_engine(rt, folder)?, "opened")
 }
 
 /// Opens the engine of a folder, and prints what that cut off the files.
-fn open<'a, R: Host>(rt: &'a R, folder: &'a str) -> Result<FolderEngine<'a, R>> {
+fn open_engine<'a, R: Host>(rt: &'a R, folder: &'a str) -> Result<FolderEngine<'a, R>> {
     let opened = open_folder(
         rt,
         folder,
@@ -86,7 +86,7 @@ fn open<'a, R: Host>(rt: &'a R, folder: &'a str) -> Result<FolderEngine<'a, R>> 
 
 /// Writes to two append files, moves what the first one has, and deletes it.
 fn write_and_move<'a, R: Host>(rt: &'a R, folder: &'a str) -> Result<()> {
-    let mut engine = open(rt, folder)?;
+    let mut engine = open_engine(rt, folder)?;
     print_tables(rt, &engine, "opened")?;
     open_twice(rt, folder)?;
     write_both(rt, &mut engine)?;
@@ -107,10 +107,10 @@ fn open_twice<'a, R: Host>(rt: &'a R, folder: &'a str) -> Result<()> {
 /// Writes batches of two regions, to two append files.
 fn write_both<R: Host>(rt: &R, engine: &mut FolderEngine<'_, R>) -> Result<()> {
     let texts = ["put x 1", "put y 2", "put z 3"];
-    write(rt, engine, 7, &texts, "a", true)?;
-    write(rt, engine, 8, &["put u 4", "put v 5"], "a", true)?;
+    write_proposals(rt, engine, 7, &texts, "a", true)?;
+    write_proposals(rt, engine, 8, &["put u 4", "put v 5"], "a", true)?;
     engine.rotate()?;
-    write(rt, engine, 7, &["delete x"], "b", true)?;
+    write_proposals(rt, engine, 7, &["delete x"], "b", true)?;
     keep_two(rt, engine, 7)
 }
 
@@ -132,9 +132,9 @@ fn last_closed_seq<R: Host>(engine: &FolderEngine<'_, R>) -> Result<FileSeq> {
 
 /// Writes a batch that isn't synced, and takes its last bytes away, as a crash may before they are on the disk.
 fn write_torn<R: Host>(rt: &R, folder: &str) -> Result<()> {
-    let mut engine = open(rt, folder)?;
+    let mut engine = open_engine(rt, folder)?;
     print_tables(rt, &engine, "opened")?;
-    write(rt, &mut engine, 8, &["put w 6"], "c", false)?;
+    write_proposals(rt, &mut engine, 8, &["put w 6"], "c", false)?;
     print_tables(rt, &engine, "written")?;
     let files = engine.files().list(LogQueue::Append)?;
     if let Some(last) = files.last() {
@@ -151,14 +151,14 @@ fn write_torn<R: Host>(rt: &R, folder: &str) -> Result<()> {
 
 /// Writes again what was lost.
 fn write_again<R: Host>(rt: &R, folder: &str) -> Result<()> {
-    let mut engine = open(rt, folder)?;
+    let mut engine = open_engine(rt, folder)?;
     print_tables(rt, &engine, "opened")?;
-    write(rt, &mut engine, 8, &["put w 6"], "c", true)?;
+    write_proposals(rt, &mut engine, 8, &["put w 6"], "c", true)?;
     print_tables(rt, &engine, "written")
 }
 
 /// Writes proposals behind the last one of a region, and who leads it.
-fn write<R: Host>(
+fn write_proposals<R: Host>(
     rt: &R,
     engine: &mut FolderEngine<'_, R>,
     region: u64,

@@ -152,7 +152,7 @@ pub extern "C" fn raft_ffi_engine_write(
     told!(held in engine, alloc, text; with!(written in batch, alloc; held.engine.write(&mut *written, sync)))
 }
 
-/// Orders that all that was written lasts.
+/// Orders a sync of the append queue, so that all that was written outlasts a crash.
 #[unsafe(no_mangle)]
 pub extern "C" fn raft_ffi_engine_sync(
     alloc: Global,
@@ -169,7 +169,8 @@ pub extern "C" fn raft_ffi_engine_sync(
     told!(held in engine, alloc, text; held.engine.sync())
 }
 
-/// Begins a new file of the append queue.
+/// Orders that the last append file is synced and a new one begun, in which the next batch is put. Numbers: 12 where the engine
+/// isn't intact, 9 where no number of a file is left, 11 for want of memory.
 #[unsafe(no_mangle)]
 pub extern "C" fn raft_ffi_engine_rotate(
     alloc: Global,

@@ -1,7 +1,7 @@
 //! An engine whose files the caller keeps.
 
 ghost use Rattle.std.specs.Prelude.{◌≡◌, true, IfErr, OnOk};
-ghost use Rattle.raft_ffi.specs.Words.{IsRewritten, IsUnrewritten, AreMovedAgain, AreUnmovedAgain, IsTaking};
+ghost use Rattle.raft_ffi.specs.Words.{HandedFails, IsRewritten, IsUnrewritten, AreMovedAgain, AreUnmovedAgain, IsTaking};
 
 use crate::order_calls::{Taking, take_within};
 use raft_base::{Error, FileId, FileSeq, Result};
@@ -71,7 +71,7 @@ impl HeldEngine {
     pub(crate) fn rewrite(&mut self, gate: FileSeq) -> Result<()>
         ensures ok { OnOk result (IsRewritten gate self.old self.new) }
         ensures accepted { OnOk result (self.old.intact ≡ true) }
-        ensures err { IfErr result (IsUnrewritten gate self.old self.new) }
+        ensures err { IfErr result (IsUnrewritten HandedFails gate self.old self.new) }
     {
         let answer = self.engine.rewrite(gate);
         self.clear_lent();
@@ -87,7 +87,7 @@ impl HeldEngine {
     pub(crate) fn rewrite_again(&mut self) -> Result<()>
         ensures ok { OnOk result (AreMovedAgain self.old self.new) }
         ensures accepted { OnOk result (self.old.intact ≡ true) }
-        ensures err { IfErr result (AreUnmovedAgain self.old self.new) }
+        ensures err { IfErr result (AreUnmovedAgain HandedFails self.old self.new) }
     {
         let answer = self.engine.rewrite_again();
         self.clear_lent();

@@ -1,7 +1,7 @@
 //! Calls that move records of an engine to the rewrite queue, and that lend it the blocks which it reads for that.
 
 ghost use Rattle.std.specs.Prelude.{◌≡◌, ◌≢◌, true, IsTrue, is_some, List, IfErr};
-ghost use Rattle.raft_ffi.specs.Words.{AreMovedAgain, AreUnmovedAgain, BothHold, HasText, Holds, IsCodeForBoth, IsCopied, IsRewritten, IsUnrewritten};
+ghost use Rattle.raft_ffi.specs.Words.{HandedFails, AreMovedAgain, AreUnmovedAgain, BothHold, HasText, Holds, IsCodeForBoth, IsCopied, IsRewritten, IsUnrewritten};
 
 use crate::handles::{Engine, Handle, or_told, told, with};
 use crate::status::{Maybe, Status, copy_front, is_rewrite, queue};
@@ -35,7 +35,7 @@ pub extern "C" fn raft_ffi_engine_rewrite(
     requires held { IsTrue (is_some engine.old.value) }
     ensures ok { result.code ≡ 0 → BothHold (IsRewritten gate) engine.old.value engine.new.value }
     ensures accepted { result.code ≡ 0 → Holds (λ e. e.intact ≡ true) engine.old.value }
-    ensures err { result.code ≢ 0 → IsCodeForBoth (IsUnrewritten gate) engine.old.value engine.new.value result.code }
+    ensures err { result.code ≢ 0 → IsCodeForBoth (IsUnrewritten HandedFails gate) engine.old.value engine.new.value result.code }
     ensures text { HasText result text.old text.new }
 {
     told!(held in engine, alloc, text; held.rewrite(gate))
@@ -52,7 +52,7 @@ pub extern "C" fn raft_ffi_engine_rewrite_again(
     requires held { IsTrue (is_some engine.old.value) }
     ensures ok { result.code ≡ 0 → BothHold AreMovedAgain engine.old.value engine.new.value }
     ensures accepted { result.code ≡ 0 → Holds (λ e. e.intact ≡ true) engine.old.value }
-    ensures err { result.code ≢ 0 → IsCodeForBoth AreUnmovedAgain engine.old.value engine.new.value result.code }
+    ensures err { result.code ≢ 0 → IsCodeForBoth (AreUnmovedAgain HandedFails) engine.old.value engine.new.value result.code }
     ensures text { HasText result text.old text.new }
 {
     told!(held in engine, alloc, text; held.rewrite_again())

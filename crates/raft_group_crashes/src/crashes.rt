@@ -8,7 +8,7 @@ mod tail;
 
 use crate::crashes::crash::{CRASHED, Crashes};
 use crate::crashes::history::{FOLDER, History};
-use crate::folder_pipe::clear;
+use crate::folder_pipe::remove_folder;
 use crate::store::Host;
 use raft_base::Result;
 
@@ -41,8 +41,8 @@ pub(crate) fn try_all<R: Host + Print + Eprint>(
             }
         }
     }
-    clear(rt, FOLDER)?;
-    clear(rt, CRASHED)?;
+    remove_folder(rt, FOLDER)?;
+    remove_folder(rt, CRASHED)?;
     eprintln!(rt; "{} recoveries", crashes.tried)?;
     println!(rt;
         "{histories} histories from seed {seed} on, {by_bytes} at each byte: {} different",

@@ -132,7 +132,7 @@ impl<'a, R: Disk> FolderPipe<'a, R> {
 }
 
 /// Removes a folder with all its files, if there is one.
-pub(crate) fn clear<R: Disk>(rt: &R, folder: &str) -> Result<()> {
+pub(crate) fn remove_folder<R: Disk>(rt: &R, folder: &str) -> Result<()> {
     if fs::exists(rt, folder)? {
         fs::remove_dir_all(rt, folder)?;
     }
@@ -231,7 +231,7 @@ impl<R: Disk> PipeLog for FolderPipe<'_, R> {
         total
     }
 
-    /// Makes what the last file holds last, then the new file.
+    /// Syncs the last file, begins the next one, and syncs the folder. After an error the new file may be there.
     fn rotate(&self, queue: LogQueue) -> Result<()> {
         self.sync(queue)?;
         self.make(FileId::new(queue, self.span(queue).last + 1))?;

@@ -71,7 +71,7 @@ pub(crate) fn push_tombstones(
             LogItemContent::Kv(pair) if pair.op_type == OpType::Put => {}
             LogItemContent::Kv(_) => tombstones.push(item.clone()?)?,
             LogItemContent::EntryIndexes(run) => {
-                if let Some(index) = overwritten_from(region, run, tables) {
+                if let Some(index) = first_overwritten(region, run, tables) {
                     tombstones.push(LogItem::new_command(region, Command::Truncate { index }))?;
                 }
             }
@@ -81,7 +81,7 @@ pub(crate) fn push_tombstones(
 }
 
 /// Returns the first index of a run, unless the region's table ends at or below it.
-fn overwritten_from(
+fn first_overwritten(
     region: u64,
     run: &EntryIndexes,
     tables: Option<&MemTableAccessor>,

@@ -25,7 +25,7 @@ fn main(rt: HostRuntime) -> Result<ExitCode> {
         println!(rt; "{USAGE}")?;
         return Ok(ExitCode::SUCCESS);
     }
-    let Some((seed, histories, by_bytes)) = numbers(words.as_slice()) else {
+    let Some((seed, histories, by_bytes)) = numbers_in(words.as_slice()) else {
         eprintln!(rt; "{USAGE}")?;
         return Ok(ExitCode::from(2));
     };
@@ -37,7 +37,7 @@ fn main(rt: HostRuntime) -> Result<ExitCode> {
 }
 
 /// Returns the three numbers, if these are the words.
-fn numbers(words: &[String]) -> Option<(u64, u64, u64)> {
+fn numbers_in(words: &[String]) -> Option<(u64, u64, u64)> {
     let [seed, histories, by_bytes] = words else {
         return None;
     };

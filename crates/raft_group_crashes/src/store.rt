@@ -87,7 +87,7 @@ impl<'a, R: Host> Store<'a, R> {
         self.tables.apply_append_writes(batch.drain())
     }
 
-    /// Makes what a queue holds last.
+    /// Syncs a queue.
     fn sync(&mut self, queue: LogQueue) -> Result<()> {
         self.pipe.sync(queue)?;
         self.note(FileChange::Synced(queue))

@@ -3,7 +3,9 @@ use Rattle.std.proofs.Common.{◌≡◌, inl, ℕ, List, [], ◌∷◌, ◌++◌
 use Rattle.raft_base.specs.declared.errors.Error.{Error}
 use Rattle.raft_files.specs.Asks.{Ask, MayBeAsked}
 use Rattle.raft_base.specs.declared.pipe_log.Version.{Version}
-use Rattle.raft_reading.specs.QueueRead.{NumberedBytes}
+use Rattle.raft_base.specs.declared.pipe_log.FileId.{FileId}
+use Rattle.raft_reading.specs.IoErrors.{IoError}
+use Rattle.raft_reading.specs.declared.queue_files.FileSize.{FileSize}
 use Rattle.raft_engine.specs.OpeningAsks.{Failures, FailsAmong}
 use Rattle.raft_report.specs.declared.print_error.PrintError.{PrintError}
 use Rattle.raft_report.specs.declared.print_error.PrintError.TheVariants.{Files, Output}
@@ -42,6 +44,7 @@ module _ (MayFail : Failures) where
       }
 
   -- nothing was asked where nothing is printed
-  pub none_cut : (version : Version) (workers : ℕ) (append rewrite : List NumberedBytes) (old new : List Ask) (f : PrintError) → IsUnprinted f → new ≡ old → IsCutFault MayFail version workers append rewrite old new f
-  none_cut version workers append rewrite old new (Files e) is same = inl (is, same)
-  none_cut version workers append rewrite old new (Output e) is same = same
+  pub none_cut : (Gives : FileId → ℕ → List ℕ → Type 0) (Fails : FileId → ℕ → IoError → Type 0) (version : Version) (workers : ℕ) (append rewrite : List FileSize) (old new : List Ask) (f : PrintError) → IsUnprinted f → new ≡ old
+      → IsCutFault MayFail Gives Fails version workers append rewrite old new f
+  none_cut Gives Fails version workers append rewrite old new (Files e) is same = inl ((λ other. absurd (other is)), same)
+  none_cut Gives Fails version workers append rewrite old new (Output e) is same = same

@@ -6,10 +6,11 @@ use Rattle.raft_base.specs.declared.pipe_log.LogQueue.{LogQueue}
 use Rattle.raft_base.specs.declared.pipe_log.LogQueue.TheVariants.{Append, Rewrite}
 use Rattle.raft_reading.specs.IoErrors.{IoError}
 use Rattle.raft_reading.specs.declared.queue_files.FileSize.{FileSize}
-use Rattle.raft_survey.specs.FileWalks.{IsFileUnread, IsOneOfBothUnread, IsOneUnread}
+use Rattle.raft_survey.specs.FileWalks.{IsFileUnread, IsOneUnread}
 use Rattle.raft_report.specs.declared.print_error.PrintError.{PrintError}
 use Rattle.raft_report.specs.declared.print_error.PrintError.TheVariants.{Files, Output}
-use Rattle.raft_inspect.specs.Faults.{IsUnprinted, IsUnprintedFor}
+use Rattle.raft_base.specs.declared.pipe_log.Version.{Version}
+use Rattle.raft_inspect.specs.Faults.{IsUnchecked, IsUnprinted, IsUnprintedFor}
 
 -- for another reason
 for_another : (P Q : Error → Type 0) → ((e : Error) → P e → Q e) → (f : PrintError) → IsUnprintedFor P f → IsUnprintedFor Q f
@@ -27,8 +28,9 @@ module _ (Gives : FileId → ℕ → List ℕ → Type 0) (Fails : FileId → �
   of_queue queue sizes size f among is = for_another (IsFileUnread Gives Fails queue size) (IsOneUnread Gives Fails queue sizes) (λ e unread. record { size = size; among = among; unread = unread }) f is
 
   -- and of both
-  pub of_append : (append rewrite : List FileSize) (f : PrintError) → IsUnprintedFor (IsOneUnread Gives Fails Append append) f → IsUnprintedFor (IsOneOfBothUnread Gives Fails append rewrite) f
-  of_append append rewrite f is = for_another (IsOneUnread Gives Fails Append append) (IsOneOfBothUnread Gives Fails append rewrite) (λ e one. inl one) f is
+  module _ (version : Version) (workers : ℕ) (append rewrite : List FileSize) where
+    pub of_append : (f : PrintError) → IsUnprintedFor (IsOneUnread Gives Fails Append append) f → IsUnprintedFor (IsUnchecked Gives Fails version workers append rewrite) f
+    of_append f is = for_another (IsOneUnread Gives Fails Append append) (IsUnchecked Gives Fails version workers append rewrite) (λ e one. inl (inl one)) f is
 
-  pub of_rewrite : (append rewrite : List FileSize) (f : PrintError) → IsUnprintedFor (IsOneUnread Gives Fails Rewrite rewrite) f → IsUnprintedFor (IsOneOfBothUnread Gives Fails append rewrite) f
-  of_rewrite append rewrite f is = for_another (IsOneUnread Gives Fails Rewrite rewrite) (IsOneOfBothUnread Gives Fails append rewrite) (λ e one. inr one) f is
+    pub of_rewrite : (f : PrintError) → IsUnprintedFor (IsOneUnread Gives Fails Rewrite rewrite) f → IsUnprintedFor (IsUnchecked Gives Fails version workers append rewrite) f
+    of_rewrite f is = for_another (IsOneUnread Gives Fails Rewrite rewrite) (IsUnchecked Gives Fails version workers append rewrite) (λ e one. inl (inr one)) f is

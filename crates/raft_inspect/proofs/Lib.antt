@@ -1,6 +1,4 @@
-pub mod UncutLemmas
-pub mod TableLemmas
-pub mod RefusalLemmas
+pub mod OpeningLemmas
 pub mod TextLemmas
 pub mod PrintedLemmas
 pub mod FoundLemmas

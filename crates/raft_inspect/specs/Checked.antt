@@ -3,18 +3,18 @@ use Rattle.std.specs.Prelude.{◌≡◌, ◌↔◌, ℕ, List, true}
 use Rattle.raft_base.specs.declared.pipe_log.FileId.{FileId}
 use Rattle.raft_base.specs.declared.pipe_log.LogQueue.TheVariants.{Append, Rewrite}
 use Rattle.raft_base.specs.declared.pipe_log.Version.{Version}
+use Rattle.raft_reading.specs.IoErrors.{IoError}
 use Rattle.raft_reading.specs.declared.queue_files.FileSize.{FileSize}
 use Rattle.raft_survey.specs.FileScans.{AreScansOf}
-use Rattle.raft_survey.specs.QueuesRead.{AreBothRead}
 use Rattle.raft_inspect.specs.Openings.{IsOpeningOf}
 use Rattle.raft_inspect.specs.SoundFiles.{AreSound}
 use Rattle.raft_inspect.specs.Verdicts.{IsNothingWrong}
 use Rattle.raft_inspect.specs.declared.findings.Findings.{Findings}
 
 -- Files were scanned, and what an opening would do was found out; it says that they are sound exactly where nothing is wrong, and then they are.
-pub record IsChecked (Gives : FileId → ℕ → List ℕ → Type 0) (version : Version) (workers : ℕ) (append rewrite : List FileSize) (found : Findings) : Type 0 where
+pub record IsChecked (Gives : FileId → ℕ → List ℕ → Type 0) (Fails : FileId → ℕ → IoError → Type 0) (version : Version) (workers : ℕ) (append rewrite : List FileSize) (found : Findings) : Type 0 where
   pub append_scanned : AreScansOf Gives Append version append found.append.items
   pub rewrite_scanned : AreScansOf Gives Rewrite version rewrite found.rewrite.items
-  pub opening : AreBothRead Gives append rewrite (IsOpeningOf version workers found.opening)
+  pub opening : IsOpeningOf Gives Fails version workers append rewrite found.opening
   pub verdict : (found.is_sound ≡ true) ↔ IsNothingWrong found.append.items found.rewrite.items found.opening
   pub sound : found.is_sound ≡ true → AreSound Gives version append rewrite

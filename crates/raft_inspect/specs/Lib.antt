@@ -4,8 +4,6 @@ pub mod Openings
 pub mod Verdicts
 -- files that are sound
 pub mod SoundFiles
--- the tables that were read
-pub mod OpenedTables
 -- what a check finds
 pub mod Checked
 -- what a check prints as text, as JSON, and in either form

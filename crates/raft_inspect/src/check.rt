@@ -3,15 +3,15 @@
 ghost use Rattle.std.specs.Prelude.{◌≡◌, ◌++◌, ◌<◌, ◌≤◌, None, codes, string_bytes, IfErr, IfOk, OnOk};
 ghost use Rattle.std.specs.Io.KnownBytes.{Appends};
 ghost use Rattle.raft_survey.specs.FileScans.{AreScansOf, IsScanOf};
-ghost use Rattle.raft_survey.specs.FileWalks.{IsFileUnread, IsOneOfBothUnread, IsOneUnread};
+ghost use Rattle.raft_survey.specs.FileWalks.{IsFileUnread, IsOneUnread};
 ghost use Rattle.raft_inspect.specs.Checked.{IsChecked};
-ghost use Rattle.raft_inspect.specs.Faults.{IsUnprinted, IsUnprintedFor};
+ghost use Rattle.raft_inspect.specs.Faults.{IsUnchecked, IsUnprinted, IsUnprintedFor};
 ghost use Rattle.raft_inspect.specs.Printed.{ending_text, verdict_word};
 ghost use Rattle.raft_inspect.specs.PrintedForms.{check_lines, ending_lines, scan_lines, scans_lines};
 
 use crate::findings::Findings;
 use crate::json::append_json_ending;
-use crate::opening::find_opening;
+use crate::opening::try_opening;
 use crate::report::{append_if_empty, append_opening};
 use raft_base::{AllocResult, FileSeq, LogQueue, Version};
 use raft_listing::FileScan;
@@ -23,8 +23,7 @@ use std::io::Write;
 use std::thread::Threads;
 
 /// Checks the files of both queues, and prints what is found: the lines of each file as soon as it is read, then what an opening
-/// would do, and the last word. The files are read in pieces, twice. Where there are rewrite files, or the append files can't be
-/// recovered, an opening is tried in place of the second reading, for which all bytes are in memory, as an engine's opening has them.
+/// would do, and the last word. The files are read in pieces, twice: for the scans, and for the opening that is tried.
 ///
 /// # Errors
 ///
@@ -40,11 +39,11 @@ pub fn print_check<R: Threads + Sync, S: ReadFiles, W: Write>(
     out: &mut W,
 ) -> PrintResult<Findings>
     requires { (0 < workers) × (workers ≤ 256) }
-    ensures checked { IfOk result (IsChecked (S.gives source.now) version workers sizes.now.append.items
-        sizes.now.rewrite.items) }
+    ensures checked { IfOk result (IsChecked (S.gives source.now) (S.may_fail source.now) version workers
+        sizes.now.append.items sizes.now.rewrite.items) }
     ensures printed { IfOk result (λ found. Appends (W.contents out.old) (W.contents out.new)
         (check_lines form found)) }
-    ensures fault { IfErr result (IsUnprintedFor (IsOneOfBothUnread (S.gives source.now) (S.may_fail source.now)
+    ensures fault { IfErr result (IsUnprintedFor (IsUnchecked (S.gives source.now) (S.may_fail source.now) version workers
         sizes.now.append.items sizes.now.rewrite.items)) }
 {
     let found = gather_findings(rt, alloc, source, version, sizes, workers, form, out)?;
@@ -68,18 +67,18 @@ fn gather_findings<R: Threads + Sync, S: ReadFiles, W: Write>(
     out: &mut W,
 ) -> PrintResult<Findings>
     requires { (0 < workers) × (workers ≤ 256) }
-    ensures checked { IfOk result (IsChecked (S.gives source.now) version workers sizes.now.append.items
-        sizes.now.rewrite.items) }
+    ensures checked { IfOk result (IsChecked (S.gives source.now) (S.may_fail source.now) version workers
+        sizes.now.append.items sizes.now.rewrite.items) }
     ensures printed { IfOk result (λ found. Appends (W.contents out.old) (W.contents out.new)
         (scans_lines form LogQueue.Append None found.append.items ++ scans_lines form LogQueue.Rewrite None found.rewrite.items)) }
-    ensures fault { IfErr result (IsUnprintedFor (IsOneOfBothUnread (S.gives source.now) (S.may_fail source.now)
+    ensures fault { IfErr result (IsUnprintedFor (IsUnchecked (S.gives source.now) (S.may_fail source.now) version workers
         sizes.now.append.items sizes.now.rewrite.items)) }
 {
     let queue = LogQueue::Append;
     let append = print_scans(form, alloc, source, queue, version, &sizes.append, out)?;
     let queue = LogQueue::Rewrite;
     let rewrite = print_scans(form, alloc, source, queue, version, &sizes.rewrite, out)?;
-    let opening = find_opening(rt, alloc, source, version, sizes, workers)?;
+    let opening = try_opening(rt, alloc, source, version, sizes, workers)?;
     Ok(Findings::new(append, rewrite, opening))
 }
 

@@ -1,48 +1,50 @@
 //! The cut of torn tails, as an opening would do it.
 
-ghost use Rattle.std.specs.Prelude.{◌≡◌, ◌++◌, map, IfErr, IfOk, OnOk};
+ghost use Rattle.std.specs.Prelude.{◌≡◌, ◌++◌, ◌<◌, ◌≤◌, IfErr, IfOk, OnOk};
 ghost use Rattle.std.specs.Io.KnownBytes.{Appends};
-ghost use Rattle.raft_files.specs.HeldFiles.{file_shown};
 ghost use Rattle.raft_engine.specs.OpeningAsks.{FailsAmong};
 ghost use Rattle.raft_inspect.specs.Cuts.{IsCutAsOpened, IsCutFault, cut_asked, opening_cuts};
 ghost use Rattle.raft_inspect.specs.PrintedForms.{opening_lines};
 
-use crate::opening::{Opening, opening_of};
+use crate::opening::{Opening, try_opening};
 use crate::report::print_opening;
-use raft_base::{FileSeq, LogQueue, Result, Version};
+use raft_base::{LogQueue, Result, Version};
 use raft_engine::CutTail;
 use raft_files::EngineFiles;
+use raft_reading::ReadFiles;
 use raft_report::{Form, PrintResult};
+use raft_survey::BothSizes;
 use std::alloc::Global;
 use std::io::Write;
 use std::thread::Threads;
 
-/// Finds out what an opening of found files would do, prints that, and then cuts off what it would. Of files that are refused nothing
-/// is asked.
+/// Finds out what an opening of files would do, which are read in pieces, prints that, and then cuts off what it would. Of files that are
+/// refused nothing is asked. The files that are read and those that are cut have to be the same ones.
 ///
 /// # Errors
 ///
-/// `Output` where the output takes no more, and `Files` with `Memory`: nothing is asked of the files then. `Files` with the error of
-/// [`EngineFiles::truncate`], and some of it may be cut.
-pub fn cut_as_opened<R: Threads + Sync, F: EngineFiles, W: Write>(
+/// `Output` where the output takes no more, and `Files` with `Memory`, or with `Io` where the system refuses a read: nothing is asked of the
+/// files then. `Files` with the error of [`EngineFiles::truncate`], and some of it may be cut.
+pub fn cut_as_opened<R: Threads + Sync, S: ReadFiles, F: EngineFiles, W: Write>(
     rt: &R,
     alloc: Global,
     form: Form,
+    source: &S,
     version: Version,
-    append: Vec<(FileSeq, Vec<u8>)>,
-    rewrite: Vec<(FileSeq, Vec<u8>)>,
+    sizes: &BothSizes,
     workers: usize,
     files: &mut F,
     out: &mut W,
 ) -> PrintResult<Opening>
-    ensures ok { IfOk result (IsCutAsOpened version workers (map file_shown append.items) (map file_shown rewrite.items)
-        (F.asked files.old) (F.asked files.new)) }
+    requires { (0 < workers) × (workers ≤ 256) }
+    ensures ok { IfOk result (IsCutAsOpened (S.gives source.now) (S.may_fail source.now) version workers
+        sizes.now.append.items sizes.now.rewrite.items (F.asked files.old) (F.asked files.new)) }
     ensures printed { IfOk result (λ opening. Appends (W.contents out.old) (W.contents out.new)
         (opening_lines form opening)) }
-    ensures fault { IfErr result (IsCutFault F.may_fail version workers (map file_shown append.items)
-        (map file_shown rewrite.items) (F.asked files.old) (F.asked files.new)) }
+    ensures fault { IfErr result (IsCutFault F.may_fail (S.gives source.now) (S.may_fail source.now) version workers
+        sizes.now.append.items sizes.now.rewrite.items (F.asked files.old) (F.asked files.new)) }
 {
-    let opening = opening_of(rt, alloc, version, append, rewrite, workers)?;
+    let opening = try_opening(rt, alloc, source, version, sizes, workers)?;
     print_opening(form, alloc, &opening, out)?;
     cut_tails(&opening, files)?;
     Ok(opening)

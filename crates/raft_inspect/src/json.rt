@@ -120,7 +120,7 @@ fn append_json_if_empty(
     Ok(())
 }
 
-/// Appends the last word of a check.
+/// Appends the line with which a check ends: whether all is sound. Only memory may lack.
 fn append_json_verdict(found: &Findings, text: &mut String) -> AllocResult<()>
     ensures { OnOk result (string_bytes text.new ≡ string_bytes text.old ++ json_line (verdict_data (verdict_word found.now))) }
 {

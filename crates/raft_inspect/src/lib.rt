@@ -4,17 +4,14 @@
 pub mod check;
 pub mod cut;
 pub mod findings;
-mod found_files;
 mod json;
 pub mod opening;
 pub mod report;
 pub mod tables;
-pub mod untouched;
 
 pub use check::print_check;
 pub use cut::cut_as_opened;
 pub use findings::Findings;
-pub use opening::{Opening, open_aside, try_opening};
+pub use opening::{Opening, try_opening};
 pub use report::print_opening;
-pub use tables::{Tables, read_tables};
-pub use untouched::UntouchedFiles;
+pub use tables::read_tables;

@@ -1,28 +1,23 @@
-//! What an opening of found files would do.
+//! What an opening of files would do.
 
-ghost use Rattle.std.specs.Prelude.{◌≡◌, ◌≢◌, ◌↔◌, ◌<◌, ◌≤◌, [], map, IfErr, IfOk, IsTrue, OnOk};
-ghost use Rattle.raft_files.specs.HeldFiles.{file_shown};
-ghost use Rattle.raft_engine.specs.CutTails.{IsRecoveredOf};
-ghost use Rattle.raft_engine.specs.Opened.{IsOpened};
-ghost use Rattle.raft_engine.specs.Unopened.{AreBothAccepted};
-ghost use Rattle.raft_engine.specs.declared.recovery_mode.RecoveryMode.TheVariants.{TolerateTornTail};
-ghost use Rattle.raft_inspect.specs.Openings.{CutsNothing, IsOpeningOf, IsRefusalOf};
+ghost use Rattle.std.specs.Prelude.{◌≡◌, ◌≢◌, ◌↔◌, ◌<◌, ◌≤◌, true, false, IfErr, IfOk, IsTrue};
+ghost use Rattle.raft_engine.specs.CutTails.{tail_of};
+ghost use Rattle.raft_inspect.specs.Faults.{IsUntried};
+ghost use Rattle.raft_inspect.specs.Openings.{AreRefusedFor, CutsNothing, HoldsOfRead, IsAcceptedSo, IsOpeningOf, is_refused_read};
 ghost use Rattle.raft_inspect.specs.declared.opening.Opening.TheVariants.{Refuses};
-ghost use Rattle.raft_survey.specs.FileWalks.{IsOneOfBothUnread};
-ghost use Rattle.raft_survey.specs.QueuesRead.{AreBothRead};
-ghost use Rattle.raft_survey.specs.Rows.{AreInRow};
 
-use crate::found_files::read_found;
-use crate::untouched::UntouchedFiles;
-use raft_base::{Error, FileSeq, Result, Version};
-use raft_engine::{Engine, Opened, Recovered, RecoveryMode};
+use raft_base::{Error, Result, Version};
+use raft_engine::reading::Reading;
+use raft_engine::stored_found::found_files_are_stored;
+use raft_engine::{Recovered, RecoveryMode};
+use raft_opening::piece_reading::read_in_pieces;
 use raft_reading::ReadFiles;
-use raft_recover::MemTableAccessor;
-use raft_survey::{BothSizes, are_in_row, recover_both_files};
+use raft_survey::BothSizes;
 use std::alloc::Global;
+use std::io::ErrorKind;
 use std::thread::Threads;
 
-/// What an opening would do with found files.
+/// What an opening would do with files.
 #[derive(Drop)]
 pub enum Opening {
     /// It opens them, and cuts these tails off first.
@@ -43,80 +38,11 @@ impl Opening {
     }
 }
 
-/// Opens an engine over files that stay as they are, as [`Engine::open`] does over the files themselves. So its tables are to be
-/// read, and no more.
+/// Finds out what an opening by so many workers would do with files, which are read in pieces and stay as they are.
 ///
 /// # Errors
 ///
-/// Those of [`Engine::open`] where it refuses files; `Memory`.
-pub fn open_aside<R: Threads + Sync>(
-    rt: &R,
-    alloc: Global,
-    version: Version,
-    append: Vec<(FileSeq, Vec<u8>)>,
-    rewrite: Vec<(FileSeq, Vec<u8>)>,
-    workers: usize,
-) -> Result<Opened<UntouchedFiles>>
-    ensures ok { IfOk result (λ opened. IsOpened version (map file_shown append.items)
-        (map file_shown rewrite.items) opened.engine) }
-    ensures recovered { IfOk result (λ opened. IsRecoveredOf version (map file_shown append.items)
-        (map file_shown rewrite.items) opened.recovered) }
-    ensures accepted { OnOk result (AreBothAccepted TolerateTornTail version (map file_shown append.items)
-        (map file_shown rewrite.items)) }
-    ensures refused { IfErr result (λ e. IsRefusalOf version workers e (map file_shown append.items)
-        (map file_shown rewrite.items)) }
-{
-    let files = UntouchedFiles::found(&append, &rewrite);
-    let mode = RecoveryMode::TolerateTornTail;
-    match Engine::open_telling(rt, alloc, mode, version, files, append, rewrite, workers) {
-        Ok(opened) => Ok(opened),
-        Err(unopened) => Err(unopened.error),
-    }
-}
-
-/// Finds out what an opening would do with found files.
-///
-/// # Errors
-///
-/// `Memory`.
-pub(crate) fn opening_of<R: Threads + Sync>(
-    rt: &R,
-    alloc: Global,
-    version: Version,
-    append: Vec<(FileSeq, Vec<u8>)>,
-    rewrite: Vec<(FileSeq, Vec<u8>)>,
-    workers: usize,
-) -> Result<Opening>
-    ensures ok { IfOk result (λ opening. IsOpeningOf version workers opening (map file_shown append.items)
-        (map file_shown rewrite.items)) }
-    ensures memory { IfErr result (λ e. e ≡ Error.Memory) }
-{
-    match open_aside(rt, alloc, version, append, rewrite, workers) {
-        Ok(opened) => Ok(Opening::Opens(opened.recovered)),
-        Err(error) => refusal_for(error),
-    }
-}
-
-/// Returns that files are refused for this reason. Want of memory is none.
-///
-/// # Errors
-///
-/// `Memory`.
-fn refusal_for(error: Error) -> Result<Opening>
-    ensures ok { IfOk result (λ opening. (opening ≡ Refuses error) × (error ≢ Error.Memory)) }
-    ensures memory { IfErr result (λ e. e ≡ Error.Memory) }
-{
-    if matches!(error, Error::Memory) {
-        return Err(Error::Memory);
-    }
-    Ok(Opening::Refuses(error))
-}
-
-/// Finds out what an opening would do with files, all of whose bytes are read.
-///
-/// # Errors
-///
-/// Those of [`read_all`](raft_survey::read_all).
+/// `Io` where the system refuses a read; `Memory`. Where a read gives fewer bytes than there were, that is taken for the refusal of an opening.
 pub fn try_opening<R: Threads + Sync, S: ReadFiles>(
     rt: &R,
     alloc: Global,
@@ -125,75 +51,80 @@ pub fn try_opening<R: Threads + Sync, S: ReadFiles>(
     sizes: &BothSizes,
     workers: usize,
 ) -> Result<Opening>
-    ensures ok { IfOk result (λ opening. AreBothRead (S.gives source.now) sizes.now.append.items
-        sizes.now.rewrite.items (IsOpeningOf version workers opening)) }
-    ensures unread { IfErr result (λ e. e ≢ Error.Memory → IsOneOfBothUnread (S.gives source.now)
-        (S.may_fail source.now) sizes.now.append.items sizes.now.rewrite.items e) }
-{
-    let found = read_found(alloc, source, sizes)?;
-    opening_of(rt, alloc, version, found.append, found.rewrite, workers)
-}
-
-/// Finds out what an opening would do, as [`try_opening`] does. Append files that can be recovered, and whose numbers are consecutive,
-/// are opened and not cut, if there are no rewrite files: they are read in pieces. Of others all bytes are read.
-///
-/// # Errors
-///
-/// Those of [`try_opening`].
-pub(crate) fn find_opening<R: Threads + Sync, S: ReadFiles>(
-    rt: &R,
-    alloc: Global,
-    source: &S,
-    version: Version,
-    sizes: &BothSizes,
-    workers: usize,
-) -> Result<Opening>
     requires { (0 < workers) × (workers ≤ 256) }
-    ensures ok { IfOk result (λ opening. AreBothRead (S.gives source.now) sizes.now.append.items
-        sizes.now.rewrite.items (IsOpeningOf version workers opening)) }
-    ensures unread { IfErr result (λ e. e ≢ Error.Memory → IsOneOfBothUnread (S.gives source.now)
-        (S.may_fail source.now) sizes.now.append.items sizes.now.rewrite.items e) }
+    ensures ok { IfOk result (IsOpeningOf (S.gives source.now) (S.may_fail source.now) version workers
+        sizes.now.append.items sizes.now.rewrite.items) }
+    ensures untried { IfErr result (λ e. e ≢ Error.Memory → IsUntried (S.gives source.now) (S.may_fail source.now) version workers
+        sizes.now.append.items sizes.now.rewrite.items e) }
 {
-    if sizes.rewrite.is_empty() && are_in_row(&sizes.append) {
-        return opening_in_row(rt, alloc, source, version, sizes, workers);
+    match read_aside(rt, alloc, source, version, sizes, workers) {
+        Ok(reading) => Ok(Opening::Opens(tails_of(reading))),
+        Err(error) => refusal_for(error),
     }
-    try_opening(rt, alloc, source, version, sizes, workers)
 }
 
-/// Does what [`find_opening`] does, of append files whose numbers are consecutive, without rewrite files.
+/// Reads files in pieces, as an opening by so many workers does, and asks nothing of them.
 ///
 /// # Errors
 ///
-/// Those of [`try_opening`].
-fn opening_in_row<R: Threads + Sync, S: ReadFiles>(
+/// Those of an opening that refuses the files; `Io` where a read fails; `Memory`.
+pub(crate) fn read_aside<R: Threads + Sync, S: ReadFiles>(
     rt: &R,
     alloc: Global,
     source: &S,
     version: Version,
     sizes: &BothSizes,
     workers: usize,
-) -> Result<Opening>
-    requires workers { (0 < workers) × (workers ≤ 256) }
-    requires row { AreInRow (map (λ size. size.seq) sizes.now.append.items) }
-    requires alone { sizes.now.rewrite.items ≡ [] }
-    ensures ok { IfOk result (λ opening. AreBothRead (S.gives source.now) sizes.now.append.items
-        sizes.now.rewrite.items (IsOpeningOf version workers opening)) }
-    ensures unread { IfErr result (λ e. e ≢ Error.Memory → IsOneOfBothUnread (S.gives source.now)
-        (S.may_fail source.now) sizes.now.append.items sizes.now.rewrite.items e) }
+) -> Result<Reading>
+    ensures ok { IfOk result (λ reading. HoldsOfRead (S.gives source.now) sizes.now.append.items
+        sizes.now.rewrite.items (IsAcceptedSo version reading)) }
+    ensures refused { IfErr result (λ e. e ≢ Error.Memory → AreRefusedFor (S.gives source.now) (S.may_fail source.now) version workers
+        sizes.now.append.items sizes.now.rewrite.items e) }
 {
-    match recover_both_files(rt, alloc, source, version, sizes, workers) {
-        Ok(accessor) => Ok(uncut_opening(accessor)),
-        Err(Error::Memory) => Err(Error::Memory),
-        Err(_) => try_opening(rt, alloc, source, version, sizes, workers),
+    found_files_are_stored();
+    let mode = RecoveryMode::TolerateTornTail;
+    let (append, rewrite) = (sizes.append.as_slice(), sizes.rewrite.as_slice());
+    read_in_pieces(rt, alloc, source, mode, version, append, rewrite, workers)
+}
+
+/// Returns the tails that are missing of what was read.
+fn tails_of(reading: Reading) -> Recovered
+    ensures { (result.append ≡ tail_of reading.append_missing) × (result.rewrite ≡ tail_of reading.rewrite_missing) }
+{
+    Recovered {
+        append: reading.append_missing.tail(),
+        rewrite: reading.rewrite_missing.tail(),
     }
 }
 
-/// Returns that files of which these tables were recovered are opened, and nothing is cut off.
-fn uncut_opening(_tables: MemTableAccessor) -> Opening
-    ensures { CutsNothing result }
+/// Returns that files are refused for this reason. Want of memory is none, nor is a read that the system refuses.
+///
+/// # Errors
+///
+/// The reason, where it is none.
+fn refusal_for(error: Error) -> Result<Opening>
+    ensures ok { IfOk result (λ opening. (opening ≡ Refuses error) × (error ≢ Error.Memory) × (is_refused_read error ≡ false)) }
+    ensures same { IfErr result (λ e. e ≡ error) }
+    ensures unread { IfErr result (λ e. e ≢ Error.Memory → is_refused_read e ≡ true) }
 {
-    Opening::Opens(Recovered {
-        append: None,
-        rewrite: None,
-    })
+    if matches!(error, Error::Memory) {
+        return Err(Error::Memory);
+    }
+    if is_refused_read(&error) {
+        return Err(error);
+    }
+    Ok(Opening::Refuses(error))
+}
+
+/// Tests whether the system refused a read: not where bytes end too early, which may be the refusal of a batch.
+fn is_refused_read(error: &Error) -> bool
+    ensures { result ≡ is_refused_read error.now }
+{
+    match error {
+        Error::Io(error) => match error.kind() {
+            ErrorKind::UnexpectedEof => false,
+            _ => true,
+        },
+        _ => false,
+    }
 }

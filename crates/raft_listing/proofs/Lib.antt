@@ -2,3 +2,4 @@ pub mod WalkLemmas
 pub mod TextLemmas
 pub mod LossLemmas
 pub mod ShownLemmas
+pub mod SumLemmas

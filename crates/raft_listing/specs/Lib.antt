@@ -4,6 +4,8 @@ pub mod Walks
 pub mod SoundParts
 -- what a scan says of what it meets
 pub mod Scanned
+-- what the numbers of a scan say of all that it has met
+pub mod ScanSums
 -- neighbors that can't be read
 pub mod Stretches
 -- the text of a dump

@@ -5,6 +5,6 @@ use Rattle.raft_listing.specs.declared.damage.Loss.TheVariants.{Block, Outside, 
 
 -- the words for it
 abbrev pub loss_words : Loss → List ℕ
-loss_words Block = codes "their entry block doesn't stand in the file, or its checksum doesn't hold"
-loss_words Outside = codes "they end past their entry block"
-loss_words Unplaced = codes "they have no entry block"
+loss_words Block = codes "the entry block doesn't stand in the file, or its checksum doesn't hold"
+loss_words Outside = codes "the entry block is too short"
+loss_words Unplaced = codes "no entry block is named"

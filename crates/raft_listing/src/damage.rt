@@ -51,9 +51,9 @@ impl Loss {
     {
         match self {
             Loss::Block =>
-                "their entry block doesn't stand in the file, or its checksum doesn't hold",
-            Loss::Outside => "they end past their entry block",
-            Loss::Unplaced => "they have no entry block",
+                "the entry block doesn't stand in the file, or its checksum doesn't hold",
+            Loss::Outside => "the entry block is too short",
+            Loss::Unplaced => "no entry block is named",
         }
     }
 }

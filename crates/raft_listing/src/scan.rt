@@ -1,10 +1,13 @@
 //! Scans of log files for damage.
 
-ghost use Rattle.std.specs.Prelude.{◌≡◌, ◌++◌, [], List, map, IfErr, IfOk, IfSome, OnOk};
+ghost use Rattle.std.specs.Prelude.{◌≡◌, ◌++◌, ◌<◌, ◌^◌, ℕ, [], List, map, IfErr, IfOk, IfSome, OnOk};
+ghost use Rattle.raft_records.specs.FilePart.{Part};
 ghost use Rattle.raft_records.specs.Item.{item_of};
 ghost use Rattle.raft_listing.specs.ReadBlocks.{IsReadBlock};
-ghost use Rattle.raft_listing.specs.Scanned.{AreSaidOf, AreSaidOfEntries};
+ghost use Rattle.raft_listing.specs.ScanSums.{IsSummedUp};
+ghost use Rattle.raft_listing.specs.Scanned.{AreSaidOf, AreSaidOfEntries, IsScanned};
 ghost use Rattle.raft_listing.specs.Stretches.{IsItemSaid, IsLonger, IsTakenIn, said_of_stretch, stretch_of};
+ghost use Rattle.raft_listing.specs.Walks.{AreVisited, Met};
 
 use crate::blocks::{ReadBlock, first_block, loss_of};
 use crate::damage::{Damage, DamageKind, Loss};
@@ -237,3 +240,10 @@ fn add_stretch(
     damages.push(Damage { offset, kind })?;
     Ok(())
 }
+
+/// States what the numbers of a scan are once it has met all that a walk through a part meets: how many batches it met, the first byte
+/// at which none can be read, and how many bytes of the file come from damage on past which no header leads. This is a law: it computes nothing.
+pub fn scans_sum_up()
+    ensures { (part : Part) (met : List (ℕ × Met)) (old new : FileScan) → old.batches < 2 ^ 64
+        → AreVisited IsScanned part old met new → IsSummedUp part met old new }
+{}

@@ -1,4 +1,4 @@
 mod RestLemmas
-mod SizedLemmas
-mod SizedReadLemmas
+pub mod SizedLemmas
+pub mod SizedReadLemmas
 pub mod OnceLemmas

@@ -33,7 +33,8 @@ impl<S: ReadFiles> Found for FoundByReading<'_, S> {
 /// Opens the files that a crash of the machine left, as [`Engine::open_telling`] does, by the numbers and lengths of those of each
 /// queue, oldest first. Their bytes are read by the workers, through `source`, piece by piece, each byte once, and let go once they
 /// are replayed: so besides the tables no more is in memory than a piece of 4 MiB, or a longer batch, for each worker, and what
-/// stands in a queue's last file behind its readable prefix. What was found is what the reads gave.
+/// stands in a queue's last file behind its readable prefix. What was found is what the reads gave. The entries of the last append
+/// file aren't checked: `damaged` is empty, whatever they are.
 ///
 /// # Errors
 ///
@@ -100,5 +101,6 @@ fn open_read<F: NotesFound, S: ReadFiles>(
     });
     let mut files = files;
     files.note_found(found);
-    Engine::of_reading(version, files, reading)
+    let damaged = Vec::new(reading.append.allocator());
+    Engine::of_reading(version, files, reading, damaged)
 }

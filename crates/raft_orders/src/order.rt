@@ -19,7 +19,7 @@ pub enum Task {
     Put(Vec<u8>),
     /// Begin a file with this number behind the last one, whose bytes are synced then.
     Begin(FileSeq),
-    /// Make all that was done to the queue last.
+    /// Sync the queue: all that was done to it outlasts a crash then.
     Sync,
     /// Delete the oldest file.
     Delete,

@@ -2,7 +2,7 @@
 
 use crate::calls::Call;
 use crate::found::{Found, call_twice, is_refused};
-use crate::steps::{Step, add, batch_of};
+use crate::steps::{Step, add_step, batch_of};
 use raft_records::{
     AtomicGroupBuilder, AtomicGroupStatus, Error, FileId, FileSeq, LogBatch, LogFileContext,
     LogQueue, Result, Version,
@@ -33,7 +33,7 @@ pub(crate) static BATCHES: [Call; 6] = [
 ];
 
 /// Adds the approximate size of a batch of these steps, its length and its bytes.
-pub(crate) fn encode(
+pub(crate) fn encode_steps(
     found: &mut Found,
     steps: &[Step],
     version: Version,
@@ -50,14 +50,14 @@ pub(crate) fn encode(
 /// Adds a step; where there is no memory the batch has to be as it was.
 fn add_again(found: &mut Found, batch: &mut LogBatch, step: Step) -> Result<()> {
     let before = batch.clone()?;
-    call_twice!(found; add(found.alloc, batch, step); *batch == before)
+    call_twice!(found; add_step(found.alloc, batch, step); *batch == before)
 }
 
 /// Makes and signs a batch's bytes; where there is no memory it has to be as it was.
 fn seal_again(found: &mut Found, batch: &mut LogBatch, file: &LogFileContext) -> Result<()> {
     let before = batch.clone()?;
     let size = batch.approximate_size();
-    let len = call_twice!(found; finish(batch); *batch == before)?;
+    let len = call_twice!(found; finish_batch(batch); *batch == before)?;
     let alloc = found.alloc;
     found.line(format!(in alloc; "size {size} length {len}")?.as_str())?;
     if batch.is_open() {
@@ -72,7 +72,7 @@ fn seal_again(found: &mut Found, batch: &mut LogBatch, file: &LogFileContext) ->
 /// # Errors
 ///
 /// `Failed` for a batch that isn't open; those of [`LogBatch::finish_populate`].
-fn finish(batch: &mut LogBatch) -> Result<usize> {
+fn finish_batch(batch: &mut LogBatch) -> Result<usize> {
     if !batch.is_open() {
         return Err(Error::Failed);
     }
@@ -80,7 +80,7 @@ fn finish(batch: &mut LogBatch) -> Result<usize> {
 }
 
 /// Puts two batches with entries together, and adds what both are then.
-pub(crate) fn merge(found: &mut Found) -> Result<()> {
+pub(crate) fn merge_two(found: &mut Found) -> Result<()> {
     let mut batch = batch_of(found.alloc, &[Step::Run(7, 1, 3), Step::Clean(2)])?;
     let mut behind = batch_of(
         found.alloc,
@@ -104,12 +104,12 @@ fn merge_behind(found: &mut Found, batch: &mut LogBatch, behind: &mut LogBatch) 
     answer
 }
 
-/// Returns the three group markers of a group, each on a batch of its own.
-pub(crate) fn group(found: &mut Found) -> Result<()> {
+/// Adds lines with the three group markers of a group, each in a batch of its own.
+pub(crate) fn mark_group(found: &mut Found) -> Result<()> {
     let mut builder = AtomicGroupBuilder::with_id(9);
     for _ in 0..3 {
         let mut batch = LogBatch::default(found.alloc);
-        mark(found, &mut builder, &mut batch)?;
+        add_next_marker(found, &mut builder, &mut batch)?;
         let file = LogFileContext::new(FileId::new(LogQueue::Rewrite, 1), Version::V1);
         seal_again(found, &mut batch, &file)?;
     }
@@ -118,7 +118,11 @@ pub(crate) fn group(found: &mut Found) -> Result<()> {
 
 /// Adds the group marker that follows the builder's last one; where there is no memory batch and builder have to be as
 /// they were.
-fn mark(found: &mut Found, builder: &mut AtomicGroupBuilder, batch: &mut LogBatch) -> Result<()> {
+fn add_next_marker(
+    found: &mut Found,
+    builder: &mut AtomicGroupBuilder,
+    batch: &mut LogBatch,
+) -> Result<()> {
     let before = batch.clone()?;
     let state = builder.state();
     if !batch.is_open() {

@@ -90,7 +90,7 @@ pub(crate) fn make_all<R: Threads + Sync>(rt: &R, found: &mut Found, row: &str) 
         return found.line("there is no such row");
     }
     for call in calls {
-        if let Err(error) = make(rt, found, *call) {
+        if let Err(error) = make_call(rt, found, *call) {
             found.add_refusal(error)?;
         }
     }
@@ -98,27 +98,31 @@ pub(crate) fn make_all<R: Threads + Sync>(rt: &R, found: &mut Found, row: &str) 
 }
 
 /// Makes a call, and adds what it gives.
-fn make<R: Threads + Sync>(rt: &R, found: &mut Found, call: Call) -> Result<()> {
+fn make_call<R: Threads + Sync>(rt: &R, found: &mut Found, call: Call) -> Result<()> {
     match call {
-        Call::Read(form, bytes) => items::read(found, form, bytes),
-        Call::ReadBatch(bytes, version, seq) => item_batches::read(found, bytes, version, seq),
-        Call::Batch(steps, version, seq) => batches::encode(found, steps, version, seq),
+        Call::Read(form, bytes) => items::read_item(found, form, bytes),
+        Call::ReadBatch(bytes, version, seq) => item_batches::read_batch(
+            found, bytes, version, seq,
+        ),
+        Call::Batch(steps, version, seq) => batches::encode_steps(found, steps, version, seq),
         Call::Next(len, at) => parts::next(found, len, at),
-        Call::Header(len) => parts::header(found, len),
-        Call::Block(len) => parts::block(found, len),
-        Call::Cut(version) => parts::cut(found, version),
+        Call::Header(len) => parts::read_header(found, len),
+        Call::Block(len) => parts::read_entry_block(found, len),
+        Call::Cut(version) => parts::cut_by_batches(found, version),
         Call::Change(changes) => tables::change_all(found, changes),
         Call::Write(calls) => writes::write_all(found, calls),
         Call::MergeTables(older, newer, is_append) => {
-            writes::merge(found, older, newer, is_append)
+            writes::merge_accessors(found, older, newer, is_append)
         }
         Call::MergeDirectly(older, newer, is_append) => {
-            merges::merge(found, older, newer, is_append)
+            merges::merge_tables(found, older, newer, is_append)
         }
-        Call::Merge(history) => contexts::merge(found, history),
-        Call::Overlay(rewritten, appended) => contexts::overlay(found, rewritten, appended),
+        Call::Merge(history) => contexts::merge_history(found, history),
+        Call::Overlay(rewritten, appended) => contexts::overlay_histories(
+            found, rewritten, appended,
+        ),
         Call::CountPuts => contexts::count_puts(found),
-        Call::Count(history) => contexts::count(found, history),
+        Call::Count(history) => contexts::count_kept(found, history),
         Call::Tickets => recoveries::draw_tickets(found),
         Call::CountPieces(segments, draws) => recoveries::count_pieces(found, segments, draws),
         Call::Recover(history, how) => recoveries::recover_history(rt, found, history, how),

@@ -3,13 +3,13 @@
 use crate::found::Found;
 use crate::histories::{Batch, History, batch_segments, part_of};
 use crate::steps::Step;
-use crate::writes::print;
+use crate::writes::print_tables;
 use raft_memtable::{Error, FileId, LogItemBatch, LogQueue, MemTableRecoverContext, Result};
 use raft_records::{FilePart, next_batch};
 use raft_recover::Segment;
 
 /// Adds what a history gives, with a context for each batch.
-pub(crate) fn merge(found: &mut Found, history: History) -> Result<()> {
+pub(crate) fn merge_history(found: &mut Found, history: History) -> Result<()> {
     let context = merge_batches(found, history.queue, history.batches)?;
     print_context(found, context)
 }
@@ -17,7 +17,7 @@ pub(crate) fn merge(found: &mut Found, history: History) -> Result<()> {
 /// Adds the lines of a context's tables.
 fn print_context(found: &mut Found, context: MemTableRecoverContext) -> Result<()> {
     let tables = context.finish()?;
-    print(found, &tables)
+    print_tables(found, &tables)
 }
 
 /// Merges the contexts of batches.
@@ -50,7 +50,7 @@ fn merge_segments(
 fn read_segment(found: &mut Found, segment: &Segment) -> Result<MemTableRecoverContext> {
     let mut context = MemTableRecoverContext::new(found.alloc)?;
     for part in segment {
-        replay(found, &mut context, part)?;
+        replay_first(found, &mut context, part)?;
     }
     Ok(context)
 }
@@ -60,7 +60,11 @@ fn read_segment(found: &mut Found, segment: &Segment) -> Result<MemTableRecoverC
 /// # Errors
 ///
 /// Those of [`next_batch`] and [`MemTableRecoverContext::replay`].
-fn replay(found: &mut Found, context: &mut MemTableRecoverContext, part: &FilePart) -> Result<()> {
+fn replay_first(
+    found: &mut Found,
+    context: &mut MemTableRecoverContext,
+    part: &FilePart,
+) -> Result<()> {
     let Some((batch, _)) = next_batch(part, 0)? else {
         return Ok(());
     };
@@ -81,7 +85,11 @@ fn check_failed(found: &mut Found, context: &mut MemTableRecoverContext, answer:
 }
 
 /// Adds what the append queue's context over the rewrite queue's gives.
-pub(crate) fn overlay(found: &mut Found, rewritten: &[Batch], appended: &[Batch]) -> Result<()> {
+pub(crate) fn overlay_histories(
+    found: &mut Found,
+    rewritten: &[Batch],
+    appended: &[Batch],
+) -> Result<()> {
     let mut context = merge_batches(found, LogQueue::Rewrite, rewritten)?;
     let append = merge_batches(found, LogQueue::Append, appended)?;
     let answer = context.merge_append_context(append);
@@ -96,13 +104,13 @@ pub(crate) fn count_puts(found: &mut Found) -> Result<()> {
     for seq in 1..21u64 {
         let file = FileId::new(LogQueue::Append, seq);
         let part = part_of(found.alloc, file, 0, &[Step::Put(1, b"k", b"v")])?;
-        replay(found, &mut context, &part)?;
+        replay_first(found, &mut context, &part)?;
     }
     print_kept(found, &context)
 }
 
 /// Adds a line with what the context of a history holds.
-pub(crate) fn count(found: &mut Found, history: History) -> Result<()> {
+pub(crate) fn count_kept(found: &mut Found, history: History) -> Result<()> {
     let context = merge_batches(found, history.queue, history.batches)?;
     print_kept(found, &context)
 }

@@ -91,7 +91,7 @@ pub(crate) fn is_refused<T>(answer: &Result<T>) -> bool {
 }
 
 /// Returns the word for a result.
-pub(crate) fn word<T>(answer: &Result<T>) -> &'static str {
+pub(crate) fn word_of<T>(answer: &Result<T>) -> &'static str {
     match answer {
         Ok(_) => "ok",
         Err(error) => refusal_word(error),

@@ -40,8 +40,8 @@ static ENTRIES: [Change; 5] = [
     Change::Entries(1, 18_446_744_073_709_551_613, (128, 16_384)),
 ];
 
-/// Returns the bytes of a batch without items, and of one of several.
-pub(crate) fn encode(found: &mut Found) -> Result<()> {
+/// Adds a line with the bytes of a batch without items, and one with those of a batch of several.
+pub(crate) fn encode_both(found: &mut Found) -> Result<()> {
     let mut batch = LogItemBatch::default(found.alloc);
     encode_again(found, &mut batch)?;
     for change in &CHANGES {
@@ -50,7 +50,7 @@ pub(crate) fn encode(found: &mut Found) -> Result<()> {
     encode_again(found, &mut batch)
 }
 
-/// Returns the bytes of a batch of entries alone. Its first item and its fifth find no room in what it has.
+/// Adds a line with the bytes of a batch of entries alone. Its first item and its fifth find no room in what it has.
 pub(crate) fn add_entries(found: &mut Found) -> Result<()> {
     let mut batch = LogItemBatch::default(found.alloc);
     for change in &ENTRIES {
@@ -62,27 +62,27 @@ pub(crate) fn add_entries(found: &mut Found) -> Result<()> {
 /// Makes a change; where there is no memory the batch has to be as it was.
 fn change_again(found: &mut Found, batch: &mut LogItemBatch, change: Change) -> Result<()> {
     let before = batch.clone()?;
-    call_twice!(found; apply(found.alloc, batch, change);
+    call_twice!(found; change_batch(found.alloc, batch, change);
         *batch == before && batch.entries_size() == before.entries_size())
 }
 
 /// Makes a change of a batch.
-fn apply(alloc: Global, batch: &mut LogItemBatch, change: Change) -> Result<()> {
+fn change_batch(alloc: Global, batch: &mut LogItemBatch, change: Change) -> Result<()> {
     match change {
         Change::Command(index) => batch.add_command(1, Command::Compact { index }),
-        Change::Put(key, value) => put(alloc, batch, key, value),
+        Change::Put(key, value) => put_value(alloc, batch, key, value),
         Change::PutMessage(key, text) => {
             let value = message(alloc, text)?;
             batch.put_message(1, Vec::from_slice(alloc, key)?, &value)
         }
         Change::Delete(key) => batch.delete(1, Vec::from_slice(alloc, key)?),
-        Change::Merge => merge(alloc, batch),
+        Change::Merge => merge_commands(alloc, batch),
         Change::Entries(region, first, lengths) => add_two(alloc, batch, region, first, lengths),
     }
 }
 
 /// Returns an entry with so many bytes.
-fn entry(index: u64, entry_len: u32) -> EntryIndex
+fn entry_of_len(index: u64, entry_len: u32) -> EntryIndex
     ensures index { result.index ≡ index }
     ensures len { result.entry_len ≡ entry_len }
 {
@@ -109,19 +109,22 @@ fn add_two(
         return Err(Error::Failed);
     }
     let (one, other) = (u32::from(lengths.0), u32::from(lengths.1));
-    let entries = Vec::from_slice(alloc, &[entry(first, one), entry(first + 1, other)])?;
+    let entries = Vec::from_slice(
+        alloc,
+        &[entry_of_len(first, one), entry_of_len(first + 1, other)],
+    )?;
     batch.add_entry_indexes(region, entries)
 }
 
 /// Adds a value of a key of region 1.
-fn put(alloc: Global, batch: &mut LogItemBatch, key: &[u8], value: &[u8]) -> Result<()> {
+fn put_value(alloc: Global, batch: &mut LogItemBatch, key: &[u8], value: &[u8]) -> Result<()> {
     let value = Vec::from_slice(alloc, value)?;
     batch.put(1, Vec::from_slice(alloc, key)?, value)
 }
 
 /// Moves two commands of another batch behind the batch's own items. A batch with entries stays as
 /// it is.
-fn merge(alloc: Global, batch: &mut LogItemBatch) -> Result<()> {
+fn merge_commands(alloc: Global, batch: &mut LogItemBatch) -> Result<()> {
     let mut behind = LogItemBatch::default(alloc);
     behind.add_command(2, Command::Clean)?;
     behind.add_command(3, Command::Truncate { index: 300 })?;
@@ -153,7 +156,12 @@ pub(crate) static ITEM_BATCHES: [Call; 7] = [
 ];
 
 /// Reads bytes, and adds a line with how many items they are; where there is no memory the slice has to be as it was.
-pub(crate) fn read(found: &mut Found, bytes: &[u8], version: Version, seq: u64) -> Result<()> {
+pub(crate) fn read_batch(
+    found: &mut Found,
+    bytes: &[u8],
+    version: Version,
+    seq: u64,
+) -> Result<()> {
     let context = LogFileContext::new(FileId::new(LogQueue::Append, seq), version);
     let place = FileBlockHandle {
         id: context.id,

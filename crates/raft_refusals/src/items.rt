@@ -51,7 +51,7 @@ pub(crate) static ITEMS: [Call; 18] = [
 ];
 
 /// Reads what stands at the front of the bytes in this form.
-fn decode(alloc: Global, form: Form, buf: &mut &[u8], size: &mut u32) -> Result<Content> {
+fn decode_form(alloc: Global, form: Form, buf: &mut &[u8], size: &mut u32) -> Result<Content> {
     match form {
         Form::Command => Ok(Content::Command(Command::decode(alloc, buf)?)),
         Form::KeyValue => Ok(Content::KeyValue(KeyValue::decode(alloc, buf)?)),
@@ -61,7 +61,7 @@ fn decode(alloc: Global, form: Form, buf: &mut &[u8], size: &mut u32) -> Result<
 }
 
 /// Appends the bytes of what was read.
-fn encode(content: &Content, out: &mut Vec<u8>) -> Result<()> {
+fn encode_item(content: &Content, out: &mut Vec<u8>) -> Result<()> {
     match content {
         Content::Command(command) => command.encode(out),
         Content::KeyValue(pair) => pair.encode(out),
@@ -72,14 +72,14 @@ fn encode(content: &Content, out: &mut Vec<u8>) -> Result<()> {
 
 /// Reads bytes, and adds a line with them, written again after another byte. Where there is no memory slice and running
 /// offset have to be as they were, and that byte stands alone.
-pub(crate) fn read(found: &mut Found, form: Form, bytes: &[u8]) -> Result<()> {
+pub(crate) fn read_item(found: &mut Found, form: Form, bytes: &[u8]) -> Result<()> {
     let mut buf = bytes;
     let mut size = 0u32;
-    let read = decode(found.alloc, form, &mut buf, &mut size);
+    let read = decode_form(found.alloc, form, &mut buf, &mut size);
     found.look(!is_refused(&read) || buf == bytes && size == 0);
     let content = read?;
     let mut out = Vec::from_slice(found.alloc, b"!")?;
-    let answer = encode(&content, &mut out);
+    let answer = encode_item(&content, &mut out);
     found.look(!is_refused(&answer) || out.as_slice() == [b'!'].as_slice());
     answer?;
     found.bytes(out.as_slice())

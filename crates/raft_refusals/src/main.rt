@@ -89,10 +89,10 @@ fn main(rt: HostRuntime) -> io::Result<()> {
 fn print_row<R: Threads + Wait + Print + AllocGlobal + Sync>(rt: &R, row: &str) -> io::Result<()> {
     let mut found = Found::new(rt.alloc());
     println!(rt; "{row}:")?;
-    let mut answer = call(rt, row, &mut found);
+    let mut answer = call_row(rt, row, &mut found);
     if is_refused(&answer) && !found.is_in_vain {
         found.lines.clear();
-        answer = call(rt, row, &mut found);
+        answer = call_row(rt, row, &mut found);
     }
     if !found.stands {
         println!(rt; "left otherwise")?;
@@ -105,19 +105,19 @@ fn print_row<R: Threads + Wait + Print + AllocGlobal + Sync>(rt: &R, row: &str) 
 }
 
 /// Makes the calls of a row.
-fn call<R: Threads + Wait + Sync>(rt: &R, row: &str, found: &mut Found) -> Result<()> {
+fn call_row<R: Threads + Wait + Sync>(rt: &R, row: &str, found: &mut Found) -> Result<()> {
     match row {
-        "numbers" => numbers::encode(found),
-        "item-batches" => item_batches::encode(found),
+        "numbers" => numbers::encode_numbers(found),
+        "item-batches" => item_batches::encode_both(found),
         "item-batch-entries" => item_batches::add_entries(found),
-        "batch-merge" => batches::merge(found),
-        "groups" => batches::group(found),
+        "batch-merge" => batches::merge_two(found),
+        "groups" => batches::mark_group(found),
         "fetches" => tables::fetch_all(found),
-        "regions" => writes::regions(found),
-        "take" => writes::take(found),
+        "regions" => writes::call_at_regions(found),
+        "take" => writes::take_cleaned(found),
         "shared" => shared::call_all(rt, found),
-        "shared-take" => shared::take(rt, found),
-        "slot-take" => shared::slot(found),
+        "shared-take" => shared::take_cleaned(rt, found),
+        "slot-take" => shared::take_from_slot(found),
         _ => calls::make_all(rt, found, row),
     }
 }

@@ -3,8 +3,8 @@
 ghost use Rattle.raft_memtable.specs.Table.{IsCounted};
 
 use crate::calls::Call;
-use crate::found::{Found, is_refused, word};
-use crate::seen::number;
+use crate::found::{Found, is_refused, word_of};
+use crate::seen::number_of_table;
 use crate::tables::{Change, REGION, change_of, shape};
 use raft_memtable::{Error, GlobalStats, LogQueue, MemTable, Result};
 use std::alloc::Global;
@@ -199,7 +199,7 @@ impl Counted {
 
 /// Merges a newer table into an older one, and adds what that returns, and both tables then. The older one has to agree
 /// with its counts, also where there is no memory; both have to be as they were where the merge is refused otherwise.
-pub(crate) fn merge(
+pub(crate) fn merge_tables(
     found: &mut Found,
     older: &[Change],
     newer: &[Change],
@@ -207,16 +207,24 @@ pub(crate) fn merge(
 ) -> Result<()> {
     let mut older = Counted::after(found.alloc, older)?;
     let mut newer = Counted::after(found.alloc, newer)?.table;
-    let before = (number(&older.table), older.counts(), number(&newer));
+    let before = (
+        number_of_table(&older.table),
+        older.counts(),
+        number_of_table(&newer),
+    );
     let answer = older.merge(&mut newer, is_append);
     found.look(older.is_counted(LogQueue::Append) && older.is_counted(LogQueue::Rewrite));
     found.look(older.table.region_id() == REGION && newer.region_id() == REGION);
     if is_refused(&answer) {
         return answer;
     }
-    let after = (number(&older.table), older.counts(), number(&newer));
+    let after = (
+        number_of_table(&older.table),
+        older.counts(),
+        number_of_table(&newer),
+    );
     found.look(answer.is_ok() || after == before);
-    print_merged(found, word(&answer), &older, &newer)
+    print_merged(found, word_of(&answer), &older, &newer)
 }
 
 /// Adds lines with what a merge returned, and with both tables then.

@@ -47,8 +47,8 @@ fn numbers() -> &'static [Number] {
     &NUMBERS
 }
 
-/// Returns the bytes of each number, one after the other in one vector.
-pub(crate) fn encode(found: &mut Found) -> Result<()> {
+/// Adds a line with the bytes of all numbers, which are encoded one after the other into one vector.
+pub(crate) fn encode_numbers(found: &mut Found) -> Result<()> {
     let mut bytes = Vec::new(found.alloc);
     for number in numbers() {
         encode_again(found, &mut bytes, *number)?;
@@ -59,11 +59,11 @@ pub(crate) fn encode(found: &mut Found) -> Result<()> {
 /// Writes a number; where there is no memory that is `Io`, and the vector has to be as it was.
 fn encode_again(found: &mut Found, bytes: &mut Vec<u8>, number: Number) -> Result<()> {
     let before = Vec::from_slice(found.alloc, bytes.as_slice())?;
-    call_twice!(found; write(bytes, number); bytes.as_slice() == before.as_slice())
+    call_twice!(found; write_number(bytes, number); bytes.as_slice() == before.as_slice())
 }
 
 /// Writes a number; want of memory is handed on as `Memory`.
-fn write(bytes: &mut Vec<u8>, number: Number) -> Result<()> {
+fn write_number(bytes: &mut Vec<u8>, number: Number) -> Result<()> {
     match encode_one(bytes, number) {
         Err(codec::Error::Io(error)) if error.kind() == ErrorKind::OutOfMemory => {
             Err(Error::Memory)

@@ -42,7 +42,7 @@ fn halves(len: usize) -> (&'static [u8], &'static [u8]) {
 }
 
 /// Returns the part that has the first `len` of the bytes.
-fn part(alloc: Global, version: Version, len: usize) -> Result<FilePart> {
+fn part_of_first(alloc: Global, version: Version, len: usize) -> Result<FilePart> {
     let (front, _) = halves(len);
     let bytes = Vec::from_slice(alloc, front)?;
     FilePart::new(FileId::new(LogQueue::Append, 12), version, 0, bytes)
@@ -51,7 +51,7 @@ fn part(alloc: Global, version: Version, len: usize) -> Result<FilePart> {
 /// Adds a line with how many items a batch has, and where it ends.
 pub(crate) fn next(found: &mut Found, len: usize, at: usize) -> Result<()> {
     let alloc = found.alloc;
-    let part = part(alloc, Version::V1, len)?;
+    let part = part_of_first(alloc, Version::V1, len)?;
     if at > part.bytes().len() {
         return Err(Error::Failed);
     }
@@ -65,7 +65,7 @@ pub(crate) fn next(found: &mut Found, len: usize, at: usize) -> Result<()> {
 }
 
 /// Adds a line with what a header says; where there is no memory the slice has to be as it was.
-pub(crate) fn header(found: &mut Found, len: usize) -> Result<()> {
+pub(crate) fn read_header(found: &mut Found, len: usize) -> Result<()> {
     let alloc = found.alloc;
     let (bytes, _) = halves(len);
     let mut buf = bytes;
@@ -76,7 +76,7 @@ pub(crate) fn header(found: &mut Found, len: usize) -> Result<()> {
 }
 
 /// Adds a line with the entry bytes of a block of this length.
-pub(crate) fn block(found: &mut Found, len: usize) -> Result<()> {
+pub(crate) fn read_entry_block(found: &mut Found, len: usize) -> Result<()> {
     let place = FileBlockHandle {
         id: FileId::new(LogQueue::Append, 12),
         offset: 16,
@@ -89,12 +89,12 @@ pub(crate) fn block(found: &mut Found, len: usize) -> Result<()> {
 }
 
 /// Cuts a part at its second batch, clones the rest, and cuts the part in as many parts as it has batches.
-pub(crate) fn cut(found: &mut Found, version: Version) -> Result<()> {
+pub(crate) fn cut_by_batches(found: &mut Found, version: Version) -> Result<()> {
     let alloc = found.alloc;
-    let mut front = part(alloc, version, 58)?;
-    let rest = split(found, &mut front)?;
+    let mut front = part_of_first(alloc, version, 58)?;
+    let rest = split_part(found, &mut front)?;
     let clone = rest.clone()?;
-    let parts = cut_part(alloc, part(alloc, version, 58)?, 8)?;
+    let parts = cut_part(alloc, part_of_first(alloc, version, 58)?, 8)?;
     let (version, offset, len) = (clone.version(), clone.offset(), clone.bytes().len());
     found.line(format!(in alloc;
         "version {version} rest at {offset} of {len}, parts {}",
@@ -104,7 +104,7 @@ pub(crate) fn cut(found: &mut Found, version: Version) -> Result<()> {
 }
 
 /// Cuts a part; where there is no memory it has to be as it was.
-fn split(found: &mut Found, front: &mut FilePart) -> Result<FilePart> {
+fn split_part(found: &mut Found, front: &mut FilePart) -> Result<FilePart> {
     let at = front.bytes().len().min(34);
     let answer = front.split_off(at);
     found.look(!is_refused(&answer) || front.bytes() == BYTES && front.offset() == 0);

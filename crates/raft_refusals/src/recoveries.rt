@@ -3,7 +3,7 @@
 use crate::calls::Call;
 use crate::found::Found;
 use crate::histories::{APPENDED, FIVE, History, NONE, REWRITTEN, batch_segments};
-use crate::writes::print;
+use crate::writes::print_tables;
 use raft_memtable::{
     Error, LogQueue, MemTableAccessor, MemTableRecoverContext, MemTableRecoverContextFactory,
     Result,
@@ -96,7 +96,7 @@ pub(crate) fn recover_history<R: Threads + Sync>(
 ) -> Result<()> {
     let segments = batch_segments(found.alloc, history.queue, history.batches)?;
     let tables = tables_of(rt, found.alloc, segments.as_slice(), history.queue, how)?;
-    print(found, &tables)
+    print_tables(found, &tables)
 }
 
 /// Returns the tables of segments, recovered in this way.

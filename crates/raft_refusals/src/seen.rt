@@ -19,7 +19,7 @@ pub(crate) fn show_tables(tables: &MemTableAccessor) -> Seen {
     Seen {
         records: tables.fold(
             0u64,
-            |sum, table: &MemTable| sum.wrapping_add(number(table)),
+            |sum, table: &MemTable| sum.wrapping_add(number_of_table(table)),
         ),
         tables: tables.fold(0u64, |count, _: &MemTable| count.wrapping_add(1)),
         counts: (
@@ -66,7 +66,7 @@ fn with_entry(all: u64, entry: EntryIndex) -> u64 {
 
 /// Returns a table in one number: its entries with their places, its keys with their values, and its group. What has
 /// none of these is 0.
-pub(crate) fn number(table: &MemTable) -> u64 {
+pub(crate) fn number_of_table(table: &MemTable) -> u64 {
     let group = match table.atomic_group() {
         Some((start, end)) => combine(combine(1, start), end),
         None => 0,

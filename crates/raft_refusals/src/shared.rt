@@ -1,9 +1,9 @@
 //! Calls of tables that threads share, and of one slot.
 
 use crate::found::{Found, call_twice};
-use crate::seen::{number, of_regions};
+use crate::seen::{number_of_table, of_regions};
 use crate::steps::{Step, written_batch};
-use crate::tables::put;
+use crate::tables::put_of;
 use crate::writes::{Call, THIRD, Write, print_regions, tables_of};
 use raft_memtable::{Error, FileId, FileSeq, LogQueue, MemTable, Result, slot_of};
 use raft_records::LogBatch;
@@ -49,7 +49,7 @@ fn show_shared<R: Wait>(rt: &R, shared: &SharedAccessor) -> SharedSeen {
         shared.fold(
             rt,
             0u64,
-            |sum, table: &MemTable| sum.wrapping_add(number(table)),
+            |sum, table: &MemTable| sum.wrapping_add(number_of_table(table)),
         ),
         shared.live_entries(rt, LogQueue::Append),
         shared.live_entries(rt, LogQueue::Rewrite),
@@ -93,9 +93,9 @@ fn call_again<R: Wait>(
 /// Makes a call.
 fn call_at<R: Wait>(rt: &R, alloc: Global, shared: &SharedAccessor, call: Call) -> Result<()> {
     match call {
-        Call::Write(how, seq, step) => write(rt, alloc, shared, how, seq, step),
+        Call::Write(how, seq, step) => write_item(rt, alloc, shared, how, seq, step),
         Call::Put(id) => {
-            shared.change(rt, id, put(alloc, b"k", THIRD)?)?;
+            shared.change(rt, id, put_of(alloc, b"k", THIRD)?)?;
             Ok(())
         }
         Call::Make(id) => shared.get_or_insert(rt, id),
@@ -115,7 +115,7 @@ fn call_at<R: Wait>(rt: &R, alloc: Global, shared: &SharedAccessor, call: Call) 
 }
 
 /// Writes an item to the tables, as one of the file `seq`.
-fn write<R: Wait>(
+fn write_item<R: Wait>(
     rt: &R,
     alloc: Global,
     shared: &SharedAccessor,
@@ -142,7 +142,7 @@ fn cleaned_tables<R: Wait>(rt: &R, alloc: Global) -> Result<SharedAccessor> {
 
 /// Takes the cleaned regions into a batch, a second time where there was no memory: none is lost then, and none is
 /// there more often than it was listed.
-pub(crate) fn take<R: Wait>(rt: &R, found: &mut Found) -> Result<()> {
+pub(crate) fn take_cleaned<R: Wait>(rt: &R, found: &mut Found) -> Result<()> {
     let shared = cleaned_tables(rt, found.alloc)?;
     let mut logs = LogBatch::default(found.alloc);
     call_twice!(found; take_into(rt, &shared, &mut logs); true)?;
@@ -161,9 +161,9 @@ fn take_into<R: Wait>(rt: &R, shared: &SharedAccessor, logs: &mut LogBatch) -> R
     shared.take_cleaned_region_logs(rt, logs)
 }
 
-/// Returns a slot whose region is cleaned twice: list and batch have to be as they were where there is no
-/// memory.
-pub(crate) fn slot(found: &mut Found) -> Result<()> {
+/// Takes the cleaned regions of a slot, whose region is cleaned twice, into a batch: where there is no memory list and batch have
+/// to be as they were.
+pub(crate) fn take_from_slot(found: &mut Found) -> Result<()> {
     let mut slot = Slot::new(found.alloc, slot_of(3));
     list_region(&mut slot)?;
     list_region(&mut slot)?;

@@ -28,7 +28,7 @@ pub(crate) enum Step {
 }
 
 /// Adds a step to an open batch.
-pub(crate) fn add(alloc: Global, batch: &mut LogBatch, step: Step) -> Result<()> {
+pub(crate) fn add_step(alloc: Global, batch: &mut LogBatch, step: Step) -> Result<()> {
     if !batch.is_open() {
         return Err(Error::Failed);
     }
@@ -42,7 +42,7 @@ pub(crate) fn add(alloc: Global, batch: &mut LogBatch, step: Step) -> Result<()>
         Step::Clean(region) => batch.add_command(region, Command::Clean),
         Step::Compact(region, index) => batch.add_command(region, Command::Compact { index }),
         Step::Truncate(region, index) => batch.add_command(region, Command::Truncate { index }),
-        Step::Put(region, key, value) => put(alloc, batch, region, key, value),
+        Step::Put(region, key, value) => put_value(alloc, batch, region, key, value),
         Step::PutMessage(region, key, text) => {
             let value = message(alloc, text)?;
             batch.put_message(region, Vec::from_slice(alloc, key)?, &value)
@@ -63,7 +63,13 @@ pub(crate) fn message(alloc: Global, text: &[u8]) -> Result<Proposal> {
 /// # Errors
 ///
 /// `Failed` for a batch that isn't open; those of [`LogBatch::put`].
-fn put(alloc: Global, batch: &mut LogBatch, region: u64, key: &[u8], value: &[u8]) -> Result<()> {
+fn put_value(
+    alloc: Global,
+    batch: &mut LogBatch,
+    region: u64,
+    key: &[u8],
+    value: &[u8],
+) -> Result<()> {
     if !batch.is_open() {
         return Err(Error::Failed);
     }
@@ -144,7 +150,7 @@ fn add_marker(
 pub(crate) fn batch_of(alloc: Global, steps: &[Step]) -> Result<LogBatch> {
     let mut batch = LogBatch::default(alloc);
     for step in steps {
-        add(alloc, &mut batch, *step)?;
+        add_step(alloc, &mut batch, *step)?;
     }
     Ok(batch)
 }

@@ -1,7 +1,7 @@
 //! Changes of a table, and what is fetched of it.
 
 use crate::calls::Call;
-use crate::found::{Found, call_twice, is_refused, word};
+use crate::found::{Found, call_twice, is_refused, word_of};
 use crate::seen::show_tables;
 use raft_memtable::{
     EntryIndex, Error, FileBlockHandle, FileId, FileSeq, LogQueue, MemTable, MemTableAccessor,
@@ -87,7 +87,7 @@ pub(crate) fn change_all(found: &mut Found, changes: &[Change]) -> Result<()> {
 fn change_again(found: &mut Found, tables: &mut MemTableAccessor, change: Change) -> Result<()> {
     let before = show_tables(tables);
     let answer =
-        call_twice!(found; apply(found.alloc, tables, change); show_tables(tables) == before);
+        call_twice!(found; apply_change(found.alloc, tables, change); show_tables(tables) == before);
     if is_refused(&answer) {
         return Err(Error::Memory);
     }
@@ -95,14 +95,14 @@ fn change_again(found: &mut Found, tables: &mut MemTableAccessor, change: Change
     print_answer(found, &answer, tables)
 }
 
-/// Returns the word or the number of a result, the first index and the one past the last, how many blocks
+/// Adds a line with the word or the number of a result, the first index and the one past the last, how many blocks
 /// there are, the live number of the append queue, those of the rewrite queue that were written and deleted,
 /// and the least files, 0 for none.
 fn print_answer(found: &mut Found, answer: &Result<u64>, tables: &MemTableAccessor) -> Result<()> {
     let alloc = found.alloc;
     let (is, number) = match answer {
         Ok(number) => ("dropped", *number),
-        Err(_) => (word(answer), 0),
+        Err(_) => (word_of(answer), 0),
     };
     let stats = tables.stats();
     let live = stats.live_entries(LogQueue::Append);
@@ -127,7 +127,7 @@ pub(crate) fn shape(table: &MemTable) -> (u64, u64, usize, FileSeq, FileSeq) {
 }
 
 /// Makes a change of the region's table.
-fn apply(alloc: Global, tables: &mut MemTableAccessor, change: Change) -> Result<u64> {
+fn apply_change(alloc: Global, tables: &mut MemTableAccessor, change: Change) -> Result<u64> {
     let change = change_of(alloc, change)?;
     tables.change(REGION, change)
 }
@@ -136,13 +136,13 @@ fn apply(alloc: Global, tables: &mut MemTableAccessor, change: Change) -> Result
 pub(crate) fn change_of(alloc: Global, change: Change) -> Result<TableChange> {
     Ok(match change {
         Change::Append(start, end, seq) => {
-            TableChange::Append(run(alloc, start, end, FileId::new(LogQueue::Append, seq))?)
+            TableChange::Append(run_between(alloc, start, end, FileId::new(LogQueue::Append, seq))?)
         }
         Change::Rewrite(start, end, seq, gate) => TableChange::Rewrite {
-            entries: run(alloc, start, end, FileId::new(LogQueue::Rewrite, seq))?,
+            entries: run_between(alloc, start, end, FileId::new(LogQueue::Rewrite, seq))?,
             gate,
         },
-        Change::Put(key, seq) => put(alloc, key, FileId::new(LogQueue::Append, seq))?,
+        Change::Put(key, seq) => put_of(alloc, key, FileId::new(LogQueue::Append, seq))?,
         Change::RewriteKey(key, gate, seq) => TableChange::RewriteKey {
             key: Vec::from_slice(alloc, key)?,
             gate,
@@ -157,7 +157,7 @@ pub(crate) fn change_of(alloc: Global, change: Change) -> Result<TableChange> {
 }
 
 /// Returns the change that puts a value of a key, in this file.
-pub(crate) fn put(alloc: Global, key: &[u8], file_id: FileId) -> Result<TableChange> {
+pub(crate) fn put_of(alloc: Global, key: &[u8], file_id: FileId) -> Result<TableChange> {
     let value = Vec::from_slice(alloc, b"v")?;
     Ok(TableChange::Put {
         key: Vec::from_slice(alloc, key)?,
@@ -167,7 +167,7 @@ pub(crate) fn put(alloc: Global, key: &[u8], file_id: FileId) -> Result<TableCha
 }
 
 /// Makes entries of a byte from `start` to below `end`, in one block of a file.
-fn run(alloc: Global, start: u64, end: u64, id: FileId) -> Result<Vec<EntryIndex>> {
+fn run_between(alloc: Global, start: u64, end: u64, id: FileId) -> Result<Vec<EntryIndex>> {
     let mut run = Vec::new(alloc);
     for index in start..end {
         run.push(EntryIndex {
@@ -226,7 +226,7 @@ static FETCHED: [Change; 8] = [
 fn fetched_table(alloc: Global) -> Result<MemTableAccessor> {
     let mut tables = MemTableAccessor::new(alloc)?;
     for change in &FETCHED {
-        apply(alloc, &mut tables, *change)?;
+        apply_change(alloc, &mut tables, *change)?;
     }
     Ok(tables)
 }
@@ -246,7 +246,7 @@ fn lengths() -> &'static [(&'static [u32], Fetch)] {
 fn table_of_lengths(alloc: Global, lengths: &[u32]) -> Result<MemTableAccessor> {
     let mut tables = MemTableAccessor::new(alloc)?;
     let end = 10u64.saturating_add(lengths.len() as u64);
-    let mut run = run(alloc, 10, end, FileId::new(LogQueue::Append, 1))?;
+    let mut run = run_between(alloc, 10, end, FileId::new(LogQueue::Append, 1))?;
     for (entry, length) in run.iter_mut().zip(lengths) {
         entry.entry_len = *length;
     }
@@ -254,7 +254,7 @@ fn table_of_lengths(alloc: Global, lengths: &[u32]) -> Result<MemTableAccessor> 
     Ok(tables)
 }
 
-/// Returns how many entries are fetched, and the last of them; how many keys.
+/// Adds a line for each fetch: how many entries it gives, and the last of them; how many keys.
 pub(crate) fn fetch_all(found: &mut Found) -> Result<()> {
     let tables = fetched_table(found.alloc)?;
     let Some(table) = tables.get(REGION) else {
@@ -295,7 +295,7 @@ fn fetch_entries(found: &mut Found, table: &MemTable, fetch: Fetch) -> Result<()
     }
     let alloc = found.alloc;
     let last = vec.last().map_or(0, |entry| entry.index);
-    found.line(format!(in alloc; "{} {} last {last}", word(&answer), vec.len())?.as_str())
+    found.line(format!(in alloc; "{} {} last {last}", word_of(&answer), vec.len())?.as_str())
 }
 
 /// Fetches pairs, those that are rewritten where there is no gate; none is there where that is refused.

@@ -1,10 +1,10 @@
 //! Items that are written to the tables of several regions, calls at one region, and tables that are merged.
 
 use crate::calls;
-use crate::found::{Found, call_twice, is_refused, word};
+use crate::found::{Found, call_twice, is_refused, word_of};
 use crate::seen::{are_counted, show_tables};
 use crate::steps::{Step, written_batch};
-use crate::tables::put;
+use crate::tables::put_of;
 use raft_memtable::{
     Error, FileId, FileSeq, LogBatch, LogQueue, MemTable, MemTableAccessor, Result,
 };
@@ -100,9 +100,9 @@ pub(crate) fn write_all(found: &mut Found, calls: &[Call]) -> Result<()> {
         if is_refused(&answer) {
             return answer;
         }
-        found.line(word(&answer))?;
+        found.line(word_of(&answer))?;
     }
-    print(found, &tables)
+    print_tables(found, &tables)
 }
 
 /// Makes a call; where there is no memory tables, counts and list have to be as they were, but for a table without
@@ -123,7 +123,7 @@ fn call_at(alloc: Global, tables: &mut MemTableAccessor, call: Call) -> Result<(
     match call {
         Call::Write(how, seq, step) => write_one(alloc, tables, how, seq, step),
         Call::Put(id) => {
-            tables.change(id, put(alloc, b"k", THIRD)?)?;
+            tables.change(id, put_of(alloc, b"k", THIRD)?)?;
             Ok(())
         }
         Call::Make(id) => {
@@ -164,7 +164,7 @@ fn write_one(
 }
 
 /// Adds the lines of tables.
-pub(crate) fn print(found: &mut Found, tables: &MemTableAccessor) -> Result<()> {
+pub(crate) fn print_tables(found: &mut Found, tables: &MemTableAccessor) -> Result<()> {
     let text = recovered_text(found.alloc, tables)?;
     found.line(text.as_str())
 }
@@ -179,13 +179,13 @@ pub(crate) fn tables_of(alloc: Global, calls: &[Call]) -> Result<MemTableAccesso
 }
 
 /// Takes the cleaned regions as a batch; where there is no memory list and tables have to be as they were.
-pub(crate) fn take(found: &mut Found) -> Result<()> {
+pub(crate) fn take_cleaned(found: &mut Found) -> Result<()> {
     let mut tables = tables_of(found.alloc, CLEANED)?;
     let before = show_tables(&tables);
     let logs =
         call_twice!(found; tables.take_cleaned_region_logs(); show_tables(&tables) == before)?;
     print_regions(found, logs)?;
-    print(found, &tables)
+    print_tables(found, &tables)
 }
 
 /// Adds a line with the regions of a batch's items.
@@ -207,7 +207,7 @@ static CALLS: [Call; 6] = [
 ];
 
 /// Makes calls at regions, and shows the tables after the last.
-pub(crate) fn regions(found: &mut Found) -> Result<()> {
+pub(crate) fn call_at_regions(found: &mut Found) -> Result<()> {
     let mut tables = tables_of(found.alloc, REWRITTEN)?;
     for call in &CALLS {
         call_again(found, &mut tables, *call)?;
@@ -215,7 +215,7 @@ pub(crate) fn regions(found: &mut Found) -> Result<()> {
     let all = tables.tables()?.len();
     let alloc = found.alloc;
     found.line(format!(in alloc; "{all} tables")?.as_str())?;
-    print(found, &tables)
+    print_tables(found, &tables)
 }
 
 pub(crate) static MERGES: [calls::Call; 6] = [
@@ -266,7 +266,7 @@ pub(crate) static MERGES: [calls::Call; 6] = [
 
 /// Merges newer tables into older ones, and adds what that returns, and the tables then. They have to agree with their
 /// counts, also where there is no memory.
-pub(crate) fn merge(
+pub(crate) fn merge_accessors(
     found: &mut Found,
     older: &[Call],
     newer: &[Call],
@@ -283,6 +283,6 @@ pub(crate) fn merge(
     if is_refused(&answer) {
         return answer;
     }
-    found.line(word(&answer))?;
-    print(found, &tables)
+    found.line(word_of(&answer))?;
+    print_tables(found, &tables)
 }

@@ -2,7 +2,7 @@
 
 ghost use Rattle.std.specs.Prelude.{◌≡◌, IfErr, OnOk};
 ghost use Rattle.std.specs.Io.KnownBytes.{Appends};
-ghost use Rattle.raft_report.specs.Faults.{IsOutputFault, IsPrintFault};
+ghost use Rattle.raft_report.specs.Faults.{IsOutputFault};
 
 use raft_base::Error;
 use std::alloc::{AllocError, AllocFailed};
@@ -63,8 +63,7 @@ impl<T: Drop> From<AllocFailed<T>> for PrintError {
 /// `Output`. Some of the text may then be written.
 pub fn write_text<W: Write>(out: &mut W, text: &str) -> PrintResult<()>
     ensures ok { OnOk result (Appends (W.contents out.old) (W.contents out.new) text.now) }
-    ensures fault { IfErr result IsPrintFault }
-    ensures output { IfErr result IsOutputFault }
+    ensures fault { IfErr result IsOutputFault }
 {
     match out.write_all(text.as_bytes()) {
         Ok(()) => Ok(()),

@@ -7,7 +7,7 @@ ghost use Rattle.raft_records.specs.LogBatch.{is_open};
 ghost use Rattle.raft_engine.specs.ReadContexts.{HaveReadFound};
 ghost use Rattle.raft_engine.specs.StoredFound.{found_asks};
 
-use raft_engine::{CutTail, Engine, Opened, Recovered, RecoveryMode, Unopened};
+use raft_engine::{CutTail, DamagedBatch, Engine, Opened, Recovered, RecoveryMode, Unopened};
 use raft_files::{EngineFiles, MemoryFiles, NotesFound};
 use raft_opening::open_in_pieces;
 use raft_reading::{FileSize, ReadFiles};
@@ -191,6 +191,19 @@ fn append_of_recovered(recovered: Recovered) -> Option<CutTail> {
 fn error_of_cut_tail(tail: CutTail) -> Error {
     let _place: (FileSeq, u64, u64) = (tail.file, tail.offset, tail.len);
     tail.error
+}
+
+/// Returns what an opening told, and its engine.
+fn engine_of_opened<F: EngineFiles>(
+    opened: Opened<F>,
+) -> (Engine<F>, Recovered, Vec<DamagedBatch>) {
+    (opened.engine, opened.recovered, opened.damaged)
+}
+
+/// Returns the refusal of the entries of a batch.
+fn error_of_damaged_batch(batch: DamagedBatch) -> Error {
+    let _place: (FileSeq, u64) = (batch.file, batch.offset);
+    batch.error
 }
 
 /// Opens an engine over files that contexts have read.

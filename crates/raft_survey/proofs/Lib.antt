@@ -1,8 +1,5 @@
 pub mod WalkedLemmas
 pub mod SoundLemmas
-pub mod BothLemmas
-pub mod RowLemmas
-pub mod WholeLemmas
 pub mod SeenLemmas
 pub mod FaultLemmas
 pub mod TextLemmas

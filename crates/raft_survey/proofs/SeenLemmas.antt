@@ -33,7 +33,7 @@ module _ {V U : Type 0} (see : V → U) (Holds : V → Type 0) (Visits : V → P
   file_seen : (Gives : ℕ → List ℕ → Type 0) (file : LogFileContext) (len : ℕ) (old new : V) → Holds old → HasWalkedFile Visits Gives file len old new → HasWalkedFile Sees Gives file len (see old) (see new) × Holds new
   file_seen Gives file len old new holds walked =
       let all = parts_seen file 0 (walked.parts ++ walked.last ∷ []) old new holds walked.walked in (
-        record { bytes = walked.bytes; read = walked.read; whole = walked.whole; parts = walked.parts; last = walked.last; cut = walked.cut; all = walked.all; walked = all.0 },
+        record { bytes = walked.bytes; read = walked.read; inside = walked.inside; whole = walked.whole; parts = walked.parts; last = walked.last; cut = walked.cut; all = walked.all; walked = all.0 },
         all.1,
       )
 

@@ -1,5 +1,5 @@
 -- Files of which scans say nothing are sound.
-use Rattle.std.proofs.Common.{◌≡◌, ℕ, ◌+◌, List, [], ◌∷◌, ◌++◌, length, refl, sym, ap, ◌∙◌, subst, append_assoc, append-nil}
+use Rattle.std.proofs.Common.{◌≡◌, ◌⊎◌, inl, inr, ℕ, ◌+◌, ◌-◌, arith, List, [], ◌∷◌, ◌++◌, length, refl, sym, ap, ◌∙◌, subst, append_assoc, append-nil}
 use Rattle.std.specs.List.{AllByRecursion}
 use Rattle.raft_base.specs.declared.pipe_log.FileId.{FileId}
 use Rattle.raft_base.specs.declared.pipe_log.LogFileContext.{LogFileContext}
@@ -7,15 +7,18 @@ use Rattle.raft_base.specs.declared.pipe_log.LogQueue.{LogQueue}
 use Rattle.raft_base.specs.declared.pipe_log.Version.{Version}
 use Rattle.raft_records.specs.FilePart.{Part, part_of}
 use Rattle.raft_records.specs.Item.{Item, Content, entries, command, pair}
+use Rattle.raft_records.proofs.FramedAt.{framed_at}
+use Rattle.raft_records.proofs.PartLemmas.{batch_inside}
+use Rattle.raft_replay.proofs.CutPartLemmas.{batch_header, header_ends}
 use Rattle.raft_reading.specs.QueueRead.{file_of}
 use Rattle.raft_reading.specs.declared.queue_files.FileSize.{FileSize}
 use Rattle.raft_listing.specs.Scanned.{AreSaidOf, IsSaidOfContent, IsScanned}
-use Rattle.raft_listing.specs.SoundParts.{AreRead, IsContentRead, AreSoundBetween}
+use Rattle.raft_listing.specs.SoundParts.{AreRead, IsContentRead, AreSoundBetween, IsSoundPart}
 use Rattle.raft_listing.specs.Walks.{AreVisited, IsWalkFrom, Met, batch, damage}
 use Rattle.raft_listing.specs.declared.damage.DamageKind.TheVariants.{Batch}
 use Rattle.raft_listing.specs.declared.scan.FileScan.{FileScan}
 use Rattle.raft_survey.specs.FileScans.{AreScansOf, IsScanOf}
-use Rattle.raft_survey.specs.FileWalks.{AreWalkedFrom, HasWalkedFile}
+use Rattle.raft_survey.specs.FileWalks.{AreWalkedFrom, HasWalkedFile, LeadsNowhere}
 use Rattle.raft_survey.specs.SoundFiles.{AreSoundFiles, AreSoundParts, IsSoundFile}
 
 -- where nothing stands together, nothing stands in either part
@@ -80,6 +83,29 @@ parts_sound file offset (bytes ∷ parts) old new walked none = (
   parts_sound file (offset + length bytes) parts walked.0 new walked.2 none,
 )
 
+-- the last of sound parts is sound
+last_sound : (file : LogFileContext) (offset : ℕ) (parts : List (List ℕ)) (last : List ℕ) → AreSoundParts file offset (parts ++ last ∷ []) → (at : ℕ) × IsSoundPart (part_of file at last)
+last_sound file offset [] last sound = (offset, sound.0)
+last_sound file offset (bytes ∷ parts) last sound = last_sound file (offset + length bytes) parts last sound.1
+
+-- no header leads nowhere in front of batches
+leads_on : (part : Part) (left : ℕ) → LeadsNowhere part.bytes left → IsSoundPart part → ⊥
+leads_on part left nowhere ([], ends) = let room = nowhere.room in absurd (omega (arith, room, ends))
+leads_on part left nowhere (items ∷ batches, sound) =
+    let next = sound.0 in
+    let b = sound.1 in
+    let header = batch_header part 0 items next b in
+    let len = length (framed_at b).bytes in
+    let long = nowhere.nowhere (framed_at b).offset len header in
+    let ends : next ≡ 0 + len = header_ends part 0 next (framed_at b).offset len items header b in
+    let inside = batch_inside part 0 items next b in
+    absurd (omega (arith, long, ends, inside.1))
+
+-- so all bytes of a file were shown, if the last part is sound
+whole_read : (file : LogFileContext) (parts : List (List ℕ)) (last : List ℕ) (read len : ℕ) → (read ≡ len) ⊎ LeadsNowhere last (len - read) → AreSoundParts file 0 (parts ++ last ∷ []) → read ≡ len
+whole_read file parts last read len (inl whole) sound = whole
+whole_read file parts last read len (inr nowhere) sound = let s = last_sound file 0 parts last sound in absurd (leads_on (part_of file s.0 last) (len - read) nowhere s.1)
+
 -- the context of a file
 pub context_of : (version : Version) (file : LogFileContext) (id made : FileId) → file ≡ record { id = id; version = version } → id ≡ made → file ≡ record { id = made; version = version }
 context_of version file id made is same = is ∙ ap (λ (i : FileId). record { id = i; version = version }) same
@@ -88,14 +114,18 @@ module _ (Gives : FileId → ℕ → List ℕ → Type 0) (queue : LogQueue) (ve
   -- of a file
   file_sound : (size : FileSize) (scan : FileScan) → IsScanOf Gives queue version size scan → scan.damages.items ≡ []
       → IsSoundFile (Gives (file_of queue size.seq)) (record { id = file_of queue size.seq; version = version }) size.len
-  file_sound size scan is none = record {
-    bytes = is.walked.bytes;
-    read = is.walked.read;
-    whole = is.walked.whole;
-    parts = is.walked.parts ++ is.walked.last ∷ [];
-    all = is.walked.all;
-    sound = parts_sound (record { id = file_of queue size.seq; version = version }) 0 (is.walked.parts ++ is.walked.last ∷ []) is.first scan is.walked.walked none;
-  }
+  file_sound size scan is none =
+      let file : LogFileContext = record { id = file_of queue size.seq; version = version } in
+      let w = is.walked in
+      let sound = parts_sound file 0 (w.parts ++ w.last ∷ []) is.first scan w.walked none in
+      record {
+        bytes = w.bytes;
+        read = w.read;
+        whole = whole_read file w.parts w.last (length w.bytes) size.len w.whole sound;
+        parts = w.parts ++ w.last ∷ [];
+        all = w.all;
+        sound = sound;
+      }
 
   -- a scan that has seen nothing yet, and was shown the file
   pub scan_of : (size : FileSize) (file : LogFileContext) (begun scan : FileScan) → file ≡ record { id = file_of queue size.seq; version = version } → begun.batches ≡ 0 → begun.read ≡ size.len → begun.unseen ≡ 0 → begun.damages.items ≡ [] → begun.seq ≡ size.seq → begun.len ≡ size.len

@@ -1,5 +1,5 @@
 -- A file that is walked through piece by piece, as far as it was read and shown.
-use Rattle.std.proofs.Common.{◌≡◌, ℕ, ◌+◌, ◌≤◌, List, [], ◌∷◌, ◌++◌, length, take, drop, take-append-drop, length-take-le, ◌-◌, refl, sym, ap, ◌∙◌, subst, arith, append_assoc, append-nil, length-append}
+use Rattle.std.proofs.Common.{◌≡◌, ◌⊎◌, inl, inr, ℕ, ◌+◌, ◌<◌, ◌≤◌, List, [], ◌∷◌, ◌++◌, length, take, drop, take-append-drop, length-take-le, ◌-◌, refl, sym, ap, ◌∙◌, subst, arith, append_assoc, append-nil, length-append}
 use Rattle.std.proofs.Math.Seq.{take-append-add}
 use Rattle.std.specs.List.{AllByRecursion}
 use Rattle.raft_base.specs.declared.errors.Error.{Error}
@@ -10,7 +10,8 @@ use Rattle.raft_reading.specs.FilesRead.{AreRead, IsAppended, IsReadFault, IsUnr
 use Rattle.raft_reading.specs.IoErrors.{IoError}
 use Rattle.raft_reading.proofs.PieceLemmas.{none_read, read_more}
 use Rattle.raft_listing.specs.Walks.{HasWalked, Met}
-use Rattle.raft_survey.specs.FileWalks.{AreBatchesByHeader, AreWalkedFrom, HasWalkedFile, IsBatchByHeader, IsPrefixWalked, IsRestWalked}
+use Rattle.raft_prefix.specs.Pieces.{IsDecided}
+use Rattle.raft_survey.specs.FileWalks.{AreBatchesByHeader, AreWalkedFrom, HasNoWhole, HasWalkedFile, IsBatchByHeader, IsPrefixWalked, LeadsNowhere}
 
 -- bytes are their first ones, and behind them the others
 pub split_again : (whole : ℕ) (old mid rest front left : List ℕ) → mid ≡ take whole old → rest ≡ drop whole old → front ≡ mid → left ≡ rest → old ≡ front ++ left
@@ -21,6 +22,10 @@ split_again whole old mid rest front left first others same behind =
 pub cut_again : (whole : ℕ) (old mid front : List ℕ) → mid ≡ take whole old → front ≡ mid → AreBatchesByHeader (take whole old) → AreBatchesByHeader front
 cut_again whole old mid front first same are = subst AreBatchesByHeader (sym first ∙ sym same) are
 
+-- so have those that are left
+pub none_again : (whole : ℕ) (old rest left : List ℕ) → rest ≡ drop whole old → left ≡ rest → HasNoWhole (drop whole old) → HasNoWhole left
+none_again whole old rest left others behind none = subst HasNoWhole (sym others ∙ sym behind) none
+
 -- pieces behind pieces
 joined_both : (ps qs : List (List ℕ)) → joined (ps ++ qs) ≡ joined ps ++ joined qs
 joined_both [] qs = refl
@@ -30,6 +35,21 @@ joined_both (p ∷ ps) qs = ap (λ (t : List ℕ). p ++ t) (joined_both ps qs) �
 all_both : {X : Type 0} (P : X → Type 0) (xs ys : List X) → AllByRecursion P xs → AllByRecursion P ys → AllByRecursion P (xs ++ ys)
 all_both P [] ys first second = second
 all_both P (x ∷ xs) ys first second = (first.0, all_both P xs ys first.1 second)
+
+-- ---- where a file isn't read on
+
+-- no more bytes are wanted behind a piece without a whole batch in front: there are none, or no header leads on
+leads_nowhere : (piece : List ℕ) (left : ℕ) → HasNoWhole piece → IsDecided piece left → (left ≡ 0) ⊎ LeadsNowhere piece left
+leads_nowhere piece left none (inl end) = inl end
+leads_nowhere piece left none (inr decided) = inr (record { room = decided.0; nowhere = λ offset len h. longer (decided.1 offset len h) (none.none offset len h) })
+  where
+    longer : {len : ℕ} → (len ≤ length piece) ⊎ (length piece + left < len) → length piece < len → length piece + left < len
+    longer (inl whole) short = absurd (omega (arith, whole, short))
+    longer (inr long) short = long
+
+file_ends : (piece : List ℕ) (read left len : ℕ) → read + left ≡ len → (left ≡ 0) ⊎ LeadsNowhere piece left → (read ≡ len) ⊎ LeadsNowhere piece (len - read)
+file_ends piece read left len room (inl none) = inl (omega (arith, room, none))
+file_ends piece read left len room (inr nowhere) = let behind : len - read ≡ left = omega (arith, room) in inr (subst (LeadsNowhere piece) (sym behind) nowhere)
 
 -- ---- batches by their headers
 
@@ -154,25 +174,20 @@ module _ {V : Type 0} (Visits : V → Part → ℕ → Met → V → Type 0) (fi
           fault = subst (λ (n : ℕ). IsReadFault (Gives n) (Fails n) asked e) place fault;
         }
 
-    -- the piece is the rest of the file, and is shown
-    pub finished : (at : ℕ) (piece : List ℕ) (now last : V) → IsReading at piece now → at + length piece ≡ len → HasWalked Visits (part_of file at piece) now last → HasWalkedFile Visits Gives file len first last
-    finished at piece now last reading whole shown =
+    -- the piece is shown, and it is the rest of the file, or no header leads on in front of it
+    pub finished : (at left : ℕ) (piece : List ℕ) (now last : V) → IsReading at piece now → at + length piece + left ≡ len → HasNoWhole piece → IsDecided piece left → HasWalked Visits (part_of file at piece) now last
+        → HasWalkedFile Visits Gives file len first last
+    finished at left piece now last reading room none decided shown =
         let start : at ≡ 0 + length (joined reading.parts) = let n = reading.ends in let m = ap length reading.all in omega (arith, n, m) in
+        let long : length (reading.gone ++ piece) ≡ at + length piece = let n = reading.ends in omega (arith, n, length-append reading.gone piece) in
         record {
           bytes = reading.gone ++ piece;
           read = reading.read;
-          whole = let n = reading.ends in omega (arith, whole, n, length-append reading.gone piece);
+          inside = omega (arith, room, long);
           parts = reading.parts;
           last = piece;
           cut = reading.cut;
           all = joined_both reading.parts (piece ∷ []) ∙ ap (λ (t : List ℕ). t ++ (piece ++ [])) reading.all ∙ ap (λ (t : List ℕ). reading.gone ++ t) (append-nil piece);
+          whole = file_ends piece (length (reading.gone ++ piece)) left len (omega (arith, room, long)) (leads_nowhere piece left none decided);
           walked = walked_both 0 reading.parts (piece ∷ []) first now last reading.walked (subst (λ (k : ℕ). AreWalkedFrom Visits file k (piece ∷ []) now last) start (one_walked at piece now last shown));
         }
-
-    -- the piece and the rest of the file, which is read behind it, are shown
-    pub rest_shown : (at left : ℕ) (piece : List ℕ) (now last : V) → IsReading at piece now → at + length piece + left ≡ len → IsRestWalked Visits Gives file at left piece now last → HasWalkedFile Visits Gives file len first last
-    rest_shown at left piece now last reading all rest =
-        let whole = rest.whole in
-        finished at (piece ++ rest.rest) now last
-        (more_read at left piece (piece ++ rest.rest) now reading (omega (arith, all)) (record { bytes = rest.rest; given = (whole, rest.given); behind = refl }))
-        (omega (arith, all, whole, length-append piece rest.rest)) rest.walked

@@ -1,5 +1,5 @@
 -- Walks through files that are read in pieces.
-use Rattle.std.specs.Prelude.{◌≡◌, ◌⊎◌, ℕ, ◌+◌, List, [], ◌∷◌, ◌++◌, length, Contains}
+use Rattle.std.specs.Prelude.{◌≡◌, ◌⊎◌, ℕ, ◌+◌, ◌-◌, ◌<◌, ◌≤◌, List, [], ◌∷◌, ◌++◌, length, Contains}
 use Rattle.std.specs.List.{AllByRecursion}
 use Rattle.raft_base.specs.declared.errors.Error.{Error}
 use Rattle.raft_base.specs.declared.pipe_log.FileId.{FileId}
@@ -28,15 +28,25 @@ IsBatchByHeader bytes = (offset : ℕ) × HasHeader bytes offset (length bytes)
 abbrev pub AreBatchesByHeader : List ℕ → Type 0
 AreBatchesByHeader bytes = (batches : List (List ℕ)) × AllByRecursion IsBatchByHeader batches × (joined batches ≡ bytes)
 
--- a visitor was shown all bytes of a file of this length, as reads gave them, in parts, each but the last of which is cut off where a batch ends by the headers from its first byte on
+-- no header stands in front of these bytes by which a batch ends within them
+pub record HasNoWhole (bytes : List ℕ) : Type 0 where
+  pub none : (offset len : ℕ) → HasHeader bytes offset len → length bytes < len
+
+-- there is room for a header in front of these bytes, but none stands there by which a batch ends within them and so many bytes behind
+pub record LeadsNowhere (bytes : List ℕ) (left : ℕ) : Type 0 where
+  pub room : 16 ≤ length bytes
+  pub nowhere : (offset len : ℕ) → HasHeader bytes offset len → length bytes + left < len
+
+-- a visitor was shown the bytes of a file of this length, as reads gave them, in parts, each but the last of which is cut off where a batch ends by the headers from its first byte on: all of them, or the last part is followed by more, but at its first byte no header leads on
 pub record HasWalkedFile {V : Type 0} (Visits : V → Part → ℕ → Met → V → Type 0) (Gives : ℕ → List ℕ → Type 0) (file : LogFileContext) (len : ℕ) (old new : V) : Type 0 where
   pub bytes : List ℕ
   pub read : AreRead Gives bytes
-  pub whole : length bytes ≡ len
+  pub inside : length bytes ≤ len
   pub parts : List (List ℕ)
   pub last : List ℕ
   pub cut : AllByRecursion AreBatchesByHeader parts
   pub all : joined (parts ++ last ∷ []) ≡ bytes
+  pub whole : (length bytes ≡ len) ⊎ LeadsNowhere last (len - length bytes)
   pub walked : AreWalkedFrom Visits file 0 (parts ++ last ∷ []) old new
 
 -- a visitor was shown all bytes of the files of a queue, in order
@@ -73,10 +83,3 @@ pub record IsPrefixWalked {V : Type 0} (Visits : V → Part → ℕ → Met → 
   pub split : piece ≡ joined parts ++ left
   pub ends : next ≡ at + length (joined parts)
   pub walked : AreWalkedFrom Visits file at parts old new
-
--- a piece, which begins at an offset, and so many bytes behind it, as a read gave them, were shown
-pub record IsRestWalked {V : Type 0} (Visits : V → Part → ℕ → Met → V → Type 0) (Gives : ℕ → List ℕ → Type 0) (file : LogFileContext) (at left : ℕ) (piece : List ℕ) (old new : V) : Type 0 where
-  pub rest : List ℕ
-  pub whole : length rest ≡ left
-  pub given : Gives (at + length piece) rest
-  pub walked : HasWalked Visits (part_of file at (piece ++ rest)) old new

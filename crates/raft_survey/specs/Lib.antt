@@ -1,7 +1,5 @@
 -- walks through files that are read in pieces
 pub mod FileWalks
--- the bytes of both queues, as reads gave them
-pub mod QueuesRead
 -- what scans of files say
 pub mod FileScans
 -- the lines of a check
@@ -10,5 +8,3 @@ pub mod Reported
 pub mod DumpedFiles
 -- files in which everything can be read
 pub mod SoundFiles
--- numbers in a row
-pub mod Rows

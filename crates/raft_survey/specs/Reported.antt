@@ -16,10 +16,22 @@ use Rattle.raft_listing.specs.declared.scan.FileScan.{FileScan}
 
 -- ---- files
 
+-- how many batches there are
+abbrev pub batches_words : ℕ → List ℕ
+batches_words count = if nat_eq count 1 then codes "1 batch" else decimal count ++ codes " batches"
+
+-- the number of a file, and how many bytes it has
+abbrev pub length_words : LogQueue → ℕ → ℕ → List ℕ
+length_words queue seq len = queue_text queue ++ (codes " file " ++ (decimal seq ++ (codes ": " ++ (decimal len ++ codes " bytes, "))))
+
+-- up to which byte from its first one on a file can be read
+abbrev pub end_words : ℕ → List ℕ
+end_words read = codes ", read from offset 0 to " ++ (decimal read ++ codes "\n")
+
 -- the line of a file: how many bytes it has, how many batches of it can be read, and up to which byte from its first one on
 abbrev pub file_line : LogQueue → FileScan → List ℕ
 file_line queue scan =
-    queue_text queue ++ (codes " file " ++ (decimal scan.seq ++ (codes ": " ++ (decimal scan.len ++ (codes " bytes, " ++ (decimal scan.batches ++ (codes " batches, read from offset 0 to " ++ (decimal scan.read ++ codes "\n"))))))))
+    length_words queue scan.seq scan.len ++ (batches_words scan.batches ++ end_words scan.read)
 
 -- the place in a file, in front of what is said of it
 abbrev pub place_words : LogQueue → ℕ → ℕ → List ℕ

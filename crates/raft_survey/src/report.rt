@@ -3,7 +3,7 @@
 ghost use Rattle.std.specs.Fmt.{decimal};
 ghost use Rattle.std.specs.Prelude.{◌≡◌, ◌++◌, codes, map, string_bytes, None, OnOk};
 ghost use Rattle.std.specs.List.{flat_map};
-ghost use Rattle.raft_survey.specs.Reported.{damage_line, damage_words, entries_words, file_line, lost_words, missing_line, missing_text, missing_words, no_files_line, place_words, scan_text, unreadable_words, unsearched_line, unsearched_words, unseen_line};
+ghost use Rattle.raft_survey.specs.Reported.{batches_words, damage_line, damage_words, end_words, entries_words, file_line, length_words, lost_words, missing_line, missing_text, missing_words, no_files_line, place_words, scan_text, unreadable_words, unsearched_line, unsearched_words, unseen_line};
 
 use raft_base::{AllocResult, Error, FileSeq, LogQueue};
 use raft_listing::{Damage, DamageKind, FileScan, Loss, append_reason, missing_between};
@@ -63,12 +63,34 @@ fn append_unsearched_words(count: u64, text: &mut String) -> AllocResult<()>
 fn append_file(queue: LogQueue, scan: &FileScan, text: &mut String) -> AllocResult<()>
     ensures { OnOk result (string_bytes text.new ≡ string_bytes text.old ++ file_line queue scan.now) }
 {
+    append_length(queue, scan.seq, scan.len, text)?;
+    append_batches(scan.batches, text)?;
+    append_end(scan.read, text)
+}
+
+/// Appends up to which byte from its first one on a file can be read.
+fn append_end(read: u64, text: &mut String) -> AllocResult<()>
+    ensures { OnOk result (string_bytes text.new ≡ string_bytes text.old ++ end_words read) }
+{
+    writeln!(text, ", read from offset 0 to {read}")
+}
+
+/// Appends the number of a file, and how many bytes it has.
+fn append_length(queue: LogQueue, seq: FileSeq, len: u64, text: &mut String) -> AllocResult<()>
+    ensures { OnOk result (string_bytes text.new ≡ string_bytes text.old ++ length_words queue seq len) }
+{
     let name = queue_name(queue);
-    writeln!(
-        text,
-        "{name} file {}: {} bytes, {} batches, read from offset 0 to {}",
-        scan.seq, scan.len, scan.batches, scan.read
-    )
+    write!(text, "{name} file {seq}: {len} bytes, ")
+}
+
+/// Appends how many batches there are.
+fn append_batches(count: u64, text: &mut String) -> AllocResult<()>
+    ensures { OnOk result (string_bytes text.new ≡ string_bytes text.old ++ batches_words count) }
+{
+    if count == 1 {
+        return text.push_str("1 batch");
+    }
+    write!(text, "{count} batches")
 }
 
 /// Appends a line for each place in a file where something can't be read.

@@ -1,9 +1,8 @@
 //! The files of both queues, by their numbers and sizes.
 
-ghost use Rattle.std.specs.Prelude.{◌≡◌, ◌↔◌, map, IsTrue};
-ghost use Rattle.raft_survey.specs.Rows.{AreInRow, Follows};
+ghost use Rattle.std.specs.Prelude.{◌≡◌};
 
-use raft_base::{FileSeq, LogQueue};
+use raft_base::LogQueue;
 use raft_reading::FileSize;
 
 /// The files of both queues, oldest first, by their numbers and how many bytes each has.
@@ -23,29 +22,5 @@ impl BothSizes {
             LogQueue::Append => &self.append,
             LogQueue::Rewrite => &self.rewrite,
         }
-    }
-}
-
-/// Tests whether the number of each file but the first is one above that of the file before it.
-pub fn are_in_row(sizes: &[FileSize]) -> bool
-    ensures { IsTrue result ↔ AreInRow (map (λ size. size.seq) sizes.now) }
-{
-    let mut last = None;
-    for size in sizes {
-        if !follows(last, size.seq) {
-            return false;
-        }
-        last = Some(size.seq);
-    }
-    true
-}
-
-/// Tests whether a number is one above the last one, if there is one.
-fn follows(last: Option<FileSeq>, next: FileSeq) -> bool
-    ensures { IsTrue result ↔ Follows last next }
-{
-    match last {
-        None => true,
-        Some(last) => next > last && next - last == 1,
     }
 }

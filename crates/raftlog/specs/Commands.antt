@@ -4,25 +4,42 @@ use Rattle.std.specs.Io.KnownBytes.{Appends, Keeps}
 use Rattle.raft_base.specs.declared.pipe_log.FileId.{FileId}
 use Rattle.raft_base.specs.declared.pipe_log.Version.{Version}
 use Rattle.raft_accessor.specs.Accessor.{Accessor}
+use Rattle.raft_reading.specs.IoErrors.{IoError}
 use Rattle.raft_reading.specs.declared.queue_files.FileSize.{FileSize}
+use Rattle.raft_recover.specs.FileRecovery.{AreSizesOf, NamedGives}
+use Rattle.raft_recover.specs.Requests.{NumberedPath}
 use Rattle.raft_recover.specs.TableLines.{PrintsTables}
 use Rattle.raft_listing.specs.declared.selection.Selection.{Selection}
 use Rattle.raft_report.specs.declared.form.Form.{Form}
 use Rattle.raft_survey.specs.DumpedFiles.{AreDumped}
-use Rattle.raft_survey.specs.QueuesRead.{AreBothRead}
 use Rattle.raft_inspect.specs.Checked.{IsChecked}
-use Rattle.raft_inspect.specs.Openings.{AreTablesOf}
+use Rattle.raft_inspect.specs.Openings.{AreTablesOf, HoldsOfRead}
 use Rattle.raft_inspect.specs.Printed.{verdict_word}
 use Rattle.raft_inspect.specs.PrintedForms.{check_lines}
 use Rattle.raft_inspect.specs.declared.findings.Findings.{Findings}
 use Rattle.raft_inspect.specs.declared.opening.Opening.{Opening}
 use Rattle.raft_inspect.specs.declared.opening.Opening.TheVariants.{Opens, Refuses}
+use Rattle.raftlog.specs.Sources.{of_queue}
 
 -- files of these sizes were checked, the lines of what was found were written and nothing else, and the status is 0 exactly where the last word is `sound`
-pub record IsCheckDone (Gives : FileId → ℕ → List ℕ → Type 0) (version : Version) (workers : ℕ) (append rewrite : List FileSize) (form : Form) (before after : Option (List ℕ)) (status : ℕ) : Type 0 where
+pub record IsCheckDone (Gives : FileId → ℕ → List ℕ → Type 0) (Fails : FileId → ℕ → IoError → Type 0) (version : Version) (workers : ℕ) (append rewrite : List FileSize) (form : Form) (before after : Option (List ℕ)) (status : ℕ) : Type 0 where
   pub found : Findings
-  pub checked : IsChecked Gives version workers append rewrite found
+  pub checked : IsChecked Gives Fails version workers append rewrite found
   pub written : Appends before after (check_lines form found)
+  pub verdict : (status ≡ 0) ↔ (verdict_word found ≡ codes "sound")
+
+-- files of both queues were found at paths, and were checked, by the bytes that reads at these paths gave; the status is 0 exactly where the last word is `sound`
+pub record AreFilesChecked (Gives : List ℕ → ℕ → List ℕ → Type 0) (status : ℕ) : Type 0 where
+  pub append : List NumberedPath
+  pub rewrite : List NumberedPath
+  pub append_sizes : List FileSize
+  pub rewrite_sizes : List FileSize
+  pub version : Version
+  pub workers : ℕ
+  pub found : Findings
+  pub of_append : AreSizesOf append append_sizes
+  pub of_rewrite : AreSizesOf rewrite rewrite_sizes
+  pub checked : IsChecked (λ file. NamedGives Gives (of_queue file.queue append rewrite) file) (λ file offset e. Unit {0}) version workers append_sizes rewrite_sizes found
   pub verdict : (status ≡ 0) ↔ (verdict_word found ≡ codes "sound")
 
 -- what stands in files of these sizes was dumped to lines, as text, and all of these are in the output
@@ -34,7 +51,7 @@ pub record IsDumpDone (Gives : FileId → ℕ → List ℕ → Type 0) (version 
 -- tables that an engine would have of files of these sizes were written, and nothing else
 pub record AreRegionsPrinted (Gives : FileId → ℕ → List ℕ → Type 0) (version : Version) (append rewrite : List FileSize) (before after : Option (List ℕ)) : Type 0 where
   pub tables : Accessor
-  pub read : AreBothRead Gives append rewrite (AreTablesOf version tables)
+  pub read : HoldsOfRead Gives append rewrite (AreTablesOf version tables)
   pub written : PrintsTables tables before after
 
 -- files are opened, and not refused

@@ -2,12 +2,12 @@
 
 ghost use Rattle.std.specs.Prelude.{◌≡◌, ◌↔◌, ◌<◌, ◌≤◌, codes, IfOk};
 ghost use Rattle.raft_inspect.specs.Printed.{verdict_word};
-ghost use Rattle.raftlog.specs.Commands.{IsCheckDone};
+ghost use Rattle.raftlog.specs.Commands.{AreFilesChecked, IsCheckDone};
 
 use crate::errors::ToolResult;
 use crate::host::Host;
 use crate::options::{form_of, version_of, workers_of};
-use crate::source::find;
+use crate::source::find_files;
 use crate::tools::{DONE, WRONG};
 use clap::ArgMatches;
 use raft_base::Version;
@@ -27,8 +27,10 @@ pub(crate) fn check<'a, R: Host, W: Write>(
     rt: &'a R,
     words: &ArgMatches<'a>,
     out: &mut W,
-) -> ToolResult<u8> {
-    let found = find(rt, words, 2)?;
+) -> ToolResult<u8>
+    ensures { IfOk result (AreFilesChecked (R.gives rt.now)) }
+{
+    let found = find_files(rt, words, 2)?;
     let (version, workers, form) = (version_of(words), workers_of(rt, words), form_of(words));
     let mut out = found.source.over_bar(out);
     let checked = check_files(
@@ -55,7 +57,7 @@ fn check_files<R: Threads + Sync + AllocGlobal, S: ReadFiles, W: Write>(
     out: &mut W,
 ) -> ToolResult<u8>
     requires { (0 < workers) × (workers ≤ 256) }
-    ensures { IfOk result (IsCheckDone (S.gives source.now) version workers sizes.now.append.items
+    ensures { IfOk result (IsCheckDone (S.gives source.now) (S.may_fail source.now) version workers sizes.now.append.items
         sizes.now.rewrite.items form (W.contents out.old) (W.contents out.new)) }
 {
     let findings = print_check(rt, rt.alloc(), source, version, sizes, workers, form, out)?;

@@ -36,7 +36,8 @@ was renamed to the other queue's name, where its records can be read there; that
 it can't follow then. So all files may be empty, or the last batches of any file gone that have no entries. Of files named one by one what
 isn't named isn't looked for.
 
-Append files alone that can be read to their ends are read in pieces. Else all bytes of the files are in memory, as an opening has them.";
+Files are read in pieces: besides the tables some MiB for each worker are in memory, and what stands in a queue's last file behind the first batch that can't be
+read.";
 
 /// What `regions --help` says behind the options.
 const REGIONS_HELP: &str = "\

@@ -6,7 +6,7 @@ ghost use Rattle.raftlog.specs.Commands.{IsOpened};
 use crate::errors::{ToolError, ToolResult};
 use crate::host::Host;
 use crate::options::{form_of, version_of, workers_of};
-use crate::source::{in_folder, refuse_file};
+use crate::source::{Found, in_folder, in_open_folder, refuse_file};
 use crate::streams::hold_streams;
 use crate::tools::{DONE, WRONG};
 use clap::ArgMatches;
@@ -65,15 +65,29 @@ fn cut_folder<R: Host, W: Write>(
 ) -> ToolResult<u8> {
     let _streams = hold_streams(rt)?;
     be_there(rt, path)?;
-    let found = FolderFiles::open(rt, path)?;
-    let (mut files, append, rewrite) = (found.files, found.append, found.rewrite);
-    let (version, workers, form) = (version_of(words), workers_of(rt, words), form_of(words));
-    let alloc = rt.alloc();
-    let cut = cut_as_opened(
-        rt, alloc, form, version, append, rewrite, workers, &mut files, out,
-    );
-    print_kept(rt, form, &files, out)?;
+    let mut files = FolderFiles::open_unread(rt, path)?;
+    let found = in_open_folder(rt, &files)?;
+    let cut = cut_files(rt, words, &found, &mut files, out);
+    print_kept(rt, form_of(words), &files, out)?;
     Ok(status_of(&cut?))
+}
+
+/// Cuts off files of a folder what an opening would, and ends the bar.
+fn cut_files<R: Host, W: Write>(
+    rt: &R,
+    words: &ArgMatches<'_>,
+    found: &Found<'_, R>,
+    files: &mut FolderFiles<'_, R>,
+    out: &mut W,
+) -> ToolResult<Opening> {
+    let (version, workers, form) = (version_of(words), workers_of(rt, words), form_of(words));
+    let (source, sizes, alloc) = (&found.source, &found.sizes, rt.alloc());
+    let mut out = source.over_bar(out);
+    let cut = cut_as_opened(
+        rt, alloc, form, source, version, sizes, workers, files, &mut out,
+    );
+    source.end_progress();
+    Ok(cut?)
 }
 
 /// Returns the status for what an opening does.

@@ -9,7 +9,7 @@ use crate::host::Host;
 use crate::lost::LostEntries;
 use crate::options::{form_of, version_of};
 use crate::output::Lines;
-use crate::source::{Found, find};
+use crate::source::{Found, find_files};
 use crate::tools::{DONE, WRONG};
 use clap::ArgMatches;
 use raft_base::{AllocResult, LogQueue, Result, Version};
@@ -33,7 +33,7 @@ pub(crate) fn dump<'a, R: Host, W: Write>(
 ) -> ToolResult<u8> {
     let selection = selection_of(words)?;
     let times = if selection.values { 2 } else { 1 };
-    let found = find(rt, words, times)?;
+    let found = find_files(rt, words, times)?;
     let has_missing = print_missing(rt.alloc(), &found.sizes, form_of(words), out)?;
     let dumped = dump_found(rt, words, &found, selection, out);
     found.source.end_progress();
@@ -85,7 +85,13 @@ fn append_missing(
     }
 }
 
-/// Prints the batches of found files, item by item. Returns whether something of it can't be read.
+/// Prints the selected items of found files, batch by batch. Returns whether a batch, or with `--values` a selected entry, can't be
+/// read; entries are looked at in a second walk then.
+///
+/// # Errors
+///
+/// `NothingOf` where a region is selected that no batch names; those of the files and of the output; want of memory. Lines may be
+/// printed by then.
 fn dump_found<R: Host, W: Write>(
     rt: &R,
     words: &ArgMatches<'_>,

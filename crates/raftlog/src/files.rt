@@ -4,7 +4,7 @@ use crate::errors::{ToolError, ToolResult};
 use crate::host::Host;
 use crate::options::form_of;
 use crate::regions::tables_of;
-use crate::source::find;
+use crate::source::find_files;
 use crate::streams::hold_streams;
 use crate::tools::DONE;
 use clap::ArgMatches;
@@ -31,17 +31,17 @@ struct BothUses {
 /// # Errors
 ///
 /// Those of the files, of an opening, and of the output; `File` where a file is at the path of the picture; `Memory`.
-pub(crate) fn files<'a, R: Host, W: Write>(
+pub(crate) fn print_files<'a, R: Host, W: Write>(
     rt: &'a R,
     words: &ArgMatches<'a>,
     out: &mut W,
 ) -> ToolResult<u8> {
-    let found = find(rt, words, 1)?;
+    let found = find_files(rt, words, 1)?;
     let tables = tables_of(rt, words, &found)?;
-    let uses = uses_of_both(rt.alloc(), tables.accessor())?;
+    let uses = uses_of_both(rt.alloc(), &tables)?;
     print_uses(rt.alloc(), form_of(words), &found.sizes, &uses, out)?;
     if let Some(path) = words.get_str("svg") {
-        draw(rt, path, &found.sizes, &uses)?;
+        draw_picture(rt, path, &found.sizes, &uses)?;
     }
     Ok(DONE)
 }
@@ -81,7 +81,7 @@ fn print_uses<W: Write>(
 /// # Errors
 ///
 /// `File` where a file is at the path, or can't be written; `Memory`.
-fn draw<R: Host>(rt: &R, path: &str, sizes: &BothSizes, uses: &BothUses) -> ToolResult<()> {
+fn draw_picture<R: Host>(rt: &R, path: &str, sizes: &BothSizes, uses: &BothUses) -> ToolResult<()> {
     let _streams = hold_streams(rt)?;
     let mut picture = String::new(rt.alloc());
     let (append, rewrite) = (

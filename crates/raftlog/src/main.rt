@@ -28,10 +28,10 @@ fn main(rt: HostRuntime) -> ExitCode {
     let status = match command_words(&rt) {
         Ok(mut words) if plain::is_asked(words.as_slice()) => {
             let _ = words.remove(1);
-            plain::run(&rt, words.as_slice(), &mut rt.stdout(), &mut err)
+            plain::run_plainly(&rt, words.as_slice(), &mut rt.stdout(), &mut err)
         }
         Ok(words) if tools::are_asked(words.as_slice()) => {
-            tools::run(&rt, words.as_slice(), &mut rt.stdout(), &mut err)
+            tools::run_command(&rt, words.as_slice(), &mut rt.stdout(), &mut err)
         }
         Ok(words) if tools::name_no_command(words.as_slice()) => {
             tools::refuse_words(words.as_slice(), &mut err)

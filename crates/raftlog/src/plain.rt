@@ -25,7 +25,7 @@ pub(crate) fn is_asked(words: &[String]) -> bool
 
 /// Does slowly what the words of `recover` ask for, here without `--plain`, and returns the status to end with: 0 where it is done,
 /// 1 where it is refused, 2 where they ask for no recovery. A refusal and a hint at the words are a line on `err`.
-pub(crate) fn run<S: Files + AllocGlobal, W: Write, E: Write>(
+pub(crate) fn run_plainly<S: Files + AllocGlobal, W: Write, E: Write>(
     rt: &S,
     words: &[String],
     out: &mut W,
@@ -43,11 +43,11 @@ pub(crate) fn run<S: Files + AllocGlobal, W: Write, E: Write>(
     let asked = match Request::parse(rt.alloc(), words) {
         Ok(Some(Request::Recover(asked))) => asked,
         Ok(_) => return run_without_words(&io::Error::from(ErrorKind::InvalidInput), err),
-        Err(memory) => return refused(&memory, err),
+        Err(memory) => return refuse_recovery(&memory, err),
     };
-    match print(rt, &asked, out) {
+    match print_tables(rt, &asked, out) {
         Ok(()) => 0,
-        Err(error) => refused(&error, err),
+        Err(error) => refuse_recovery(&error, err),
     }
 }
 
@@ -56,7 +56,7 @@ pub(crate) fn run<S: Files + AllocGlobal, W: Write, E: Write>(
 /// # Errors
 ///
 /// Those of `recover`.
-fn print<S: Files + AllocGlobal, W: Write>(
+fn print_tables<S: Files + AllocGlobal, W: Write>(
     rt: &S,
     asked: &RecoverWords<'_>,
     out: &mut W,
@@ -75,7 +75,7 @@ fn print<S: Files + AllocGlobal, W: Write>(
 }
 
 /// Says on `err` why a recovery is refused, and returns the status to end with.
-fn refused<E: Write>(error: &Error, err: &mut E) -> u8
+fn refuse_recovery<E: Write>(error: &Error, err: &mut E) -> u8
     ensures { result ≡ 1 }
 {
     let _ = writeln!(err, "raftlog: refused: {}", refusal(error));

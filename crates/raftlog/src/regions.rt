@@ -7,11 +7,11 @@ ghost use Rattle.raftlog.specs.Commands.{AreRegionsPrinted};
 use crate::errors::{ToolError, ToolResult};
 use crate::host::Host;
 use crate::options::{form_of, version_of, workers_of};
-use crate::source::{Found, find};
+use crate::source::{Found, find_files};
 use crate::tools::DONE;
 use clap::ArgMatches;
 use raft_base::{Error, Version};
-use raft_inspect::{Tables, read_tables};
+use raft_inspect::read_tables;
 use raft_reading::ReadFiles;
 use raft_recover::{MemTable, MemTableAccessor, print_recovered};
 use raft_report::{
@@ -27,7 +27,7 @@ use std::thread::Threads;
 /// # Errors
 ///
 /// `Misused` where the words ask for values of no region; those of the files, of an opening, and of the output; `Memory`.
-pub(crate) fn regions<'a, R: Host, W: Write>(
+pub(crate) fn show_regions<'a, R: Host, W: Write>(
     rt: &'a R,
     words: &ArgMatches<'a>,
     out: &mut W,
@@ -36,16 +36,16 @@ pub(crate) fn regions<'a, R: Host, W: Write>(
     if values && region.is_none() {
         return Err(ToolError::Misused("--values is of the keys of a region: say --region"));
     }
-    let found = find(rt, words, 1)?;
+    let found = find_files(rt, words, 1)?;
     let form = form_of(words);
     match region {
         Some(region) => {
             let tables = tables_of(rt, words, &found)?;
-            print_one(rt.alloc(), tables.accessor(), region, values, form, out)
+            print_one(rt.alloc(), &tables, region, values, form, out)
         }
         None if form == Form::Json => {
             let tables = tables_of(rt, words, &found)?;
-            print_json(rt.alloc(), tables.accessor(), out)
+            print_json(rt.alloc(), &tables, out)
         }
         None => {
             let (version, workers) = (version_of(words), workers_of(rt, words));
@@ -64,7 +64,7 @@ pub(crate) fn tables_of<R: Host>(
     rt: &R,
     words: &ArgMatches<'_>,
     found: &Found<'_, R>,
-) -> ToolResult<Tables> {
+) -> ToolResult<MemTableAccessor> {
     let (version, workers) = (version_of(words), workers_of(rt, words));
     let (source, sizes) = (&found.source, &found.sizes);
     let tables = read_tables(rt, rt.alloc(), source, version, sizes, workers);
@@ -86,7 +86,7 @@ fn print_regions<R: Threads + Sync + AllocGlobal, S: ReadFiles, W: Write>(
         sizes.now.rewrite.items (W.contents out.old) (W.contents out.new)) }
 {
     let tables = read_tables(rt, rt.alloc(), source, version, sizes, workers)?;
-    print_all(rt.alloc(), tables.accessor(), out)
+    print_all(rt.alloc(), &tables, out)
 }
 
 /// Prints all tables.

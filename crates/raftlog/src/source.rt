@@ -10,7 +10,7 @@ use crate::output::OverBar;
 use crate::progress::Progress;
 use clap::ArgMatches;
 use raft_base::{FileId, FileSeq, LogQueue};
-use raft_folder::{FolderError, ReadFolder};
+use raft_folder::{FolderError, FolderFiles, ReadFolder};
 use raft_reading::{FileSize, ReadFiles};
 use raft_recover::SharedFiles;
 use raft_survey::BothSizes;
@@ -62,7 +62,7 @@ impl<R: SharedFiles + Screen> ReadFiles for Source<'_, R> {
     ghost use Rattle.raftlog.specs.Sources.{of_queue, path_shown};
 
     ghost gives = { λ source file. NamedGives (R.gives source.rt.now)
-        (map path_shown (of_queue file.queue source.append source.rewrite).items) file };
+        (of_queue file.queue (map path_shown source.append.items) (map path_shown source.rewrite.items)) file };
 
     fn read(&self, file: FileId, offset: u64, len: usize, bytes: &mut Vec<u8>) -> io::Result<()> {
         let Some(path) = path_of(paths_of(file.queue, &self.append, &self.rewrite), file.seq) else {
@@ -80,7 +80,8 @@ impl<R: SharedFiles + Screen> ReadFiles for Source<'_, R> {
 
 /// Returns the files of a queue.
 fn paths_of<'p>(queue: LogQueue, append: &'p Paths, rewrite: &'p Paths) -> &'p [(FileSeq, String)]
-    ensures { result.now ≡ (of_queue queue append.now rewrite.now).items }
+    ensures { map path_shown result.now
+        ≡ of_queue queue (map path_shown append.now.items) (map path_shown rewrite.now.items) }
 {
     match queue {
         LogQueue::Append => append.as_slice(),
@@ -111,20 +112,21 @@ fn with_path(alloc: Global, path: &str, error: io::Error) -> io::Error {
 /// # Errors
 ///
 /// `Misused` where the words name none, or both; those of [`ReadFolder`]; `File` where a file can't be read; `Memory`.
-pub(crate) fn find<'a, R: Host>(
+pub(crate) fn find_files<'a, R: Host>(
     rt: &'a R,
     words: &ArgMatches<'a>,
     times: u64,
 ) -> ToolResult<Found<'a, R>>
-    ensures { IfOk result (λ found. AreSizesOf (map path_shown found.source.append.items) found.sizes.append.items
+    ensures sizes { IfOk result (λ found. AreSizesOf (map path_shown found.source.append.items) found.sizes.append.items
         × AreSizesOf (map path_shown found.source.rewrite.items) found.sizes.rewrite.items) }
+    ensures machine { IfOk result (λ found. found.source.rt.now ≡ rt.now) }
 {
     let (append, rewrite) = (words.get_strs("append"), words.get_strs("rewrite"));
     match words.get_str("folder") {
         Some(path) if append.is_none() && rewrite.is_none() => in_folder(rt, path, times),
         None if append.is_some() || rewrite.is_some() => {
-            let append = named(rt, append.unwrap_or(&[]))?;
-            let rewrite = named(rt, rewrite.unwrap_or(&[]))?;
+            let append = named_files(rt, append.unwrap_or(&[]))?;
+            let rewrite = named_files(rt, rewrite.unwrap_or(&[]))?;
             take_files(rt, append, rewrite, None, times)
         }
         Some(_) => Err(ToolError::Misused(
@@ -144,14 +146,33 @@ pub(crate) fn in_folder<'a, R: Host>(
     path: &'a str,
     times: u64,
 ) -> ToolResult<Found<'a, R>>
-    ensures { IfOk result (λ found. AreSizesOf (map path_shown found.source.append.items) found.sizes.append.items
+    ensures sizes { IfOk result (λ found. AreSizesOf (map path_shown found.source.append.items) found.sizes.append.items
         × AreSizesOf (map path_shown found.source.rewrite.items) found.sizes.rewrite.items) }
+    ensures machine { IfOk result (λ found. found.source.rt.now ≡ rt.now) }
 {
     refuse_file(rt, path)?;
     let folder = ReadFolder::open(rt, path)?;
-    let append = paths_in(rt, &folder, LogQueue::Append)?;
-    let rewrite = paths_in(rt, &folder, LogQueue::Rewrite)?;
+    let (append, rewrite) = (
+        folder.paths(LogQueue::Append)?,
+        folder.paths(LogQueue::Rewrite)?,
+    );
     take_files(rt, append, rewrite, Some(folder), times)
+}
+
+/// Finds the files of a folder that is open to be changed. They are read once.
+///
+/// # Errors
+///
+/// Those of [`FolderFiles`]; `Foreign` where a file is one of raft-engine.
+pub(crate) fn in_open_folder<'a, R: Host>(
+    rt: &'a R,
+    folder: &FolderFiles<'a, R>,
+) -> ToolResult<Found<'a, R>> {
+    let (append, rewrite) = (
+        folder.paths(LogQueue::Append)?,
+        folder.paths(LogQueue::Rewrite)?,
+    );
+    take_files(rt, append, rewrite, None, 1)
 }
 
 /// Refuses a file in place of a folder.
@@ -166,18 +187,8 @@ pub(crate) fn refuse_file<R: Host>(rt: &R, path: &str) -> ToolResult<()> {
     }
 }
 
-/// Returns the paths of a queue's files in a folder.
-fn paths_in<R: Host>(rt: &R, folder: &ReadFolder<'_, R>, queue: LogQueue) -> ToolResult<Paths> {
-    let mut paths = Vec::new(rt.alloc());
-    for file in folder.list(queue)? {
-        let path = folder.path_of(FileId::new(queue, file.seq))?;
-        paths.push((file.seq, path))?;
-    }
-    Ok(paths)
-}
-
 /// Returns the files that words name one by one, by their numbers.
-fn named<R: Host>(rt: &R, words: &[&str]) -> ToolResult<Paths> {
+fn named_files<R: Host>(rt: &R, words: &[&str]) -> ToolResult<Paths> {
     let mut paths: Paths = Vec::new(rt.alloc());
     for word in words {
         let Some((seq, path)) = named_file(word) else {
@@ -209,6 +220,7 @@ fn take_files<'a, R: Host>(
     times: u64,
 ) -> ToolResult<Found<'a, R>>
     ensures paths { IfOk result (λ found. (found.source.append ≡ append) × (found.source.rewrite ≡ rewrite)) }
+    ensures machine { IfOk result (λ found. found.source.rt.now ≡ rt.now) }
     ensures sizes { IfOk result (λ found. AreSizesOf (map path_shown append.items) found.sizes.append.items
         × AreSizesOf (map path_shown rewrite.items) found.sizes.rewrite.items) }
 {

@@ -5,9 +5,9 @@ use crate::command_line::command_line;
 use crate::cut::cut;
 use crate::dump::dump;
 use crate::errors::{ToolError, ToolResult};
-use crate::files::files;
+use crate::files::print_files;
 use crate::host::Host;
-use crate::regions::regions;
+use crate::regions::show_regions;
 use clap::ArgMatches;
 use std::io::Write;
 
@@ -83,7 +83,7 @@ pub(crate) fn refuse_encoding<E: Write>(err: &mut E) -> u8 {
 /// Does what words ask for, and returns the status to end with. A refusal is a line on `err`. It isn't inlined, so that the other
 /// commands don't pay for its frame.
 #[inline(never)]
-pub(crate) fn run<'a, R: Host, W: Write, E: Write>(
+pub(crate) fn run_command<'a, R: Host, W: Write, E: Write>(
     rt: &'a R,
     words: &'a [String],
     out: &mut W,
@@ -91,16 +91,16 @@ pub(crate) fn run<'a, R: Host, W: Write, E: Write>(
 ) -> u8 {
     let command = match command_line(rt.alloc()) {
         Ok(command) => command,
-        Err(_) => return refused(&ToolError::Memory, err),
+        Err(_) => return refuse_command(&ToolError::Memory, err),
     };
     match command.try_get_matches_from(without_help_of_help(words)) {
-        Ok(matches) => match answer(rt, &matches, out) {
+        Ok(matches) => match answer_command(rt, &matches, out) {
             Ok(status) => status,
-            Err(error) => refused(&error, err),
+            Err(error) => refuse_command(&error, err),
         },
         Err(shown) if shown.exit_code() == 0 => match write!(out, "{shown}") {
             Ok(()) => DONE,
-            Err(error) => refused(&ToolError::Output(error), err),
+            Err(error) => refuse_command(&ToolError::Output(error), err),
         },
         Err(shown) => {
             let _ = write!(err, "{shown}");
@@ -118,7 +118,7 @@ fn without_help_of_help(words: &[String]) -> &[String] {
 }
 
 /// Says why a command isn't done, and returns the status for that.
-fn refused<E: Write>(error: &ToolError, err: &mut E) -> u8 {
+fn refuse_command<E: Write>(error: &ToolError, err: &mut E) -> u8 {
     let _ = writeln!(err, "raftlog: {error}");
     match error {
         ToolError::Misused(_) => MISUSED,
@@ -127,16 +127,16 @@ fn refused<E: Write>(error: &ToolError, err: &mut E) -> u8 {
 }
 
 /// Does what the words of a command ask for, and returns the status to end with.
-fn answer<'a, R: Host, W: Write>(
+fn answer_command<'a, R: Host, W: Write>(
     rt: &'a R,
     matches: &ArgMatches<'a>,
     out: &mut W,
 ) -> ToolResult<u8> {
     match matches.subcommand() {
         Some(("check", words)) => check(rt, words, out),
-        Some(("regions", words)) => regions(rt, words, out),
+        Some(("regions", words)) => show_regions(rt, words, out),
         Some(("dump", words)) => dump(rt, words, out),
-        Some(("files", words)) => files(rt, words, out),
+        Some(("files", words)) => print_files(rt, words, out),
         Some(("cut", words)) => cut(rt, words, out),
         _ => Err(ToolError::Misused("no command is named: raftlog --help")),
     }

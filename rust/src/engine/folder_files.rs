@@ -272,7 +272,7 @@ impl Files for FolderFiles {
             if len < old {
                 let mut tail = vec![0; (old - len) as usize];
                 read_at(&opened, &mut tail, len)?;
-                aside::keep(&self.path, file, len, &tail)?;
+                aside::keep_aside(&self.path, file, len, &tail)?;
                 self.locked.folder.sync_all()?;
                 opened.set_len(len)?;
                 opened.sync_all()?;

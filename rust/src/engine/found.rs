@@ -50,7 +50,7 @@ impl Found {
         let found = Mutex::new(FoundHandle::new()?);
         let mut numbers = Numbers::default();
         let mut read = |queue| {
-            let held = held::read(files, queue, options.recovery_threads)?;
+            let held = held::read_held(files, queue, options.recovery_threads)?;
             for (file, bytes) in &held {
                 numbers.set_len(*file, bytes.len() as u64);
             }
@@ -116,7 +116,7 @@ fn read_and_add(
         add()?;
         return Ok(read);
     }
-    let (read, added) = recovery::both(|| read_queue(held, queue, version, threads - 1), add);
+    let (read, added) = recovery::call_both(|| read_queue(held, queue, version, threads - 1), add);
     let read = read?;
     added?;
     Ok(read)

@@ -106,7 +106,7 @@ impl MemoryFiles {
     #[must_use]
     pub fn files(&self, queue: Queue) -> Vec<(u64, Vec<u8>)> {
         let held = locks::lock(&self.held);
-        held.files[at(queue)].iter().cloned().collect()
+        held.files[position_of(queue)].iter().cloned().collect()
     }
 
     /// Returns what was asked so far, oldest first. It is noted once it is done.
@@ -160,7 +160,7 @@ impl MemoryFiles {
         let held = locks::lock(&self.held);
         let asks = held.asks.iter().take(asks);
         asks.filter(|ask| ask.queue() == queue)
-            .fold(Unsynced::default(), |unsynced, ask| unsynced.and(ask))
+            .fold(Unsynced::default(), |unsynced, ask| unsynced.with_ask(ask))
     }
 
     /// Returns the files that a crash leaves once the first `asks` of what was asked are done: of each queue what
@@ -183,7 +183,7 @@ impl MemoryFiles {
     pub fn left(&self, asks: usize, append: Unsynced, rewrite: Unsynced) -> MemoryFiles {
         let held = locks::lock(&self.held);
         let left = |queue, stays| {
-            let mut queue_left = Left::of(&held.found[at(queue)]);
+            let mut queue_left = Left::of(&held.found[position_of(queue)]);
             for ask in held.asks.iter().take(asks) {
                 if ask.queue() == queue {
                     queue_left.take(ask);
@@ -199,7 +199,7 @@ impl MemoryFiles {
 impl Files for MemoryFiles {
     fn list(&self, queue: Queue) -> io::Result<Vec<(u64, u64)>> {
         let held = locks::lock(&self.held);
-        let files = held.files[at(queue)].iter();
+        let files = held.files[position_of(queue)].iter();
         Ok(files
             .map(|(seq, bytes)| (*seq, bytes.len() as u64))
             .collect())
@@ -219,7 +219,7 @@ impl Files for MemoryFiles {
 
     fn rotate(&self, file: FileId) -> io::Result<()> {
         let mut held = locks::lock(&self.held);
-        let files = &mut held.files[at(file.queue)];
+        let files = &mut held.files[position_of(file.queue)];
         if files.back().is_some_and(|(last, _)| *last >= file.seq) {
             return refuse("a new file has a greater number than the last one");
         }
@@ -230,7 +230,7 @@ impl Files for MemoryFiles {
 
     fn delete(&self, file: FileId) -> io::Result<()> {
         let mut held = locks::lock(&self.held);
-        let files = &mut held.files[at(file.queue)];
+        let files = &mut held.files[position_of(file.queue)];
         if files.len() < 2 || files[0].0 != file.seq {
             return refuse("the oldest file goes first, and the last one stays");
         }
@@ -248,7 +248,7 @@ impl Files for MemoryFiles {
 
     fn read(&self, file: FileId, offset: u64, bytes: &mut [u8]) -> io::Result<()> {
         let held = locks::lock(&self.held);
-        let mut files = held.files[at(file.queue)].iter();
+        let mut files = held.files[position_of(file.queue)].iter();
         let Some((_, held)) = files.find(|(seq, _)| *seq == file.seq) else {
             return Err(io::ErrorKind::NotFound.into());
         };
@@ -266,7 +266,7 @@ impl Held {
     ///
     /// `InvalidInput` for another file.
     fn last(&mut self, file: FileId) -> io::Result<&mut Vec<u8>> {
-        match self.files[at(file.queue)].back_mut() {
+        match self.files[position_of(file.queue)].back_mut() {
             Some((seq, bytes)) if *seq == file.seq => Ok(bytes),
             _ => refuse("the file isn't the last one of its queue"),
         }
@@ -283,7 +283,7 @@ impl fmt::Debug for MemoryFiles {
 }
 
 /// Returns the position of a queue in what is kept of both.
-const fn at(queue: Queue) -> usize {
+const fn position_of(queue: Queue) -> usize {
     match queue {
         Queue::Append => 0,
         Queue::Rewrite => 1,

@@ -7,14 +7,23 @@ use crate::sys::EngineHandle;
 use crate::{Block, Error, ErrorKind, Files, Queue, Result};
 use std::collections::VecDeque;
 
-/// How many bytes of blocks a rewriting reads and moves in a turn, and those of one region at least.
-const BLOCKS_AT_ONCE: usize = 1 << 20;
+/// How many bytes of blocks a rewriting lists at once, and those of one region at least.
+const LISTED_AT_ONCE: usize = 1 << 20;
+
+/// How many bytes of blocks move in a turn, and one block at least.
+const MOVED_AT_ONCE: usize = 1 << 18;
+
+/// How many bytes move before the rewrite queue is synced: whoever deletes files syncs it first, in one turn.
+const SYNCED_AT_ONCE: usize = 1 << 20;
+
+/// The bytes of the blocks of one batch, if it has several: those that a step has at its end may be of a batch that goes on behind.
+const OF_ONE_BATCH: usize = 8 << 10;
 
 /// Blocks that were read before the turn in which they move, in the order in which they are lent, unless they change meanwhile.
 type ReadBlocks = VecDeque<(Block, Vec<u8>)>;
 
 impl<F: Files> Engine<F> {
-    /// Begins a new file of the append queue. All that was written lasts then.
+    /// Begins a new file of the append queue. All that was written is synced then.
     ///
     /// ```
     /// # use raft_recover::{Engine, LogBatch, MemoryFiles, Options};
@@ -74,36 +83,104 @@ impl<F: Files> Engine<F> {
         self.tell_after(|| self.rewrite_up_to(gate))
     }
 
-    /// Does what [`Engine::rewrite`] does, step by step, each in a turn of its own.
+    /// Does what [`Engine::rewrite`] does, step by step, each in a turn of its own. Where the steps moved nothing of what was listed, all
+    /// of that moves at once: one batch may need more blocks than a step has.
     ///
     /// # Errors
     ///
-    /// Those of [`Engine::rewrite`]. Some regions may then have moved.
+    /// Those of [`Engine::rewrite`]. Some records may then have moved.
     fn rewrite_up_to(&self, gate: u64) -> Result<()> {
         let last = locks::lock(&self.numbers).last(Queue::Append);
         let gate = last.map_or(gate, |(file, _)| gate.min(file.seq));
-        let mut lent = Vec::new();
-        while let Some(more) = self.rewrite_some(gate, &lent)? {
-            lent = more;
+        let mut before = Vec::new();
+        loop {
+            let listed = self.tables().moving_blocks(Some(gate), LISTED_AT_ONCE)?;
+            let is_over = if listed == before {
+                self.rewrite_listed(gate)?
+            } else {
+                self.rewrite_in_steps(gate, &listed)?
+            };
+            if is_over {
+                return Ok(());
+            }
+            before = listed;
         }
-        Ok(())
     }
 
-    /// Moves some regions past a gate. Where there are more it returns the blocks that these had,
-    /// which aren't those of before.
+    /// Moves what is in the first blocks that move past a gate, as many as are listed at once, in one turn. Returns whether all has
+    /// moved.
     ///
     /// # Errors
     ///
-    /// Those of [`Engine::rewrite`]. Some regions may then have moved.
-    fn rewrite_some(&self, gate: u64, before: &[Block]) -> Result<Option<Vec<Block>>> {
-        let read = self.read_ahead(Some(gate), BLOCKS_AT_ONCE)?;
+    /// Those of [`Engine::rewrite`]. Some records may then have moved.
+    fn rewrite_listed(&self, gate: u64) -> Result<bool> {
+        let read = self.read_ahead(Some(gate), LISTED_AT_ONCE)?;
         let turn = self.turn()?;
-        let lent = self.lend(Some(gate), BLOCKS_AT_ONCE, read)?;
+        let lent = self.lend(Some(gate), LISTED_AT_ONCE, read)?;
         match self.count_moves(&turn, Queue::Append, |tables| tables.rewrite(gate)) {
-            Err(e) if e.kind == ErrorKind::TryAgain && lent != before => Ok(Some(lent)),
+            Ok(()) => Ok(true),
+            Err(e) if e.kind == ErrorKind::TryAgain => {
+                let left = self.tables().moving_blocks(Some(gate), LISTED_AT_ONCE)?;
+                if left == lent { Err(e) } else { Ok(false) }
+            }
             Err(e) => Err(self.with_damaged_block(e, &lent)),
-            Ok(()) => Ok(None),
         }
+    }
+
+    /// Moves what is in these blocks past a gate, some of them in each turn, as far as they can be read. Returns whether all has moved.
+    ///
+    /// # Errors
+    ///
+    /// Those of [`Engine::rewrite`]. Some records may then have moved.
+    fn rewrite_in_steps(&self, gate: u64, blocks: &[Block]) -> Result<bool> {
+        let mut unsynced = 0;
+        let mut rest = blocks;
+        while !rest.is_empty() {
+            let step = prefix_of(rest, MOVED_AT_ONCE);
+            let Ok(read) = self.read_blocks(step) else {
+                return Ok(false);
+            };
+            if self.rewrite_lent(gate, &read)? {
+                return Ok(true);
+            }
+            unsynced += bytes_of(step);
+            if unsynced >= SYNCED_AT_ONCE {
+                self.turn()?.sync_now(Queue::Rewrite)?;
+                unsynced = 0;
+            }
+            rest = behind(rest, step.len());
+        }
+        Ok(false)
+    }
+
+    /// Moves what is in blocks that were read past a gate. Returns whether all has moved.
+    ///
+    /// # Errors
+    ///
+    /// Those of [`Engine::rewrite`]. Some records may then have moved.
+    fn rewrite_lent(&self, gate: u64, read: &[(Block, Vec<u8>)]) -> Result<bool> {
+        let turn = self.turn()?;
+        for (block, bytes) in read {
+            self.tables().lend(*block, bytes)?;
+        }
+        match self.count_moves(&turn, Queue::Append, |tables| tables.rewrite(gate)) {
+            Ok(()) => Ok(true),
+            Err(e) if e.kind == ErrorKind::TryAgain => Ok(false),
+            Err(e) => {
+                let lent: Vec<_> = read.iter().map(|(block, _)| *block).collect();
+                Err(self.with_damaged_block(e, &lent))
+            }
+        }
+    }
+
+    /// Reads blocks.
+    ///
+    /// # Errors
+    ///
+    /// Those of [`read_block`].
+    fn read_blocks(&self, blocks: &[Block]) -> Result<Vec<(Block, Vec<u8>)>> {
+        let read = |block: &Block| Ok((*block, read_block(self, *block)?));
+        blocks.iter().map(read).collect()
     }
 
     /// Moves what the tables have in rewrite files to a new one of them, so that [`Engine::purge`] can delete the older ones.
@@ -212,4 +289,39 @@ impl<F: Files> Engine<F> {
             .find_map(|block| read_entry_bytes(self, *block).err());
         damaged.unwrap_or(refused)
     }
+}
+
+/// Returns how many bytes blocks have together.
+fn bytes_of(blocks: &[Block]) -> usize {
+    blocks.iter().map(|block| block.len).sum()
+}
+
+/// Returns the first blocks, until they have so many bytes.
+fn prefix_of(blocks: &[Block], max_size: usize) -> &[Block] {
+    let mut size = 0;
+    let is_within = |block: &Block| {
+        let is_within = size < max_size;
+        size += block.len;
+        is_within
+    };
+    let count = blocks.iter().copied().take_while(is_within).count();
+    &blocks[..count]
+}
+
+/// Returns the blocks behind the first ones, and the last of those once more that may be of a batch which goes on behind them.
+fn behind(blocks: &[Block], count: usize) -> &[Block] {
+    if count == blocks.len() {
+        return &[];
+    }
+    let mut size = 0;
+    let is_of_last_batch = |block: &&Block| {
+        size += block.len;
+        size <= OF_ONE_BATCH
+    };
+    let again = blocks[1..count]
+        .iter()
+        .rev()
+        .take_while(is_of_last_batch)
+        .count();
+    &blocks[count - again..]
 }

@@ -76,6 +76,15 @@ impl<F: Files> Turn<'_, F> {
         self.carry_out(orders.into())
     }
 
+    /// Syncs a queue, though nothing was ordered: what is ordered later then finds less to sync.
+    ///
+    /// # Errors
+    ///
+    /// Those of [`Turn::carry_out`].
+    pub(super) fn sync_now(&self, queue: Queue) -> Result<()> {
+        self.carry_out(VecDeque::from([Order::Sync(queue)]))
+    }
+
     /// Notes the bytes of orders, which are read from memory until they are written.
     fn note(&self, orders: &[Order]) {
         let numbers = locks::lock(&self.engine.numbers);

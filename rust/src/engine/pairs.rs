@@ -156,11 +156,11 @@ impl fmt::Debug for Pairs {
 pub(super) fn ends_of<'a>(range: &impl RangeBounds<&'a [u8]>) -> (Vec<u8>, Option<Vec<u8>>) {
     let start = match range.start_bound() {
         Bound::Included(key) => key.to_vec(),
-        Bound::Excluded(key) => after(key),
+        Bound::Excluded(key) => least_key_above(key),
         Bound::Unbounded => Vec::new(),
     };
     let end = match range.end_bound() {
-        Bound::Included(key) => Some(after(key)),
+        Bound::Included(key) => Some(least_key_above(key)),
         Bound::Excluded(key) => Some(key.to_vec()),
         Bound::Unbounded => None,
     };
@@ -168,6 +168,6 @@ pub(super) fn ends_of<'a>(range: &impl RangeBounds<&'a [u8]>) -> (Vec<u8>, Optio
 }
 
 /// Returns the least key above a key: the same with a zero byte behind.
-fn after(key: &[u8]) -> Vec<u8> {
+fn least_key_above(key: &[u8]) -> Vec<u8> {
     [key, &[0]].concat()
 }

@@ -1,6 +1,6 @@
 //! Files go that nothing needs.
 
-use super::reading::places;
+use super::reading::places_of_range;
 use super::{Engine, Holder, Purged, locks};
 use crate::sys::EngineHandle;
 use crate::{FileId, Files, Queue, Result};
@@ -12,7 +12,7 @@ impl<F: Files> Engine<F> {
     /// had when its records moved last; until they do, as the entries there have, and all keys with their values.
     ///
     /// Files are deleted here alone, so a program calls it now and then, best from a thread of its own: threads that write get in
-    /// between while it moves records of the append queue, a mebibyte or a region at a time; those of the rewrite queue move at
+    /// between while it moves records of the append queue, 256 KiB or a block at a time; those of the rewrite queue move at
     /// once. Where there is nothing to do it asks nothing of the files. Files that are needed no more go
     /// first, before records move; but what the batches in them took away is written to the rewrite queue before they go, so on a
     /// full disk even that may be refused. The next change then does what was left undone; or an engine that is opened anew writes
@@ -130,7 +130,7 @@ impl<F: Files> Engine<F> {
         let regions = self.tables().regions()?;
         Ok(!regions
             .into_iter()
-            .any(|region| holds(&mut self.tables(), region, oldest)))
+            .any(|region| needs_file(&mut self.tables(), region, oldest)))
     }
 
     /// Returns the regions that need the oldest append file, if there is another one behind it.
@@ -145,7 +145,7 @@ impl<F: Files> Engine<F> {
         let regions = self.tables().regions()?;
         let holders = regions.into_iter().filter_map(|region| {
             let mut tables = self.tables();
-            holds(&mut tables, region, oldest).then(|| holder(&mut tables, region, oldest))
+            needs_file(&mut tables, region, oldest).then(|| holder_of(&mut tables, region, oldest))
         });
         Ok(holders.collect())
     }
@@ -198,7 +198,7 @@ impl<F: Files> Engine<F> {
     fn needed_rewritten(&self) -> Result<u64> {
         let regions = self.tables().regions()?;
         let needed = regions.into_iter().try_fold(0, |sum, region| {
-            Ok(sum + rewritten_in(&mut self.tables(), region)?)
+            Ok(sum + rewritten_bytes(&mut self.tables(), region)?)
         })?;
         locks::lock(&self.numbers).needed_rewritten = Some(needed);
         Ok(needed)
@@ -207,8 +207,8 @@ impl<F: Files> Engine<F> {
 
 /// Returns how many bytes a region's entries have in rewrite files, and all its keys with their
 /// values, which may stand there. The only error is `Memory`.
-fn rewritten_in(tables: &mut EngineHandle, region: u64) -> Result<u64> {
-    let entries = places(tables, region, &(..), None)?;
+fn rewritten_bytes(tables: &mut EngineHandle, region: u64) -> Result<u64> {
+    let entries = places_of_range(tables, region, &(..), None)?;
     let rewritten = entries
         .iter()
         .filter(|entry| entry.block.file.queue == Queue::Rewrite)
@@ -218,7 +218,7 @@ fn rewritten_in(tables: &mut EngineHandle, region: u64) -> Result<u64> {
 }
 
 /// Tests whether a region needs a file, or an older one of its queue.
-fn holds(tables: &mut EngineHandle, region: u64, file: FileId) -> bool {
+fn needs_file(tables: &mut EngineHandle, region: u64, file: FileId) -> bool {
     let oldest = tables.summary(region).and_then(|summary| match file.queue {
         Queue::Append => summary.append_seq,
         Queue::Rewrite => summary.rewrite_seq,
@@ -227,7 +227,7 @@ fn holds(tables: &mut EngineHandle, region: u64, file: FileId) -> bool {
 }
 
 /// Says what a region has in the oldest append file, which it needs. Its entries there are the first ones that haven't moved.
-fn holder(tables: &mut EngineHandle, region: u64, file: FileId) -> Holder {
+fn holder_of(tables: &mut EngineHandle, region: u64, file: FileId) -> Holder {
     let summary = tables.summary(region).unwrap_or_default();
     let first = summary.first_index.unwrap_or(0);
     let (mut from, mut to) = (first, first + summary.entries as u64);

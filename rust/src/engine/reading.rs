@@ -115,7 +115,7 @@ impl<F: Files> Engine<F> {
     /// `Corruption` where bytes were damaged since they were written; `Io`, `Memory`, `Failed`.
     pub fn entries(&self, region: u64, range: impl RangeBounds<u64>) -> Result<Entries> {
         self.read(
-            |tables| places(tables, region, &range, None),
+            |tables| places_of_range(tables, region, &range, None),
             |found| Entries::read(self, region, found),
         )
     }
@@ -143,7 +143,7 @@ impl<F: Files> Engine<F> {
         max_size: u64,
     ) -> Result<Entries> {
         self.read(
-            |tables| places(tables, region, &range, Some(max_size)),
+            |tables| places_of_range(tables, region, &range, Some(max_size)),
             |found| Entries::read(self, region, found),
         )
     }
@@ -309,7 +309,7 @@ impl<F: Files> Engine<F> {
 /// # Errors
 ///
 /// `EntryCompacted` or `EntryNotFound` where the range isn't there, `Memory`.
-pub(super) fn places(
+pub(super) fn places_of_range(
     tables: &mut EngineHandle,
     region: u64,
     range: &impl RangeBounds<u64>,
@@ -318,13 +318,13 @@ pub(super) fn places(
     match closed_range(tables, region, range) {
         Some(range) => tables
             .entries(region, range.clone(), max_size)
-            .map_err(|e| missing(e, region, &range)),
+            .map_err(|e| name_missing_entry(e, region, &range)),
         None => Ok(Vec::new()),
     }
 }
 
 /// Says of the refusal of a range which of its entries isn't there: the first one, or the last.
-fn missing(refused: Error, region: u64, range: &Range<u64>) -> Error {
+fn name_missing_entry(refused: Error, region: u64, range: &Range<u64>) -> Error {
     let index = match refused.kind {
         ErrorKind::EntryCompacted => range.start,
         ErrorKind::EntryNotFound => range.end - 1,

@@ -108,7 +108,7 @@ impl<F: Files> Engine<F> {
 /// there, and else for the append files. The only error is `Memory`.
 fn live_in(tables: &mut EngineHandle, region: u64) -> Result<[u64; 2]> {
     let mut live = [0, 0];
-    for entry in super::reading::places(tables, region, &(..), None)? {
+    for entry in super::reading::places_of_range(tables, region, &(..), None)? {
         live[entry.block.file.queue as usize] += u64::from(entry.len);
     }
     let summary = tables.summary(region).unwrap_or_default();

@@ -7,7 +7,7 @@ use crate::sys::EngineHandle;
 use crate::{Files, LogBatch, Result};
 
 impl<F: Files> Engine<F> {
-    /// Writes a batch, which is empty afterwards. With `sync` all that was written lasts once the call returns `Ok`. The batch is
+    /// Writes a batch, which is empty afterwards. With `sync` all that was written is synced once the call returns `Ok`. The batch is
     /// whole or not there at all, whenever the machine crashes.
     ///
     /// ```
@@ -36,7 +36,7 @@ impl<F: Files> Engine<F> {
         self.write_in_turn(batch, sync)
     }
 
-    /// Makes all that was written last.
+    /// Syncs the append queue: all that was written outlasts a crash then.
     ///
     /// ```
     /// # use raft_recover::{Engine, LogBatch, MemoryFiles, Options};

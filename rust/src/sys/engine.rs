@@ -78,7 +78,7 @@ impl EngineHandle {
         })
     }
 
-    /// Orders a sync of the append queue, so that all that was written lasts.
+    /// Orders a sync of the append queue, so that all that was written outlasts a crash.
     ///
     /// # Errors
     ///

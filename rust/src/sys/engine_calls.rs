@@ -79,7 +79,7 @@ unsafe extern "C" {
         text: *mut u8,
         text_len: usize,
     ) -> Status;
-    /// Orders that all that was written lasts.
+    /// Orders a sync of the append queue.
     pub(super) fn raft_ffi_engine_sync(
         engine: *mut Handle,
         text: *mut u8,

@@ -23,7 +23,7 @@ impl<F: EngineFiles> Engine<F> {
     /// Moves what the tables have in rewrite files to a new one of them. First all that was written last is synced, and what the
     /// rewrite queue isn't told yet is put there; then it is synced, and a new file is begun in it; then for each region the
     /// rewritten entries are read, and put with the rewritten keys in the new file: in one batch, or, where these entries are
-    /// of several blocks and have more than 8 KiB together, in an atomic group of several. What the tables have stays the same, in other places, so that the older
+    /// of several blocks and have more than 4 KiB together, in an atomic group of several. What the tables have stays the same, in other places, so that the older
     /// rewrite files may be deleted ([`Engine::purge_rewrite_files`]). What moved isn't synced yet.
     ///
     /// # Errors
@@ -39,7 +39,7 @@ impl<F: EngineFiles> Engine<F> {
     pub fn rewrite_again(&mut self) -> Result<()>
         ensures ok { OnOk result (AreMovedAgain self.old self.new) }
         ensures accepted { OnOk result (self.old.intact ≡ true) }
-        ensures err { IfErr result (AreUnmovedAgain self.old self.new) }
+        ensures err { IfErr result (AreUnmovedAgain F.may_fail self.old self.new) }
         ensures fault { IfErr result (λ e. Breaks self.old self.new
             → IsAgainFault F.may_fail self.old self.new e) }
     {

@@ -33,7 +33,7 @@ impl<F: EngineFiles> Engine<F> {
     pub(crate) fn move_regions_again(&mut self, regions: &[u64]) -> Result<()>
         requires { IsReady self.old }
         ensures ok { OnOk result (AreRegionsMovedAgain regions.now self.old self.new) }
-        ensures err { IfErr result (AreSomeRegionsMovedAgain regions.now self.old self.new) }
+        ensures err { IfErr result (AreSomeRegionsMovedAgain F.may_fail regions.now self.old self.new) }
         ensures fault { IfErr result (λ e. Breaks self.old self.new
             → IsFaultOfRegionsAgain F.may_fail regions.now self.old self.new e) }
     {
@@ -52,7 +52,7 @@ impl<F: EngineFiles> Engine<F> {
     fn move_region_again(&mut self, region: u64) -> Result<()>
         requires { IsReady self.old }
         ensures ok { OnOk result (IsRegionMovedAgain region self.old self.new) }
-        ensures err { IfErr result (IsRegionUnmovedAgain region self.old self.new) }
+        ensures err { IfErr result (IsRegionUnmovedAgain F.may_fail region self.old self.new) }
         ensures fault { IfErr result (λ e. Breaks self.old self.new
             → IsRegionFaultAgain F.may_fail region self.old self.new e) }
     {
@@ -92,7 +92,7 @@ impl<F: EngineFiles> Engine<F> {
         requires { IsReady self.old }
         ensures ok { OnOk result (((finite.get self.old.accessor.tables region ≡ None) × (self.new ≡ self.old))
             ⊎ IsGroupMoved region self.old self.new) }
-        ensures err { IfErr result (IsGroupUnmoved region self.old self.new) }
+        ensures err { IfErr result (IsGroupUnmoved F.may_fail region self.old self.new) }
         ensures fault { IfErr result (λ e. Breaks self.old self.new
             → IsGroupFault F.may_fail region self.old self.new e) }
     {

@@ -3,6 +3,7 @@
 ghost use Rattle.std.specs.Prelude.{◌≡◌, map, IfErr, IfOk, OnOk};
 ghost use Rattle.raft_files.specs.HeldFiles.{file_shown};
 ghost use Rattle.raft_engine.specs.CutTails.{IsRecoveredOf};
+ghost use Rattle.raft_engine.specs.DamagedBatches.{AreDamagedTold};
 ghost use Rattle.raft_engine.specs.Opened.{IsOpened};
 ghost use Rattle.raft_engine.specs.ReadContexts.{HaveReadFound};
 ghost use Rattle.raft_engine.specs.StoredFound.{found_asks};
@@ -87,13 +88,14 @@ impl<F: EngineFiles> Engine<F> {
             (map file_shown rewrite.items) opened.engine) }
         ensures recovered { IfOk result (λ opened. IsRecoveredOf version (map file_shown append.items)
             (map file_shown rewrite.items) opened.recovered) }
+        ensures damaged { IfOk result (λ opened. AreDamagedTold version (map file_shown append.items) opened.damaged.items) }
         ensures accepted { OnOk result (AreBothAccepted mode version (map file_shown append.items)
             (map file_shown rewrite.items)) }
         ensures err { IfErr result (λ unopened. IsUnopened (AreUngroupedAs version) F.may_fail mode version
             (map file_shown append.items) (map file_shown rewrite.items) (F.asked unopened.files) unopened.error) }
     {
         match read_over(alloc, mode, version, append, rewrite, appended, rewritten) {
-            Ok(reading) => Engine::of_reading(version, files, reading),
+            Ok(read) => Engine::of_reading(version, files, read.reading, read.damaged),
             Err(error) => Err(Unopened { files, error }),
         }
     }

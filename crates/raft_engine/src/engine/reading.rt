@@ -37,7 +37,7 @@ impl<F: EngineFiles> Engine<F> {
             → AreBothTold self.new.asks content
             → option_map (λ bytes. bytes.items) found
             ≡ option_map content (entry_at index (table_in self.old region).entries)) }
-        ensures err { IfErr result (IsEntryUnread region (entry_at index (table_in self.old region).entries)
+        ensures err { IfErr result (IsEntryUnread F.may_fail region (entry_at index (table_in self.old region).entries)
             self.old.asks self.new.asks) }
     {
         moves_are_stored();
@@ -74,7 +74,7 @@ impl<F: EngineFiles> Engine<F> {
             (map (λ bytes. bytes.items) entries.old.items) (map (λ bytes. bytes.items) entries.new.items)
             self.old self.new) }
         ensures unchanged { OnErr result (entries.new.items ≡ entries.old.items) }
-        ensures err { IfErr result (AreUnfetched region begin end max_size self.old self.new) }
+        ensures err { IfErr result (AreUnfetched F.may_fail region begin end max_size self.old self.new) }
     {
         moves_are_stored();
         told_contents_are_those_that_were_added();

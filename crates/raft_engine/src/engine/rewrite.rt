@@ -24,7 +24,7 @@ use raft_records::LogBatch;
 impl<F: EngineFiles> Engine<F> {
     /// Moves what the tables have in append files up to the gate to the rewrite queue. First all that was written last is
     /// synced, and what the rewrite queue isn't told yet is put there; then for each region the entries are read, and put
-    /// behind the last rewrite file part by part, each in one batch: the entries of as many blocks as have 8 KiB together at most,
+    /// behind the last rewrite file part by part, each in one batch: the entries of as many blocks as have 4 KiB together at most,
     /// or of one block; the last of them with the keys. What the tables have stays the same, in other files, so that the append
     /// files may be deleted ([`Engine::purge_expired_files`]).
     ///
@@ -40,7 +40,7 @@ impl<F: EngineFiles> Engine<F> {
     pub fn rewrite(&mut self, gate: FileSeq) -> Result<()>
         ensures ok { OnOk result (IsRewritten gate self.old self.new) }
         ensures accepted { OnOk result (self.old.intact ≡ true) }
-        ensures err { IfErr result (IsUnrewritten gate self.old self.new) }
+        ensures err { IfErr result (IsUnrewritten F.may_fail gate self.old self.new) }
         ensures fault { IfErr result (λ e. Breaks self.old self.new
             → IsRewritingFault F.may_fail gate self.old self.new e) }
     {
@@ -60,7 +60,7 @@ impl<F: EngineFiles> Engine<F> {
     pub(crate) fn rewrite_regions(&mut self, regions: &[u64], gate: Option<FileSeq>) -> Result<()>
         requires { IsReady self.old }
         ensures ok { OnOk result (AreRegionsRewritten gate regions.now self.old self.new) }
-        ensures err { IfErr result (AreSomeRewritten gate regions.now self.old self.new) }
+        ensures err { IfErr result (AreSomeRewritten F.may_fail gate regions.now self.old self.new) }
         ensures fault { IfErr result (λ e. Breaks self.old self.new
             → IsFaultOfRegions F.may_fail gate regions.now self.old self.new e) }
     {
@@ -120,7 +120,7 @@ impl<F: EngineFiles> Engine<F> {
     pub(crate) fn rewrite_region(&mut self, region: u64, gate: Option<FileSeq>) -> Result<()>
         requires { IsReady self.old }
         ensures ok { OnOk result (IsRegionRewritten gate region self.old self.new) }
-        ensures err { IfErr result (IsRegionUnmoved gate region self.old self.new) }
+        ensures err { IfErr result (IsRegionUnmoved F.may_fail gate region self.old self.new) }
         ensures fault { IfErr result (λ e. Breaks self.old self.new
             → IsRegionFault F.may_fail gate region self.old self.new e) }
     {
@@ -159,7 +159,7 @@ impl<F: EngineFiles> Engine<F> {
         requires next { IsNextPart gate (part.now ++ left.now) part.now left.now }
         ensures ok { OnOk result (IsBatchMoved gate left.now region self.old self.new) }
         ensures left { gate ≢ None → OnOk result (AreToMove gate region self.new left.now) }
-        ensures err { IfErr result (IsBatchUnmoved gate left.now region self.old self.new) }
+        ensures err { IfErr result (IsBatchUnmoved F.may_fail gate left.now region self.old self.new) }
         ensures fault { IfErr result (λ e. Breaks self.old self.new
             → IsBatchFault F.may_fail gate left.now region self.old self.new e) }
     {

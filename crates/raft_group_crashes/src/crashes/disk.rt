@@ -74,7 +74,7 @@ impl DiskNotes {
         let old = tail.len();
         tail.write(bytes)?;
         if id.queue == LogQueue::Append {
-            self.prefix_texts.push(text(self.alloc, new)?)?;
+            self.prefix_texts.push(copy_text(self.alloc, new)?)?;
         }
         if crashes.each_byte {
             self.try_each_byte(crashes, id.queue, old)?;
@@ -144,7 +144,7 @@ impl DiskNotes {
     fn sync(&mut self, queue: LogQueue) -> Result<()> {
         self.tail(queue).sync();
         if queue == LogQueue::Append {
-            let prefix = text(self.alloc, self.text_of_prefix(usize::MAX))?;
+            let prefix = copy_text(self.alloc, self.text_of_prefix(usize::MAX))?;
             self.prefix_texts = vec![in self.alloc; prefix]?;
         }
         Ok(())
@@ -191,15 +191,15 @@ impl DiskNotes {
         dice: &mut Dice,
     ) -> Result<((FileId, usize), (FileId, usize), String)> {
         let (append, rewrite) = (self.append.draw(dice), self.rewrite.draw(dice));
-        let prefix = text(self.alloc, self.text_of_prefix(append))?;
+        let prefix = copy_text(self.alloc, self.text_of_prefix(append))?;
         self.append.keep(append);
         self.rewrite.keep(rewrite);
-        self.prefix_texts = vec![in self.alloc; text(self.alloc, &prefix)?]?;
+        self.prefix_texts = vec![in self.alloc; copy_text(self.alloc, &prefix)?]?;
         Ok(((self.append.id, append), (self.rewrite.id, rewrite), prefix))
     }
 }
 
 /// Returns a copy of a text.
-fn text(alloc: Global, text: &str) -> Result<String> {
+fn copy_text(alloc: Global, text: &str) -> Result<String> {
     Ok(format!(in alloc; "{text}")?)
 }

@@ -5,7 +5,7 @@ ghost use Rattle.raft_records.specs.LogBatch.{is_open};
 
 use crate::crashes::crash::{CRASHED, Crashes, FILE_SIZE};
 use crate::crashes::disk::DiskNotes;
-use crate::folder_pipe::{clear, path_in};
+use crate::folder_pipe::{path_in, remove_folder};
 use crate::store::{Host, Store};
 use raft_base::{Error, FileId, FileSeq, LogQueue, Result};
 use raft_records::LogBatch;
@@ -49,7 +49,7 @@ impl<'a, R: Host + Print> History<'a, R> {
         Ok(History {
             rt,
             file_size,
-            store: open(rt, file_size)?,
+            store: open_store(rt, file_size)?,
             kept: BTreeMap::new(rt.alloc()),
             disk: DiskNotes::new(rt.alloc(), first)?,
             dice: Dice::new(seed),
@@ -68,7 +68,7 @@ impl<'a, R: Host + Print> History<'a, R> {
                 let _ = self.store.rewrite_rewrite_queue()?;
             }
             17..=19 => self.purge()?,
-            20 | 21 => self.store = open(self.rt, self.file_size)?,
+            20 | 21 => self.store = open_store(self.rt, self.file_size)?,
             22 | 23 => self.fail(crashes)?,
             24 => self.rewrite_all()?,
             25 => self.replace()?,
@@ -119,7 +119,7 @@ impl<'a, R: Host + Print> History<'a, R> {
     /// found in the append queue.
     fn purge_all(&mut self) -> Result<()> {
         if self.dice.hits(2) {
-            self.store = open(self.rt, self.file_size)?;
+            self.store = open_store(self.rt, self.file_size)?;
             self.rewrite_all()?;
         }
         self.store.rotate(LogQueue::Append)?;
@@ -148,7 +148,7 @@ impl<'a, R: Host + Print> History<'a, R> {
         let (append, rewrite, prefix) = self.disk.fail(&mut self.dice)?;
         self.store.pipe.cut_file(append.0, append.1 as u64)?;
         self.store.pipe.cut_file(rewrite.0, rewrite.1 as u64)?;
-        self.store = open(self.rt, self.file_size)?;
+        self.store = open_store(self.rt, self.file_size)?;
         self.kept = self.store.contents()?;
         crashes.compare(text_of(alloc, &self.kept)?.as_str(), prefix.as_str())
     }
@@ -192,7 +192,7 @@ impl<'a, R: Host + Print> History<'a, R> {
 }
 
 /// Opens the store of a history, which then notes what it does to its files.
-fn open<R: Host>(rt: &R, file_size: u64) -> Result<Store<'_, R>> {
+fn open_store<R: Host>(rt: &R, file_size: u64) -> Result<Store<'_, R>> {
     let mut store = Store::open(rt, FOLDER, file_size, 4)?;
     store.changes = Some(Vec::new(rt.alloc()));
     Ok(store)
@@ -200,7 +200,7 @@ fn open<R: Host>(rt: &R, file_size: u64) -> Result<Store<'_, R>> {
 
 /// Makes a folder with an empty file of each queue.
 fn make_folder<R: Host>(rt: &R, folder: &str, seq: FileSeq) -> Result<()> {
-    clear(rt, folder)?;
+    remove_folder(rt, folder)?;
     fs::create_dir_all(rt, folder)?;
     for queue in [LogQueue::Append, LogQueue::Rewrite] {
         let path = path_in(rt.alloc(), folder, FileId::new(queue, seq))?;

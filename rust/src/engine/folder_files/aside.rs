@@ -12,9 +12,9 @@ use std::path::{Path, PathBuf};
 /// # Errors
 ///
 /// Those of the system, with the name of the file, which isn't there then.
-pub(super) fn keep(folder: &Path, id: FileId, offset: u64, bytes: &[u8]) -> io::Result<()> {
+pub(super) fn keep_aside(folder: &Path, id: FileId, offset: u64, bytes: &[u8]) -> io::Result<()> {
     let path = path_for(folder, id, offset, bytes)?;
-    write(&path, bytes).map_err(|e| {
+    write_synced(&path, bytes).map_err(|e| {
         let _ = fs::remove_file(&path); // all of it still stands in the log file
         let text = format!("what is cut can't be kept in {}: {e}", path.display());
         io::Error::new(e.kind(), text)
@@ -46,7 +46,7 @@ fn path_for(folder: &Path, id: FileId, offset: u64, bytes: &[u8]) -> io::Result<
 /// # Errors
 ///
 /// Those of the system. Some of the file may be there then.
-fn write(path: &Path, bytes: &[u8]) -> io::Result<()> {
+fn write_synced(path: &Path, bytes: &[u8]) -> io::Result<()> {
     let mut file = File::create(path)?;
     file.write_all(bytes)?;
     file.sync_all()

@@ -14,7 +14,7 @@ const READ_AT_ONCE: usize = 256 << 10;
 /// # Errors
 ///
 /// `Corruption` where a file is missing between two others, `InvalidArgument` where one is of raft-engine; `Io`, `Memory`.
-pub(super) fn read(
+pub(super) fn read_held(
     files: &impl Files,
     queue: Queue,
     threads: usize,

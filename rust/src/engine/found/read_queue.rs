@@ -48,7 +48,7 @@ fn recover_files(files: &[FilePart<'_>], queue: Queue, threads: usize) -> Result
     for file in files {
         cut_parts(*file, size, &mut parts);
     }
-    recovery::read(&parts, queue, threads)
+    recovery::read_parts(&parts, queue, threads)
 }
 
 /// Returns where the batches of a part end that can be read.

@@ -24,7 +24,7 @@ pub struct Unsynced {
 
 impl Unsynced {
     /// Returns how much isn't synced once this is done too.
-    pub(super) fn and(self, ask: &Ask) -> Unsynced {
+    pub(super) fn with_ask(self, ask: &Ask) -> Unsynced {
         let Unsynced { steps, deletions } = self;
         match ask {
             Ask::Sync(_) => Unsynced::default(),

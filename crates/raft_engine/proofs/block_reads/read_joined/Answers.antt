@@ -6,7 +6,7 @@ use Rattle.raft_engine.proofs.block_reads.read_joined.Goals as goal
 pub returns-in_err-keep_block-clause-err : goal.returns-in_err-keep_block-clause-err
 returns-in_err-keep_block-clause-err g c =
     let less : c.loop-entry.entry-index < length c.args.entries.now = search rules in
-    let p = err_from_is_err_and c.from_residual.result c.from_residual.ensures.1 in
+    let p = err_from_is_err_and c.from_residual-in_err-keep_block.result c.from_residual-in_err-keep_block.ensures.1 in
     rw (p.1, p.2) (unjoined_block_at c.args.region c.loop-entry.entry-index c.args.entries.now _ c.loop-entry.joined.items c.loop-entry.last _ _ _ _ less c.loop-entry.invariant c.in_err-keep_block.ensures.err)
 
 pub returns-in_err-push_bytes-clause-err : goal.returns-in_err-push_bytes-clause-err

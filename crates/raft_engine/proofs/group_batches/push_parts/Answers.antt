@@ -35,7 +35,7 @@ pub returns-in_err-part_batch-clause-refused : goal.returns-in_err-part_batch-cl
 returns-in_err-part_batch-clause-refused g c =
     let p = err_from_is_err_and c.from_residual.result c.from_residual.ensures.1 in
     rw (p.1, p.2) (λ some. parts_refused c.args.entries.now _ _ _ _ _ _ _ c.loop-rest.rest.now c.part_len.result _ c.loop-rest.invariant.0 c.part_len.ensures
-    (subst (λ (es : List EntryIndex). IsPartRefused c.args.region es (g.F.EngineFiles.asked c.loop-rest.files) (g.F.EngineFiles.asked c.part_batch.new.files) c.in_err-part_batch.field-0.0) c.split_at.ensures.front
+    (subst (λ (es : List EntryIndex). IsPartRefused (g.F.EngineFiles.may_fail) c.args.region es (g.F.EngineFiles.asked c.loop-rest.files) (g.F.EngineFiles.asked c.part_batch.new.files) c.in_err-part_batch.field-0.0) c.split_at.ensures.front
     (c.in_err-part_batch.ensures.refused some)))
 
 pub returns-in_err-push-clause-err : goal.returns-in_err-push-clause-err

@@ -20,7 +20,7 @@ loop-rest-preserved c =
     let some : c.loop-rest.rest.now ≢ [] = search rules in
     let less = some_left c.args.entries.now c.loop-rest.rest.now c.loop-rest.len c.loop-rest.invariant.0 some in
     let capped = subst (IsCapped c.bytes_of-bytes.result) c.split_at.ensures.front c.bytes_of-bytes.ensures.capped in
-    let fits : 0 < c.loop-rest.len → c.loop-rest.bytes + c.bytes_of-bytes.result ≤ 8192 = elim c.else-len-gt0.branch [
+    let fits : 0 < c.loop-rest.len → c.loop-rest.bytes + c.bytes_of-bytes.result ≤ 4096 = elim c.else-len-gt0.branch [
       | else-len-gt0-via-then-len-gt0+else-bytes-gt-MAX_REWRITE_BATCH_BYTES w ↦ λ some. w.if-bytes-gt-MAX_REWRITE_BATCH_BYTES.false
       | else-len-gt0-via-else-len-gt0 w ↦ λ some. let none = w.if-len-gt0.false in absurd (omega (arith, none, some))
     ] in (

@@ -4,7 +4,7 @@ use Rattle.raft_base.specs.declared.pipe_log.LogQueue.TheVariants.{Append, Rewri
 use Rattle.raft_files.specs.HeldFiles.{file_shown}
 use Rattle.raft_recover.specs.Files.{AreWholeFiles}
 use Rattle.raft_engine.specs.Unopened.{AreUnrecoveredAs}
-use Rattle.raft_engine.proofs.RecoveredLemmas.{both_read_by, long_refused, on_any}
+use Rattle.raft_engine.proofs.RecoveredLemmas.{both_read_by, reading_refused}
 use Rattle.raft_engine.proofs.reading.read_found.Goals as goal
 
 pub returns-in_err-append-clause-fault : goal.returns-in_err-append-clause-fault
@@ -19,6 +19,13 @@ returns-in_err-rewrite-clause-fault g c =
 
 pub read_again-requires : goal.read_again-requires
 read_again-requires g c = (c.type_bounds.sync-R, (map file_shown c.args.append.items, map file_shown c.args.rewrite.items, c.in_ok-append.ensures.ok, c.in_ok-rewrite.ensures.ok))
+
+pub damaged-requires : goal.damaged-requires
+damaged-requires g c =
+    let fa = c.in_ok-append.ensures.ok in
+    let fr = c.in_ok-rewrite.ensures.ok in
+    let b = c.in-Ok.ensures c.args.version _ _ (subst (AreWholeFiles Append c.args.version _) (sym c.as_slice-segments.ensures.value) fa.whole) (subst (AreWholeFiles Rewrite c.args.version _) (sym c.as_slice-rewrite_segments.ensures.value) fr.whole) in
+    (c.type_bounds.sync-R, (Append, c.args.version, map file_shown c.args.append.items, fa, b.appended.told))
 
 pub of-requires-3 : goal.of-requires-3
 of-requires-3 g c =
@@ -39,6 +46,18 @@ returns-in_err-both-clause-fault g c =
       | inr f ↦ inr (inl f)
     ])
 
+pub returns-in_err-reading-clause-fault : goal.returns-in_err-reading-clause-fault
+returns-in_err-reading-clause-fault g c =
+    let fa = c.in_ok-append.ensures.ok in
+    let fr = c.in_ok-rewrite.ensures.ok in
+    let b = c.in-Ok.ensures c.args.version _ _ (subst (AreWholeFiles Append c.args.version _) (sym c.as_slice-segments.ensures.value) fa.whole) (subst (AreWholeFiles Rewrite c.args.version _) (sym c.as_slice-rewrite_segments.ensures.value) fr.whole) in
+    let are = c.in_ok-both.ensures.ok c.args.version _ _ fa fr b.appended.told b.rewritten.told in
+    let t = c.torn_tails_are_found.ensures in
+    let p = err_from_is_err_and c.from_residual-in_err-reading.result c.from_residual-in_err-reading.ensures.1 in
+    rw (p.1, p.2)
+    (reading_refused (AreUnrecoveredAs c.args.version c.args.workers) c.args.mode c.args.version _ _ c.in_ok-both.both.ready are _
+    (λ other. inr (c.in_err-reading.ensures.fault c.args.version _ _ (both_read_by t.whole t.one_reading t.cut c.files_hold_few_records.ensures c.args.mode c.args.version _ _ c.in_ok-both.both.ready are c.in-Ok.read b) other)))
+
 pub returns-clause-ok : goal.returns-clause-ok
 returns-clause-ok g c =
     let fa = c.in_ok-append.ensures.ok in
@@ -46,18 +65,11 @@ returns-clause-ok g c =
     let b = c.in-Ok.ensures c.args.version _ _ (subst (AreWholeFiles Append c.args.version _) (sym c.as_slice-segments.ensures.value) fa.whole) (subst (AreWholeFiles Rewrite c.args.version _) (sym c.as_slice-rewrite_segments.ensures.value) fr.whole) in
     let are = c.in_ok-both.ensures.ok c.args.version _ _ fa fr b.appended.told b.rewritten.told in
     let t = c.torn_tails_are_found.ensures in
-    c.with_contexts.ensures.ok c.args.mode c.args.version _ _ are
+    c.in_ok-reading.ensures.ok c.args.mode c.args.version _ _ are
     (both_read_by t.whole t.one_reading t.cut c.files_hold_few_records.ensures c.args.mode c.args.version _ _ c.in_ok-both.both.ready are c.in-Ok.read b)
 
-pub returns-clause-fault : goal.returns-clause-fault
-returns-clause-fault g c =
-    let fa = c.in_ok-append.ensures.ok in
-    let fr = c.in_ok-rewrite.ensures.ok in
-    let b = c.in-Ok.ensures c.args.version _ _ (subst (AreWholeFiles Append c.args.version _) (sym c.as_slice-segments.ensures.value) fa.whole) (subst (AreWholeFiles Rewrite c.args.version _) (sym c.as_slice-rewrite_segments.ensures.value) fr.whole) in
-    let are = c.in_ok-both.ensures.ok c.args.version _ _ fa fr b.appended.told b.rewritten.told in
-    let t = c.torn_tails_are_found.ensures in
-    long_refused (AreUnrecoveredAs c.args.version c.args.workers) c.args.mode c.args.version _ _ c.in_ok-both.both.ready are c.with_contexts.result
-    (c.with_contexts.ensures.fault c.args.version _ _ (both_read_by t.whole t.one_reading t.cut c.files_hold_few_records.ensures c.args.mode c.args.version _ _ c.in_ok-both.both.ready are c.in-Ok.read b))
+pub returns-clause-damaged : goal.returns-clause-damaged
+returns-clause-damaged g c = c.in_ok-damaged.ensures.ok c.args.version _ c.in_ok-append.ensures.ok
 
 pub returns-clause-accepted : goal.returns-clause-accepted
 returns-clause-accepted g c =
@@ -65,4 +77,4 @@ returns-clause-accepted g c =
     let fr = c.in_ok-rewrite.ensures.ok in
     let b = c.in-Ok.ensures c.args.version _ _ (subst (AreWholeFiles Append c.args.version _) (sym c.as_slice-segments.ensures.value) fa.whole) (subst (AreWholeFiles Rewrite c.args.version _) (sym c.as_slice-rewrite_segments.ensures.value) fr.whole) in
     let are = c.in_ok-both.ensures.ok c.args.version _ _ fa fr b.appended.told b.rewritten.told in
-    on_any c.with_contexts.result (are.append.missing.accepted, are.rewrite.missing.accepted)
+    (are.append.missing.accepted, are.rewrite.missing.accepted)

@@ -1,4 +1,4 @@
-use Rattle.std.proofs.Common.{List, subst}
+use Rattle.std.proofs.Common.{inr, List, subst}
 use Rattle.raft_replay.proofs.Passed.{on_passed}
 use Rattle.raft_base.specs.declared.pipe_log.LogQueue.TheVariants.{Append, Rewrite}
 use Rattle.raft_reading.specs.declared.queue_files.FileSize.{FileSize}
@@ -16,7 +16,7 @@ returns-clause-checked g c =
     let sizes = c.args.sizes.now in
     let append = subst (λ (files : List FileSize). AreScansOf gives Append c.args.version files c.in_ok-append.append.items) c.deref.ensures.value c.in_ok-append.ensures.scanned in
     let rewrite = subst (λ (files : List FileSize). AreScansOf gives Rewrite c.args.version files c.in_ok-rewrite.rewrite.items) c.deref-2.ensures.value c.in_ok-rewrite.ensures.scanned in
-    checked gives c.args.version c.args.workers sizes.append.items sizes.rewrite.items c.in_ok-append.append.items c.in_ok-rewrite.rewrite.items c.in_ok-opening.opening c.new.result append rewrite
+    checked gives (g.S.ReadFiles.may_fail c.args.source.now) c.args.version c.args.workers sizes.append.items sizes.rewrite.items c.in_ok-append.append.items c.in_ok-rewrite.rewrite.items c.in_ok-opening.opening c.new.result append rewrite
     c.in_ok-opening.ensures.ok c.new.ensures.scans c.new.ensures.opening c.new.ensures.verdict
 
 pub returns-clause-printed : goal.returns-clause-printed
@@ -29,7 +29,7 @@ returns-in_err-append-clause-fault g c =
     let gives = g.S.ReadFiles.gives c.args.source.now in
     let fails = g.S.ReadFiles.may_fail c.args.source.now in
     on_passed _ _ c.from_residual.ensures.1
-    (of_append gives fails c.args.sizes.now.append.items c.args.sizes.now.rewrite.items c.in_err-append.field-0.0
+    (of_append gives fails c.args.version c.args.workers c.args.sizes.now.append.items c.args.sizes.now.rewrite.items c.in_err-append.field-0.0
     (subst (λ (files : List FileSize). IsUnprintedFor (IsOneUnread gives fails Append files) c.in_err-append.field-0.0) c.deref.ensures.value c.in_err-append.ensures.fault))
 
 pub returns-in_err-rewrite-clause-fault : goal.returns-in_err-rewrite-clause-fault
@@ -37,9 +37,9 @@ returns-in_err-rewrite-clause-fault g c =
     let gives = g.S.ReadFiles.gives c.args.source.now in
     let fails = g.S.ReadFiles.may_fail c.args.source.now in
     on_passed _ _ c.from_residual-in_err-rewrite.ensures.1
-    (of_rewrite gives fails c.args.sizes.now.append.items c.args.sizes.now.rewrite.items c.in_err-rewrite.field-0.0
+    (of_rewrite gives fails c.args.version c.args.workers c.args.sizes.now.append.items c.args.sizes.now.rewrite.items c.in_err-rewrite.field-0.0
     (subst (λ (files : List FileSize). IsUnprintedFor (IsOneUnread gives fails Rewrite files) c.in_err-rewrite.field-0.0) c.deref-2.ensures.value c.in_err-rewrite.ensures.fault))
 
 pub returns-in_err-opening-clause-fault : goal.returns-in_err-opening-clause-fault
 returns-in_err-opening-clause-fault g c =
-    on_passed _ _ c.from_residual-in_err-opening.ensures.1 c.in_err-opening.ensures.unread
+    on_passed _ _ c.from_residual-in_err-opening.ensures.1 (λ other. inr (c.in_err-opening.ensures.untried other))

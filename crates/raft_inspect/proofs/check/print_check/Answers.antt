@@ -1,5 +1,5 @@
 use Rattle.raft_replay.proofs.Passed.{on_passed}
-use Rattle.raft_survey.specs.FileWalks.{IsOneOfBothUnread}
+use Rattle.raft_inspect.specs.Faults.{IsUnchecked}
 use Rattle.raft_inspect.proofs.FaultLemmas.{for_none}
 use Rattle.raft_inspect.proofs.PrintedLemmas.{whole_check}
 use Rattle.raft_inspect.proofs.check.print_check.Goals as goal
@@ -13,4 +13,4 @@ pub returns-in_err-print_ending-clause-fault : goal.returns-in_err-print_ending-
 returns-in_err-print_ending-clause-fault g c =
     let source = c.args.source.now in
     let sizes = c.args.sizes.now in
-    on_passed _ _ c.from_residual-in_err-print_ending.ensures.1 (for_none (IsOneOfBothUnread (g.S.ReadFiles.gives source) (g.S.ReadFiles.may_fail source) sizes.append.items sizes.rewrite.items) c.in_err-print_ending.field-0.0 c.in_err-print_ending.ensures.fault)
+    on_passed _ _ c.from_residual-in_err-print_ending.ensures.1 (for_none (IsUnchecked (g.S.ReadFiles.gives source) (g.S.ReadFiles.may_fail source) c.args.version c.args.workers sizes.append.items sizes.rewrite.items) c.in_err-print_ending.field-0.0 c.in_err-print_ending.ensures.fault)

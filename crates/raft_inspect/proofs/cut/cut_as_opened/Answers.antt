@@ -1,6 +1,5 @@
-use Rattle.std.proofs.Common.{inl, inr, map, refl}
+use Rattle.std.proofs.Common.{inl, inr, refl}
 use Rattle.raft_replay.proofs.Passed.{on_passed}
-use Rattle.raft_files.specs.HeldFiles.{file_shown}
 use Rattle.raft_inspect.proofs.CutLemmas.{none_cut}
 use Rattle.raft_inspect.proofs.cut.cut_as_opened.Goals as goal
 
@@ -9,13 +8,13 @@ returns-clause-ok g c = record { opens = c.in_ok-opening.ensures.ok; asked = c.i
 
 pub returns-in_err-opening-clause-fault : goal.returns-in_err-opening-clause-fault
 returns-in_err-opening-clause-fault g c =
-    on_passed _ _ c.from_residual.ensures.1 (inl (c.in_err-opening.ensures.memory, refl))
+    on_passed _ _ c.from_residual.ensures.1 (inl (c.in_err-opening.ensures.untried, refl))
 
 pub returns-in_err-print_opening-clause-fault : goal.returns-in_err-print_opening-clause-fault
 returns-in_err-print_opening-clause-fault g c =
     let asked = g.F.EngineFiles.asked c.args.files.now in
     on_passed _ _ c.from_residual-in_err-print_opening.ensures.1
-    (none_cut (g.F.EngineFiles.may_fail) c.args.version c.args.workers (map file_shown c.args.append.items) (map file_shown c.args.rewrite.items) asked asked c.in_err-print_opening.field-0.0 c.in_err-print_opening.ensures.fault refl)
+    (none_cut (g.F.EngineFiles.may_fail) (g.S.ReadFiles.gives c.args.source.now) (g.S.ReadFiles.may_fail c.args.source.now) c.args.version c.args.workers c.args.sizes.now.append.items c.args.sizes.now.rewrite.items asked asked c.in_err-print_opening.field-0.0 c.in_err-print_opening.ensures.fault refl)
 
 pub returns-in_err-cut_tails-clause-fault : goal.returns-in_err-cut_tails-clause-fault
 returns-in_err-cut_tails-clause-fault g c =

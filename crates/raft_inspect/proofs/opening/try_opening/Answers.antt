@@ -1,15 +1,26 @@
-use Rattle.std.proofs.Common.{map}
+use Rattle.std.proofs.Common.{subst, sym}
 use Rattle.std.proofs.lemmas.Result.{IfOk-weaker}
-use Rattle.raft_files.specs.HeldFiles.{file_shown}
 use Rattle.raft_inspect.specs.Openings.{IsOpeningOf}
-use Rattle.raft_inspect.proofs.TableLemmas.{both_read}
+use Rattle.raft_inspect.specs.declared.opening.Opening.{Opening}
+use Rattle.raft_inspect.proofs.OpeningLemmas.{opens_so, untried_so}
 use Rattle.raft_inspect.proofs.opening.try_opening.Goals as goal
 
-pub returns-clause-ok : goal.returns-clause-ok
-returns-clause-ok g c =
+pub returns-in-Ok-clause-ok : goal.returns-in-Ok-clause-ok
+returns-in-Ok-clause-ok g c =
     let sizes = c.args.sizes.now in
-    let found = c.in_ok-found.found in
-    IfOk-weaker c.opening_of.result _ _
-    (λ opening holds. both_read (g.S.ReadFiles.gives c.args.source.now) sizes.append.items sizes.rewrite.items (IsOpeningOf c.args.version c.args.workers opening) (map file_shown found.append.items)
-    (map file_shown found.rewrite.items) c.in_ok-found.ensures.append c.in_ok-found.ensures.rewrite holds)
-    c.opening_of.ensures.ok
+    opens_so (g.S.ReadFiles.gives c.args.source.now) (g.S.ReadFiles.may_fail c.args.source.now) c.args.version sizes.append.items sizes.rewrite.items c.args.workers c.in-Ok.reading c.tails_of.result c.in-Ok.ensures.ok c.tails_of.ensures.0 c.tails_of.ensures.1
+
+pub returns-in-Err-clause-ok : goal.returns-in-Err-clause-ok
+returns-in-Err-clause-ok g c =
+    let sizes = c.args.sizes.now in
+    IfOk-weaker c.refusal_for.result _ _
+    (λ opening is.
+    subst (λ (o : Opening). IsOpeningOf (g.S.ReadFiles.gives c.args.source.now) (g.S.ReadFiles.may_fail c.args.source.now) c.args.version c.args.workers sizes.append.items sizes.rewrite.items o) (sym is.0)
+    (is.1, is.2, c.in-Err.ensures.refused is.1))
+    c.refusal_for.ensures.ok
+
+pub returns-in-Err-clause-untried : goal.returns-in-Err-clause-untried
+returns-in-Err-clause-untried g c =
+    let sizes = c.args.sizes.now in
+    untried_so (g.S.ReadFiles.gives c.args.source.now) (g.S.ReadFiles.may_fail c.args.source.now) c.args.version sizes.append.items sizes.rewrite.items c.args.workers c.refusal_for.result c.in-Err.error c.in-Err.ensures.refused
+    c.refusal_for.ensures.same c.refusal_for.ensures.unread

@@ -1,4 +1,4 @@
-use Rattle.std.proofs.Common.{◌≡◌, ◌≤◌, ℕ, List, length, drop, ap, subst, arith, length-drop}
+use Rattle.std.proofs.Common.{◌≡◌, ◌<◌, ◌≤◌, ℕ, List, length, drop, ap, subst, arith, length-drop}
 use Rattle.raft_records.specs.FilePart.{HasHeader}
 use Rattle.raft_survey.proofs.WalkedLemmas.{batch_more}
 use Rattle.raft_survey.proofs.file_walk.whole_batches.Goals as goal
@@ -15,3 +15,6 @@ loop-len-preserved c =
       inside = omega (arith, read.whole, ap length left, length-drop at bytes, c.loop-len.invariant.inside);
       whole = batch_more bytes at read.header.0 c.in-Some.len c.loop-len.invariant.inside c.loop-len.invariant.whole header whole;
     }
+
+pub returns-in_default-clause-none : goal.returns-in_default-clause-none
+returns-in_default-clause-none c = record { none = subst (λ (xs : List ℕ). (offset len : ℕ) → HasHeader xs offset len → length xs < len) c.split_at.ensures.back c.in_default.ensures.none }

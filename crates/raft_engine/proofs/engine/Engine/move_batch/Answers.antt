@@ -71,7 +71,7 @@ returns-then-self-gt-LAST_OFFSET-clause-err g c =
     let old : List Ask = g.F.EngineFiles.asked e.files in
     let ready : IsReady (record { version = e.version; asks = old; untold = e.untold; accessor = e.accessor; intact = e.intact }) = subst IsReady (sym c.self.view_is) c.requires.ready in
     let many : 2 ^ 63 < e.rewrite.len = search rules in
-    subst (λ (o : KeptEngine). IsBatchUnmoved c.args.gate c.args.left.now c.args.region o o errors.Full) c.self.view_is
+    subst (λ (o : KeptEngine). IsBatchUnmoved (g.F.EngineFiles.may_fail) c.args.gate c.args.left.now c.args.region o o errors.Full) c.self.view_is
     (file_refused c.moves_are_stored.ensures.read e.version old e.append e.rewrite e.untold e.accessor e.intact c.self.invariant c.args.gate c.args.left.now c.args.region
     (rewrite_full e.version old e.append e.rewrite e.untold e.accessor e.intact c.self.invariant ready.intact many))
 
@@ -82,7 +82,7 @@ returns-in_err-batch-clause-err g c =
     let between : List Ask = g.F.EngineFiles.asked c.moving_batch.new.files in
     let p = err_from_is_err_and c.from_residual.result c.from_residual.ensures.1 in
     rw (p.1, p.2)
-    (subst (λ (o : KeptEngine). IsBatchUnmoved c.args.gate c.args.left.now c.args.region o (record { version = e.version; asks = between; untold = e.untold; accessor = e.accessor; intact = e.intact }) c.in_err-batch.field-0.0) c.self.view_is
+    (subst (λ (o : KeptEngine). IsBatchUnmoved (g.F.EngineFiles.may_fail) c.args.gate c.args.left.now c.args.region o (record { version = e.version; asks = between; untold = e.untold; accessor = e.accessor; intact = e.intact }) c.in_err-batch.field-0.0) c.self.view_is
     (batch_refused c.moves_are_stored.ensures.read e.version old e.append e.rewrite e.untold e.accessor e.intact c.self.invariant c.args.gate c.args.left.now c.args.region
     c.in-Some.table.now (sym c.in-Some.ensures.value) between c.in_err-batch.field-0.0 c.in_err-batch.ensures.err c.in_err-batch.ensures.refused))
 
@@ -95,7 +95,7 @@ returns-in_err-len-clause-err g c =
     let ready : IsReady (record { version = e.version; asks = old; untold = e.untold; accessor = e.accessor; intact = e.intact }) = subst IsReady (sym c.self.view_is) c.requires.ready in
     let p = err_from_is_err_and c.from_residual-in_err-len.result c.from_residual-in_err-len.ensures.1 in
     rw (p.1, p.2)
-    (subst (λ (o : KeptEngine). IsBatchUnmoved c.args.gate c.args.left.now c.args.region o (record { version = e.version; asks = between; untold = e.untold; accessor = e.accessor; intact = e.intact }) c.in_err-len.field-0.0) c.self.view_is
+    (subst (λ (o : KeptEngine). IsBatchUnmoved (g.F.EngineFiles.may_fail) c.args.gate c.args.left.now c.args.region o (record { version = e.version; asks = between; untold = e.untold; accessor = e.accessor; intact = e.intact }) c.in_err-len.field-0.0) c.self.view_is
     (bytes_refused c.moves_are_stored.ensures.read e.version old e.append e.rewrite e.untold e.accessor e.intact c.self.invariant
     c.moves_are_stored.ensures.moved ready.intact ready.synced ready.told c.args.gate c.args.left.now c.args.region c.in-Some.table.now (sym c.in-Some.ensures.value) c.in-Some.ensures.own c.holds_one_run.ensures
     between c.in_ok-batch.batch m c.in_err-len.field-0.0 c.in_err-len.ensures.fault))

@@ -76,7 +76,7 @@ returns-in_err-batches-clause-err g c =
     let after : KeptEngine = record { version = e.version; asks = between; untold = e.untold; accessor = e.accessor; intact = e.intact } in
     let q = err_from_is_err_and c.from_residual.result c.from_residual.ensures.1 in
     rw (q.1, q.2)
-    (subst (λ (o : KeptEngine). IsGroupUnmoved c.args.region o after c.in_err-batches.field-0.0) c.self.view_is
+    (subst (λ (o : KeptEngine). IsGroupUnmoved (g.F.EngineFiles.may_fail) c.args.region o after c.in_err-batches.field-0.0) c.self.view_is
     (group_unmade c.moves_are_stored.ensures.read e.version old e.append e.rewrite e.untold e.accessor e.intact
     c.self.invariant c.args.region c.in-Some.table.now (sym c.in-Some.ensures.value) between
     c.in_err-batches.field-0.0 c.in_err-batches.ensures.err c.in_err-batches.ensures.refused))
@@ -92,7 +92,7 @@ returns-in_err-made-clause-err g c =
     let after : KeptEngine = record { version = e.version; asks = between; untold = e.untold; accessor = e.accessor; intact = e.intact } in
     let q = err_from_is_err_and c.from_residual-in_err-made.result c.from_residual-in_err-made.ensures.1 in
     rw (q.1, q.2)
-    (subst (λ (o : KeptEngine). IsGroupUnmoved c.args.region o after c.in_err-made.field-0.0) c.self.view_is
+    (subst (λ (o : KeptEngine). IsGroupUnmoved (g.F.EngineFiles.may_fail) c.args.region o after c.in_err-made.field-0.0) c.self.view_is
     (group_long c.moves_are_stored.ensures.read e.version old e.append e.rewrite e.untold e.accessor e.intact
     c.self.invariant ready.intact c.args.region c.in-Some.table.now (sym c.in-Some.ensures.value) between
     c.in_ok-batches.batches.items p c.in_err-made.field-0.0 c.in_err-made.ensures.refused))

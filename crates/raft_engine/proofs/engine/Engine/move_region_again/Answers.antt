@@ -17,7 +17,7 @@ returns-clause-ok g c =
 pub returns-clause-err : goal.returns-clause-err
 returns-clause-err g c =
     let several : ¬ (IsOnePartOf c.args.region c.args.self.now) = λ h. false≢true (sym c.if-branch.false ∙ c.in_ok-is_one_part.ensures.ok.1 h) in
-    if_err_so (IsGroupUnmoved c.args.region c.args.self.now c.move_group.new.self) (IsRegionUnmovedAgain c.args.region c.args.self.now c.move_group.new.self) c.move_group.result
+    if_err_so (IsGroupUnmoved (g.F.EngineFiles.may_fail) c.args.region c.args.self.now c.move_group.new.self) (IsRegionUnmovedAgain (g.F.EngineFiles.may_fail) c.args.region c.args.self.now c.move_group.new.self) c.move_group.result
     (λ e. group_not_again c.args.region c.args.self.now c.move_group.new.self e several) c.move_group.ensures.err
 
 pub returns-then-branch-clause-ok : goal.returns-then-branch-clause-ok
@@ -26,7 +26,7 @@ returns-then-branch-clause-ok g c =
 
 pub returns-then-branch-clause-err : goal.returns-then-branch-clause-err
 returns-then-branch-clause-err g c =
-    if_err_so (IsRegionUnmoved None c.args.region c.args.self.now c.rewrite_region.new.self) (IsRegionUnmovedAgain c.args.region c.args.self.now c.rewrite_region.new.self) c.rewrite_region.result
+    if_err_so (IsRegionUnmoved (g.F.EngineFiles.may_fail) None c.args.region c.args.self.now c.rewrite_region.new.self) (IsRegionUnmovedAgain (g.F.EngineFiles.may_fail) c.args.region c.args.self.now c.rewrite_region.new.self) c.rewrite_region.result
     (λ e m. inr (inl (c.in_ok-is_one_part.ensures.ok.0 c.if-branch.true, m))) c.rewrite_region.ensures.err
 
 pub returns-in_err-is_one_part-clause-err : goal.returns-in_err-is_one_part-clause-err

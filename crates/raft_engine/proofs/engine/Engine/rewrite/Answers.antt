@@ -21,7 +21,7 @@ returns-clause-ok g c =
 
 pub returns-clause-err : goal.returns-clause-err
 returns-clause-err g c =
-    if_err_so (AreSomeRewritten (Some c.args.gate) c.as_slice.result.now c.tell.new.self c.rewrite_regions.new.self) (IsUnrewritten c.args.gate c.args.self.now c.rewrite_regions.new.self) c.rewrite_regions.result
+    if_err_so (AreSomeRewritten (g.F.EngineFiles.may_fail) (Some c.args.gate) c.as_slice.result.now c.tell.new.self c.rewrite_regions.new.self) (IsUnrewritten (g.F.EngineFiles.may_fail) c.args.gate c.args.self.now c.rewrite_regions.new.self) c.rewrite_regions.result
     (λ e some. inr (record {
       was = c.in_ok-tell.ensures.accepted;
       told = c.tell.new.self;

@@ -32,7 +32,7 @@ returns-clause-ok g c =
 
 pub returns-clause-err : goal.returns-clause-err
 returns-clause-err g c =
-    if_err_so (AreSomeRegionsMovedAgain c.as_slice.result.now c.rotate_rewrite.new.self c.move_regions_again.new.self) (AreUnmovedAgain c.args.self.now c.move_regions_again.new.self) c.move_regions_again.result
+    if_err_so (AreSomeRegionsMovedAgain (g.F.EngineFiles.may_fail) c.as_slice.result.now c.rotate_rewrite.new.self c.move_regions_again.new.self) (AreUnmovedAgain (g.F.EngineFiles.may_fail) c.args.self.now c.move_regions_again.new.self) c.move_regions_again.result
     (λ e some. inr (inr (record {
       was = c.in_ok-tell.ensures.accepted;
       told = c.tell.new.self;

@@ -1,6 +1,5 @@
-use Rattle.std.proofs.Common.{map, subst}
+use Rattle.std.proofs.Common.{subst}
 use Rattle.raft_recover.specs.FileRecovery.{IsNamed}
-use Rattle.raftlog.specs.Sources.{path_shown}
 use Rattle.raftlog.proofs.source.SourceReadFiles.read.Goals as goal
 
 -- the bytes are those that a read at the path of the file gave
@@ -9,6 +8,6 @@ returns-in-Ok-clause-ok g c =
     let read = c.in-Ok.ensures.ok in
     record {
       bytes = read.bytes;
-      given = (c.in-Some.path.now, subst (λ paths. IsNamed (map path_shown paths) c.args.file.seq c.in-Some.path.now) c.paths_of.ensures c.in-Some.ensures, read.given);
+      given = (c.in-Some.path.now, subst (λ paths. IsNamed paths c.args.file.seq c.in-Some.path.now) c.paths_of.ensures c.in-Some.ensures, read.given);
       behind = read.behind;
     }

@@ -1,0 +1,80 @@
+//! Where the entries of regions begin and end.
+
+ghost use Rattle.std.specs.Prelude.{◌≡◌, ◌↔◌, ℕ, [], cond, nat_eq, IfErr, IsTrue, OnOk, Some};
+ghost use Rattle.raft_accessor.specs.Common.{IsFirst, known_extents, lookup};
+
+use crate::append_check::Extent;
+use raft_base::{Error, Result};
+use std::alloc::Global;
+use std::collections::HashMap;
+
+/// Where the entries of regions begin and end. What is known of the first region stands beside the map of the others, so
+/// that items of one region need no map.
+#[derive(Drop)]
+pub(crate) struct KnownExtents {
+    first: Option<(u64, Extent)>,
+    others: HashMap<u64, Extent>,
+}
+
+impl KnownExtents {
+    /// Makes one that knows of no region.
+    pub(crate) fn new(alloc: Global) -> KnownExtents
+        ensures { known_extents result ≡ [] }
+    {
+        KnownExtents {
+            first: None,
+            others: HashMap::new(alloc),
+        }
+    }
+
+    /// Returns where the entries of a region begin and end, if that is known.
+    pub(crate) fn get(&self, id: u64) -> Option<Extent>
+        ensures { result ≡ lookup (nat_eq id) (known_extents self.now) }
+    {
+        match self.first {
+            Some((region, extent)) => {
+                if region == id {
+                    Some(extent)
+                } else {
+                    self.of_other(id)
+                }
+            }
+            None => self.of_other(id),
+        }
+    }
+
+    /// Returns what is known of a region that isn't the first one.
+    fn of_other(&self, id: u64) -> Option<Extent>
+        ensures { result ≡ lookup (nat_eq id) self.now.others.entries }
+    {
+        self.others.get(&id).copied()
+    }
+
+    /// Notes where the entries of a region begin and end now.
+    ///
+    /// # Errors
+    ///
+    /// `Memory`.
+    pub(crate) fn insert(&mut self, id: u64, extent: Extent) -> Result<()>
+        ensures ok { OnOk result ((q : ℕ) → lookup (nat_eq q) (known_extents self.new)
+            ≡ cond (nat_eq id q) (Some extent) (lookup (nat_eq q) (known_extents self.old))) }
+        ensures memory { IfErr result (λ e. e ≡ Error.Memory) }
+    {
+        if !self.is_first(id) {
+            self.others.insert(id, extent)?;
+            return Ok(());
+        }
+        self.first = Some((id, extent));
+        Ok(())
+    }
+
+    /// Tests whether a region is the first one, or may be.
+    fn is_first(&self, id: u64) -> bool
+        ensures { IsTrue result ↔ IsFirst id self.now.first }
+    {
+        match self.first {
+            Some((region, _)) => region == id,
+            None => true,
+        }
+    }
+}

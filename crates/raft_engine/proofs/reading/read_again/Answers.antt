@@ -8,7 +8,7 @@ use Rattle.raft_engine.proofs.reading.read_again.Goals as goal
 
 pub returns-in_err-both-clause-fault : goal.returns-in_err-both-clause-fault
 returns-in_err-both-clause-fault g c = λ found known fa fr.
-    let p = err_from_is_err_and c.from_residual.result c.from_residual.ensures.1 in
+    let p = err_from_is_err_and c.from_residual-in_err-both.result c.from_residual-in_err-both.ensures.1 in
     rw (p.1, p.2) (any_refusal (AreUnrecoveredAs c.args.version c.args.workers) c.args.mode c.args.version found known _ (c.in_err-both.ensures.fault found known fa fr (c.in_ok-tail.ensures.ok Append c.args.version found fa)))
 
 pub returns-in_err-rewritten-clause-fault : goal.returns-in_err-rewritten-clause-fault

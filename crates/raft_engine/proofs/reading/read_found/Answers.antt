@@ -34,6 +34,19 @@ of-requires-3 g c =
     let b = c.in-Ok.ensures c.args.version _ _ (subst (AreWholeFiles Append c.args.version _) (sym c.as_slice-segments.ensures.value) fa.whole) (subst (AreWholeFiles Rewrite c.args.version _) (sym c.as_slice-rewrite_segments.ensures.value) fr.whole) in
     (c.args.version, map file_shown c.args.append.items, map file_shown c.args.rewrite.items, fa, fr, b.appended.told, b.rewritten.told)
 
+pub returns-in-Err : goal.returns-in-Err
+returns-in-Err g c =
+    let found = map file_shown c.args.append.items in
+    let known = map file_shown c.args.rewrite.items in
+    let fa = c.in_ok-append.ensures.ok in
+    let fr = c.in_ok-rewrite.ensures.ok in
+    record {
+      ok = c.read_again.ensures.ok found known fa fr;
+      damaged = c.read_again.ensures.damaged found fa;
+      accepted = c.read_again.ensures.accepted found known fa fr;
+      fault = c.read_again.ensures.fault found known fa fr;
+    }
+
 pub returns-in_err-both-clause-fault : goal.returns-in_err-both-clause-fault
 returns-in_err-both-clause-fault g c =
     let fa = c.in_ok-append.ensures.ok in

@@ -1,7 +1,7 @@
 -- Cuts of which one failed.
 use Rattle.std.proofs.Common.{◌≡◌, inl, ℕ, List, [], ◌∷◌, ◌++◌, Result, Ok, Err, IfErr, OnErr, refl, sym, ap, ◌∙◌, subst, append_assoc}
 use Rattle.raft_base.specs.declared.errors.Error.{Error}
-use Rattle.raft_files.specs.Asks.{Ask, MayBeAsked}
+use Rattle.raft_files.specs.Asks.{Ask, MayBeAsked, failed_ask}
 use Rattle.raft_base.specs.declared.pipe_log.Version.{Version}
 use Rattle.raft_base.specs.declared.pipe_log.FileId.{FileId}
 use Rattle.raft_reading.specs.IoErrors.{IoError}
@@ -14,7 +14,7 @@ use Rattle.raft_inspect.specs.Faults.{IsUnprinted}
 
 module _ (MayFail : Failures) where
   -- the only one
-  pub one_failed : {T : Type 0} (r : Result T Error) (a : Ask) (old new : List Ask) → OnErr r (MayBeAsked a old new) → IfErr r (MayFail old a) → IfErr r (FailsAmong MayFail (a ∷ []) old new)
+  pub one_failed : {T : Type 0} (r : Result T Error) (a : Ask) (old new : List Ask) → OnErr r (MayBeAsked (failed_ask a) old new) → IfErr r (MayFail old a) → IfErr r (FailsAmong MayFail (a ∷ []) old new)
   one_failed (Ok t) a old new may why = tt
   one_failed (Err e) a old new may why = record { later = []; failed = a; earlier = []; split = refl; asked = may; why = why }
 
@@ -39,7 +39,7 @@ module _ (MayFail : Failures) where
         failed = f.failed;
         earlier = f.earlier ++ first;
         split = ap (λ (l : List Ask). l ++ first) f.split ∙ append_assoc f.later (f.failed ∷ f.earlier) first;
-        asked = subst (λ (l : List Ask). MayBeAsked f.failed l new) same f.asked;
+        asked = subst (λ (l : List Ask). MayBeAsked (failed_ask f.failed) l new) same f.asked;
         why = subst (λ (l : List Ask). MayFail l f.failed e) same f.why;
       }
 

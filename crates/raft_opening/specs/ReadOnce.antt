@@ -106,15 +106,19 @@ abbrev pub IsReadingOf : Giving → RecoveryMode → Version → List FileSize �
 IsReadingOf Gives mode version append rewrite reading =
     (append_files : List NumberedBytes) × (rewrite_files : List NumberedBytes) × IsReadingOver Gives mode version append rewrite reading append_files rewrite_files
 
--- the refusal of files of which one reading was refused, and the next one wasn't
-abbrev pub IsChangedAs : Error → Type 0
-IsChangedAs e = IsCorruption (codes "the files changed while they were read, or a read failed") e
+-- files that a first reading refused, and of which the next one gives what they hold, in a mode that accepts them: so they changed meanwhile, or a read failed
+pub record AreChangedAs (mode : RecoveryMode) (version : Version) (append_files rewrite_files : List NumberedBytes) (e : Error) : Type 0 where
+  pub accepted : AreBothAccepted mode version append_files rewrite_files
+  pub reading : Reading
+  pub read : AreReadFound version append_files rewrite_files reading
+  pub told : IsCorruption (codes "the files changed while they were read, or a read failed") e
 
 -- why files of these sizes aren't read: whichever they are, if reads give only bytes that stand there, a read failed, or the files are refused; or they changed
 abbrev pub AreUnreadAs : Giving → (FileId → ℕ → IoError → Type 0) → RecoveryMode → Version → ℕ → List FileSize → List FileSize → Error → Type 0
 AreUnreadAs Gives Fails mode version workers append rewrite e =
     (append_files rewrite_files : List NumberedBytes) → AreBothSized Gives append rewrite append_files rewrite_files
-    → IsReadRefusal Gives Fails e ⊎ IsOpeningRefusal (AreUnrecoveredAs version workers) mode version append_files rewrite_files e ⊎ IsChangedAs e
+    → IsReadRefusal Gives Fails e ⊎ IsOpeningRefusal (AreUnrecoveredAs version workers) mode version append_files rewrite_files e
+      ⊎ AreChangedAs mode version append_files rewrite_files e
 
 -- an engine was opened over the bytes that reads gave of files of these sizes, which a mode accepts, and this was cut off from them
 pub record IsOpenedOver (Gives : Giving) (mode : RecoveryMode) (version : Version) (append rewrite : List FileSize) (engine : KeptEngine) (recovered : Recovered) : Type 0 where

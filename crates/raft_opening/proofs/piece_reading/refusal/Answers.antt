@@ -2,7 +2,12 @@ use Rattle.std.proofs.Common.{inl, inr}
 use Rattle.raft_opening.proofs.piece_reading.refusal.Goals as goal
 
 pub returns-in-Ok : goal.returns-in-Ok
-returns-in-Ok g c = λ append rewrite sized. inr (inr c.corruption.ensures)
+returns-in-Ok g c = λ append rewrite sized. inr (inr (record {
+  accepted = c.in-Ok.ensures.accepted append rewrite sized;
+  reading = _;
+  read = c.in-Ok.ensures.ok append rewrite sized;
+  told = c.corruption.ensures
+}))
 
 pub returns : goal.returns
 returns g c = λ append rewrite sized. elim (c.in-Err.ensures.fault append rewrite sized) [

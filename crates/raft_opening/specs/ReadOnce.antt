@@ -118,7 +118,7 @@ abbrev pub AreUnreadAs : Giving → (FileId → ℕ → IoError → Type 0) → 
 AreUnreadAs Gives Fails mode version workers append rewrite e =
     (append_files rewrite_files : List NumberedBytes) → AreBothSized Gives append rewrite append_files rewrite_files
     → IsReadRefusal Gives Fails e ⊎ IsOpeningRefusal (AreUnrecoveredAs version workers) mode version append_files rewrite_files e
-      ⊎ AreChangedAs mode version append_files rewrite_files e
+    ⊎ AreChangedAs mode version append_files rewrite_files e
 
 -- an engine was opened over the bytes that reads gave of files of these sizes, which a mode accepts, and this was cut off from them
 pub record IsOpenedOver (Gives : Giving) (mode : RecoveryMode) (version : Version) (append rewrite : List FileSize) (engine : KeptEngine) (recovered : Recovered) : Type 0 where

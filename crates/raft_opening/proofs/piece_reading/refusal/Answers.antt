@@ -6,7 +6,7 @@ returns-in-Ok g c = λ append rewrite sized. inr (inr (record {
   accepted = c.in-Ok.ensures.accepted append rewrite sized;
   reading = _;
   read = c.in-Ok.ensures.ok append rewrite sized;
-  told = c.corruption.ensures
+  told = c.corruption.ensures;
 }))
 
 pub returns : goal.returns

@@ -70,18 +70,23 @@ fn run_example<R: Host>(rt: &R, folder: &str) -> Result<()> {
 
 /// Opens the engine of a folder, and prints what that cut off the files.
 fn open_engine<'a, R: Host>(rt: &'a R, folder: &'a str) -> Result<FolderEngine<'a, R>> {
-    let opened = open_folder(
-        rt,
-        folder,
-        RecoveryMode::TolerateTornTail,
-        Version::V2,
-        WORKERS,
-    )?;
-    let engine = opened.engine;
+    let engine = engine_of_folder(rt, folder)?;
+    print_kept(rt, &engine)?;
+    Ok(engine)
+}
+
+/// Opens the engine of a folder.
+fn engine_of_folder<'a, R: Host>(rt: &'a R, folder: &'a str) -> Result<FolderEngine<'a, R>> {
+    let mode = RecoveryMode::TolerateTornTail;
+    Ok(open_folder(rt, folder, mode, Version::V2, WORKERS)?.engine)
+}
+
+/// Prints what an opening cut off the files, and which files keep it.
+fn print_kept<R: Host>(rt: &R, engine: &FolderEngine<'_, R>) -> Result<()> {
     for tail in engine.files().kept() {
         println!(rt; "cut off: {} bytes, which {} keeps", tail.len, tail.kept)?;
     }
-    Ok(engine)
+    Ok(())
 }
 
 /// Writes to two append files, moves what the first one has, and deletes it.

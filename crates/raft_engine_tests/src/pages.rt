@@ -58,8 +58,11 @@ fn is_named(damaged: &[DamagedBatch], offset: u64) -> bool {
 /// Tests whether each entry that an engine has is read, or its batch is named, and not both; it has the first ones.
 fn are_read_or_named(opened: &mut Opened<MemoryFiles>, offsets: &[u64]) -> Result<bool> {
     let last = opened.engine.last_index(REGION).unwrap_or(0);
-    let mut are_so = true;
-    for index in 1..last + 1 {
+    let mut are_so = last <= BATCHES;
+    for index in 1..BATCHES + 1 {
+        if index > last {
+            return Ok(are_so);
+        }
         let refused = finds_damage(get_entry(&mut opened.engine, REGION, index))?;
         let Some(offset) = offsets.get(index as usize - 1) else {
             return Ok(false);

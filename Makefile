@@ -2,7 +2,7 @@
 SHELL := /bin/bash
 RT ?= rt
 export RT
-.PHONY: believe believe-check bench bench-calls bench-engine calls compare crashes cuttings demo demo-recover edits example hostile hostile-folders raftlog refused-memory rust rust-crashes rust-tests rust-unproved stack test tools wrong-bodies
+.PHONY: believe believe-check bench bench-calls bench-engine calls compare crashes cuttings demo demo-recover edits example hostile hostile-folders pages raftlog refused-memory rust rust-crashes rust-tests rust-unproved stack test tools wrong-bodies
 
 # Builds `raftlog` with checks at run time and keeps it, and says where it lies. Nothing is proved.
 tools:
@@ -92,13 +92,17 @@ wrong-bodies:
 edits:
 	@tools/wrong_bodies.py --applies
 
-# Writes docs/BELIEVE.md, the definitions that what is proved of recovery rests on.
+# Writes docs/BELIEVE.md and docs/BELIEVE_ENGINE.md, the definitions that what is proved of recovery and of the engine rests on.
 believe:
 	@tools/believe.py
 
-# Fails where docs/BELIEVE.md isn't what the definitions say.
+# Fails where one of these two pages isn't what the definitions say.
 believe-check:
 	@tools/believe.py --check
+
+# Fails where a page links to what isn't there, or names it.
+pages:
+	@tools/pages.py
 
 # Writes docs/CALLS.md, the page of all calls. The full check fails where it isn't what the sources say.
 calls:

@@ -1,213 +1,89 @@
 #!/usr/bin/env python3
-"""The page of what a reader has to believe.
+"""The pages of what a reader has to believe.
 
-    believe.py            writes docs/BELIEVE.md
-    believe.py --check    fails where that page isn't what the definitions say now
+    believe.py            writes docs/BELIEVE.md and docs/BELIEVE_ENGINE.md
+    believe.py --check    fails where one of them isn't what the definitions say now
 
-Follows the names from the clauses of `recover` to the definitions in `specs/`, from those to the names that they use, and so
-on, and lists what it meets, each definition after those that it uses. Names of std, and types of the code, are listed by name alone.
+Follows the names from the clauses of `recover`, and from those of the engine's theorem, to the definitions in `specs/`, from those to
+the names that they use, and so on, and lists what it meets, each definition after those that it uses. Names of std, and types of the
+code, are listed by name alone. On the engine's page some names are passed over, each for a reason that is told there (`JOINTS`, `HANDED_ON`).
 """
 
 import re
 import sys
-from pathlib import Path
 
-TOP = Path(__file__).resolve().parent.parent
-PAGE = TOP / "docs/BELIEVE.md"
-CALL = ("raft_recover", "src/recovery.rt", "recover")
+from definitions import TOP, Reading, Root, specs_of
+
 WIDTH = 150
+RECOVERY, ENGINE = TOP / "docs/BELIEVE.md", TOP / "docs/BELIEVE_ENGINE.md"
+FILE_CALLS = ("append", "rotate", "sync", "delete_oldest", "truncate", "read")
 
-NAME = r"[A-Za-z_][A-Za-z0-9_']*"
-WORD = re.compile(rf"(?<![A-Za-z0-9_'.])({NAME})((?:\.{NAME})*)")
-HEAD = re.compile(rf"(?:(?:abbrev|unfoldable|pub) )*(?:(record|data) )?({NAME})")
-BINDERS = re.compile(rf"[({{]\s*({NAME}(?:\s+{NAME})*)\s*:|λ\s*((?:{NAME}\s+|\([^)]*\)\s*)*{NAME})\s*\.")
-IMPORT = re.compile(r"(?:unfoldable )?(?:pub )?use Rattle\.([\w.◌]+?)(?:\.\{(.*?)\})?(?: as (\w+))?$", re.S)
-USE = re.compile(r"(?:unfoldable )?(?:pub )?(?:use|mod) ")
-STARTS = ("abbrev ", "unfoldable ", "pub ", "record ", "data ")
+# What the engine's page begins with: what is promised, and the calls whose clauses say it, some of them by these clauses alone.
+PROMISES = [
+    ("What lasts of an engine, whenever the machine crashes", [("raft_engine", "src/engine.rt", "nothing_synced_is_lost")]),
+    ("What is noted of the asks of its files, also where a call of them fails", [("raft_files", "src/engine_files.rt", call, ("ok", "err")) for call in FILE_CALLS]),
+    ("What is written and synced", [("raft_engine", "src/engine.rt", "write", ("ok",)), ("raft_engine", "src/engine.rt", "sync", ("ok",)), ("raft_engine", "src/restarts.rt", "synced_batches_last")]),
+    ("What is found again of the files that a crash leaves", [("raft_engine", "src/restarts.rt", "what_is_left_is_opened")]),
+    ("The same over any number of restarts", [("raft_engine", "src/lives.rt", law) for law in ("synced_batches_stay_synced", "written_entries_are_found")]),
+    ("What is read", [("raft_engine", "src/engine/reading.rt", "get_entry", ("only", "ok", "contents")), ("raft_engine", "src/engine/reading.rt", "fetch_entries_to", ("only", "ok", "unchanged"))]),
+]
 
+# Names that join two clauses: what one of them gives, the other one takes. What such a name says needn't be known: the two together
+# say the same whatever it is. Each with the call of which the clauses lead to it, beside the law on the page.
+JOINTS = {
+    "raft_engine.specs.Opened.IsOpened": ("raft_engine", "src/engine.rt", "open"),
+    "raft_engine.specs.Unopened.IsOpeningRefusal": ("raft_engine", "src/engine.rt", "open"),
+    "raft_engine.specs.Unopened.AreUnrecoveredAs": ("raft_engine", "src/engine.rt", "open"),
+    "raft_engine.specs.Unopened.AreUngroupedAs": ("raft_engine", "src/engine/over.rt", "open_over"),
+    "raft_recover.specs.Recovery.AreBothRecovered": ("raft_recover", "src/recovery.rt", "recover_both"),
+}
 
-class Definition:
-    """A definition of a file of `specs/`: its lines, with the comment above it."""
+# Facts that further laws go on with, and that add nothing to what the page says to users.
+OPENS = "the clause `opens` of `IsFoundByRestarts` has what follows"
+HANDED_ON = {
+    "raft_engine.specs.Lasting.AreFoundIn.rows": f"each group stands in a row, as `open` asks; {OPENS}",
+    "raft_engine.specs.Lasting.IsLastingAfter.put": "which acts put which batches; `moments_go_on` says what follows",
+    "raft_engine.specs.Lasting.IsLastingAfter.of_version": f"no last file is of the other version; {OPENS}",
+    "raft_engine.specs.Lasting.IsLastingAfter.sealed": f"the entry blocks of a last rewrite file are sound; {OPENS}",
+    "raft_engine.specs.Lasting.IsLastingAfter.ends": "entries end within their blocks; `WrittenEntriesAreFound` has what follows",
+    "raft_engine.specs.Lasting.IsLastingAfter.joined": "rewritten entries join the appended ones; `own_files_are_told_nothing` says what follows",
+    "raft_engine.specs.Restarts.AreOpenable.accepted": f"which files are accepted; {OPENS}",
+    "raft_engine.specs.Restarts.AreOpenable.readable": f"that they can be read; {OPENS}",
+    "raft_engine.specs.Restarts.HaveGroupsInRows": f"each group stands in a row; {OPENS}",
+    "raft_engine.specs.WrittenBatch.IsOneMore.asked": "what a write asks; `SyncedBatchesLast` has what follows",
+    "raft_engine.specs.WrittenBatch.IsOneMore.held": "the append files hold the batch behind the others; `SyncedBatchesLast` has what follows",
+    "raft_engine.specs.WrittenBatch.IsOneMore.applied": "what the tables become; `IsLasting` says which records they have",
+    "raft_engine.specs.WrittenBatch.IsOneMore.untold": "what the rewrite queue is told later; nothing on this page speaks of it",
+    "raft_engine.specs.Reads.AreReadByBlocks.once": "how many blocks are read; it says nothing of the bytes",
+}
 
-    def __init__(self, place, line, lines):
-        self.place = place
-        self.line = line
-        self.lines = lines
-        self.code = [text for text in lines if not text.startswith("--")]
-        kind, self.name = HEAD.match(self.code[0]).groups()
-        body = "\n".join(self.code)
-        self.made = set(re.findall(rf"^  ({NAME}) :", body, re.M)) if kind == "data" else set()
-        self.bound = self.bound_names(kind, body)
+# What the engine's other calls say, of which the page counts the definitions alone.
+OTHERS = [
+    ("what a write changes", [("raft_engine", "src/engine.rt", "write", ("ok",))]),
+    ("what an opening finds, asks and cuts off", [("raft_engine", "src/engine.rt", "open_telling", ("ok", "recovered", "damaged", "accepted"))]),
+    ("why an opening is refused, and what it leaves then", [("raft_engine", "src/engine.rt", "open_telling", ("err",))]),
+    ("what moves, and which files are deleted", [
+        ("raft_engine", "src/engine/rewrite.rt", "rewrite", ("ok",)),
+        ("raft_engine", "src/engine/again.rt", "rewrite_again", ("ok",)),
+        ("raft_engine", "src/engine.rt", "purge_expired_files", ("ok",)),
+        ("raft_engine", "src/engine/again.rt", "purge_rewrite_files", ("ok",)),
+    ]),
+]
 
-    def bound_names(self, kind, body):
-        """The names that the definition itself gives: fields, parameters and what patterns name."""
-        bound = {self.name}
-        for several in BINDERS.findall(body):
-            bound.update(re.findall(NAME, " ".join(several)))
-        if kind == "record":
-            bound.update(re.findall(rf"^  pub ({NAME}) :", body, re.M))
-        for line in self.code[1:]:
-            case = re.match(rf"{re.escape(self.name)} (.*?) =(?: |$)", line)
-            if case:
-                named = {name for name, more in WORD.findall(case.group(1)) if not more and name[0].islower()}
-                bound.update(named - self.place.names.keys())
-        return bound
+# Where two definitions of the page say one thing, and the laws that lead from one to the other.
+LEVELS = [
+    "- **Acts and deeds.** What is proved of an engine is proved by deeds (`Deed`, `MayStand`, `IsLeft` and `IsSafe` of `raft_engine_laws`), of batches in place of bytes. None of these is here, but the filter `in_files_from`: what a crash leaves is said of acts alone (`Disk`), and laws lead from there to the deeds (`asks_do_deeds`, `files_that_are_left_hold_what_may_be_left`).",
+    "- **Torn and cut.** `FilesHoldTorn` says of files with a torn tail what `FilesHold` says of them once they are cut (`AreCut`), by the clauses `cut` and `uncut` of the law `torn_tails_are_found`: who believes the one needn't read the other.",
+    "- **Readings and openings.** `AreFoundIn` speaks of every reading of both queues, `RestartsFind` of every engine that is opened and every recovery. The second follows from the first (`restarts_find_what_lasts`), and `IsKeptByRestarts` has `IsLasting` as its first field.",
+    "- **Two disks.** `MayStandUnordered`, and what names it, is of a disk that writes pages in any order; for one that writes in order it may be passed over.",
+]
 
-
-class File:
-    """A file of `specs/`: its imports and definitions."""
-
-    def __init__(self, crate, path):
-        self.crate = crate
-        self.path = path
-        self.module = ".".join((crate, *path.relative_to(TOP / "crates" / crate).with_suffix("").parts))
-        self.names, self.modules = {}, {}
-        self.own = {}
-        text = path.read_text()
-        lines = text.splitlines()
-        self.read_imports([block for block in re.split(r"\n(?=\S)", text) if re.match(USE, block)])
-        self.read_definitions(lines)
-
-    def read_imports(self, blocks):
-        for block in blocks:
-            found = IMPORT.match(block.strip())
-            if found is None:
-                continue
-            module, names, alias = found.groups()
-            if names is None:
-                self.modules[alias or module.split(".")[-1]] = module
-                continue
-            for name in filter(None, (word.strip() for word in names.split(","))):
-                name, _, other = name.partition(" as ")
-                self.names[other or name] = (module, name)
-
-    def read_definitions(self, lines):
-        start = None
-        for at, line in enumerate([*lines, ""]):
-            if start is not None and (not line.strip() or USE.match(line)):
-                self.add(lines, start, at)
-                start = None
-            elif start is not None and line.startswith(("--", *STARTS)) and not self.is_comment(lines[start:at]):
-                self.add(lines, start, at)
-                start = at
-            elif start is None and line.strip() and line[0] != " " and not USE.match(line):
-                start = at
-
-    @staticmethod
-    def is_comment(lines):
-        return all(line.startswith("--") for line in lines)
-
-    def add(self, lines, start, end):
-        if self.is_comment(lines[start:end]):
-            return
-        found = Definition(self, start + 1, lines[start:end])
-        if found.name in self.own:
-            raise SystemExit(f"{self.path}: {found.name} is defined twice")
-        self.own[found.name] = found
-        for name in found.made:
-            self.own.setdefault(name, found)
-
-
-class Reading:
-    """Follows names, and keeps what it met."""
-
-    def __init__(self, crates):
-        self.crates = crates
-        self.files = {}
-        for crate in crates:
-            for path in sorted((TOP / "crates" / crate / "specs").rglob("*.antt")):
-                file = File(crate, path)
-                self.files[file.module] = file
-        self.met, self.needs = {}, {}
-        self.given, self.types, self.unknown = set(), set(), set()
-
-    def file_of(self, module):
-        """The file of a module, also where its crate hands on another's."""
-        if module in self.files:
-            return self.files[module]
-        crate, _, rest = module.partition(".specs.")
-        root = self.files.get(f"{crate}.specs.Lib")
-        first, _, inner = rest.partition(".")
-        handed = root.modules.get(first) if root else None
-        if handed is None or handed == module:
-            return None
-        return self.file_of(handed + (f".{inner}" if inner else ""))
-
-    def meet(self, module, name, asked):
-        """Goes on with a name of a module."""
-        if module.split(".")[0] not in self.crates:
-            self.given.add((module.split(".")[0], name))
-        elif ".declared." in module:
-            self.meet_type(module, name)
-        elif (file := self.file_of(module)) is None:
-            self.unknown.add(f"{asked}: {module}.{name}")
-        elif name in file.own:
-            self.follow(file.own[name])
-            return file.own[name]
-        elif name in file.names:
-            return self.meet(*file.names[name], asked)
-        else:
-            self.unknown.add(f"{asked}: {module}.{name}")
-        return None
-
-    def meet_type(self, module, name):
-        crate, _, rest = module.partition(".specs.declared.")
-        parts = rest.split(".")
-        if "TheVariants" in parts:
-            parts = parts[: parts.index("TheVariants")]
-        place, name = (parts[:-1], parts[-1]) if len(parts) > 1 else (parts, name)
-        self.types.add((crate, "/".join(place), name))
-
-    def look_up(self, file, names, modules, word, more):
-        """The module and name that a word stands for, if it is no name of its own."""
-        if word in modules:
-            parts = more.strip(".").split(".")
-            return (modules[word], parts[0]) if parts[0] else None
-        if word in names:
-            return names[word]
-        if file is not None and word in file.own:
-            return file.module, word
-        return None
-
-    def follow(self, definition):
-        key = (definition.place.module, definition.name)
-        if key in self.met:
-            return
-        self.met[key] = definition
-        needs = self.needs.setdefault(key, set())
-        file = definition.place
-        for line in definition.code:
-            for word, more in WORD.findall(line):
-                if word in definition.bound and word not in file.modules:
-                    continue
-                found = self.look_up(file, file.names, file.modules, word, more)
-                if found and (other := self.meet(*found, file.path.name)) is not None:
-                    needs.add((other.place.module, other.name))
-            for name in operators_in(line, file.names):
-                self.meet(*file.names[name], file.path.name)
-
-
-def operators_in(line, names):
-    """The operators among these names that stand in a line."""
-    tokens = set(re.findall(rf"{NAME}|∷|==|[^\w\s(){{}}\[\],.:=λ→∷]+", line))
-    return [name for name in names if "◌" in name and tokens.issuperset(filter(None, name.split("◌")))]
-
-
-def clauses_of(crate, source, call):
-    """The text of a function's clauses, the line of its head, and the imports of its file."""
-    text = (TOP / "crates" / crate / source).read_text()
-    names, modules = {}, {}
-    for module, listed, alias in re.findall(r"^ghost use Rattle\.([\w.]+?)(?:\.\{(.*?)\})?(?: as (\w+))?;", text, re.S | re.M):
-        if not listed:
-            modules[alias or module.split(".")[-1]] = module
-        for name in filter(None, (word.strip() for word in listed.split(","))):
-            name, _, other = name.partition(" as ")
-            names[other or name] = (module, name)
-    head = re.search(rf"^pub fn {call}\b.*?^\{{", text, re.S | re.M)
-    if head is None:
-        raise SystemExit(f"{source}: no function {call}")
-    clauses = head.group(0)[re.search(r"^    (requires|ensures) ", head.group(0), re.M).start() :].rstrip("{\n")
-    return clauses, text.count("\n", 0, head.start()) + 1, names, modules
+HEAD = "Made by `tools/believe.py` (`make believe`); the full check refuses a page that is stale."
+SHOWN = [
+    "Below they are shown as they",
+    "stand in `specs/`, each file after those that it uses, with line numbers; each definition has its comment above it or, where both are short, behind its",
+    "first line.",
+]
 
 
 def in_order(keys, needs, place):
@@ -245,80 +121,15 @@ def link(path, at=None):
     return f"../{short}" + (f"#L{at}" if at else "")
 
 
-def page():
-    crates = [line.split(":")[0].split()[0] for line in (TOP / "crates.txt").read_text().splitlines() if line and line[0] != "#"]
-    reading = Reading(crates)
-    crate, source, call = CALL
-    clauses, head, names, modules = clauses_of(crate, source, call)
-    for word, more in WORD.findall(clauses):
-        found = reading.look_up(None, names, modules, word, more)
-        if found:
-            reading.meet(*found, source)
-    for name in operators_in(clauses, names):
-        reading.meet(*names[name], source)
-    if reading.unknown:
-        raise SystemExit("names that lead nowhere: " + ", ".join(sorted(reading.unknown)))
-
-    # files by crate, lowest first, each behind those of its crate that it needs
-    by_file = {}
-    for key in reading.met:
-        by_file.setdefault(key[0], []).append(key)
-    file_needs = {}
-    for key, others in reading.needs.items():
-        file_needs.setdefault(key[0], set()).update(other[0] for other in others if other[0] != key[0])
-
-    def file_place(module):
-        return crates.index(reading.files[module].crate), module
-
-    files = in_order(set(by_file), file_needs, file_place)
-    files.sort(key=lambda module: crates.index(reading.files[module].crate))
-    lines_of = {
-        module: sum(len(reading.met[key].code) for key in keys) for module, keys in by_file.items()
-    }
-    count, total = len(reading.met), sum(lines_of.values())
-
-    out = [
-        "# What a reader has to believe",
-        "",
-        "Made by `tools/believe.py` (`make believe`); the full check refuses a page that is stale.",
-        "",
-        f"What is proved of recovery is the contract of [`{call}`]({link(TOP / 'crates' / crate / source, head)}):",
-        "",
-        "```",
-        clauses.replace("\n    ", "\n").strip(),
-        "```",
-        "",
-        f"It says what it says by **{count} definitions, {total} lines in {len(files)} files**, found by following names from these clauses. They are shown below as they",
-        "stand in `specs/`, each file after those that it uses, with line numbers; each definition has its comment above it or, where both are short, behind its",
-        "first line. No proof can tell whether they say what is meant. That is what a reader has to believe, and then has to believe no code.",
-        "",
-        "In the clauses, `result` and `segments` stand for plain values: what the call returns is seen as an `Accessor` (the map from",
-        "region to table, the cleaned regions in order, the counts), a part of a file as a `Part` (its file, version, offset and bytes).",
-        "The contracts of all other calls on them, such as those that look up a table or make a part, speak of the same values.",
-        "",
-    ]
-    by_crate = {}
-    for module in files:
-        file = reading.files[module]
-        by_crate.setdefault(file.crate, []).append(f"[{file.path.stem}](#{file.crate}-{file.path.stem.lower()})")
-    out += [f"- `{crate}`: " + ", ".join(named) for crate, named in by_crate.items()]
-
-    out += ["", "## Words of std and of the kit's libraries", "", "They come with the toolchain, and are listed here by name alone."]
-    for given in sorted({crate for crate, _ in reading.given}, key=lambda crate: (crate != "std", crate)):
-        listed = sorted((name for crate, name in reading.given if crate == given), key=lambda n: (n.strip("◌").lower(), n))
-        out += ["", *wrapped(f"Of `{given}`: " + ", ".join(f"`{name}`" for name in listed) + ".")]
-    named = {}
-    for crate, place, name in sorted(reading.types, key=lambda t: (crates.index(t[0]), t[1:])):
-        named.setdefault(crate, []).append(f"[`{name}`]({link(*type_line(crate, place, name))})")
-    out += ["", "## Types of the code", "", "Plain enums and structs, whose fields the definitions name.", ""]
-    out += [f"- of `{crate}`: " + ", ".join(types) for crate, types in named.items()]
-    out.append("")
-    for module in files:
-        file = reading.files[module]
-        out.append(f"## [{file.crate} {file.path.stem}]({link(file.path)})")
-        for key in sorted(by_file[module], key=lambda key: reading.met[key].line):
-            out += shown(reading.met[key])
-    return "\n".join(out) + "\n", count, total, len(files)
+def wrapped(text, width=WIDTH):
+    lines, line = [], ""
+    for word in text.split(" "):
+        if line and len(line) + 1 + len(word) > width:
+            lines.append(line)
+            line = word
+        else:
+            line = f"{line} {word}".strip()
+    return [*lines, line]
 
 
 def shown(found):
@@ -331,26 +142,207 @@ def shown(found):
     return [f"    {number:4} {text}" for number, text in enumerate(lines, first)]
 
 
-def wrapped(text, width=WIDTH):
-    lines, line = [], ""
-    for word in text.split(" "):
-        if line and len(line) + 1 + len(word) > width:
-            lines.append(line)
-            line = word
-        else:
-            line = f"{line} {word}".strip()
-    return [*lines, line]
+class Listing:
+    """What a reading met, but for what another page has."""
+
+    def __init__(self, reading, besides=None):
+        self.reading = reading
+        self.crates, self.files = reading.crates, reading.files
+        known = besides.met.keys() if besides else ()
+        self.keys = [key for key in reading.met if key not in known]
+        self.given = reading.given - (besides.given if besides else set())
+        self.types = reading.types - (besides.types if besides else set())
+        self.by_file = {}
+        for key in self.keys:
+            self.by_file.setdefault(key[0], []).append(key)
+        self.modules = self.files_in_order()
+
+    def files_in_order(self):
+        """The files by crate, lowest first, each behind those of its crate that it needs."""
+        needs = {}
+        for key, others in self.reading.needs.items():
+            needs.setdefault(key[0], set()).update(other[0] for other in others if other[0] != key[0])
+
+        def place(module):
+            return self.crates.index(self.files[module].crate), module
+
+        files = in_order(set(self.by_file), needs, place)
+        return sorted(files, key=lambda module: place(module)[0])
+
+    def size(self):
+        return f"{len(self.keys)} definitions, {sum(len(self.reading.met[key].code) for key in self.keys)} lines"
+
+    def contents(self):
+        by_crate = {}
+        for module in self.modules:
+            file = self.files[module]
+            by_crate.setdefault(file.crate, []).append(f"[{file.path.stem}](#{file.crate}-{file.path.stem.lower()})")
+        return [f"- `{crate}`: " + ", ".join(named) for crate, named in by_crate.items()]
+
+    def words(self, where=""):
+        out = ["", "## Words of std and of the kit's libraries", "", f"They come with the toolchain, and are listed here by name alone{where}."]
+        for given in sorted({crate for crate, _ in self.given}, key=lambda crate: (crate != "std", crate)):
+            listed = sorted((name for crate, name in self.given if crate == given), key=lambda n: (n.strip("◌").lower(), n))
+            out += ["", *wrapped(f"Of `{given}`: " + ", ".join(f"`{name}`" for name in listed) + ".")]
+        named = {}
+        for crate, place, name in sorted(self.types, key=lambda t: (self.crates.index(t[0]), t[1:])):
+            named.setdefault(crate, []).append(f"[`{name}`]({link(*type_line(crate, place, name))})")
+        out += ["", "## Types of the code", "", f"Plain enums and structs, whose fields the definitions name{where}.", ""]
+        return [*out, *(f"- of `{crate}`: " + ", ".join(types) for crate, types in named.items()), ""]
+
+    def definitions(self):
+        out = []
+        for module in self.modules:
+            file = self.files[module]
+            out.append(f"## [{file.crate} {file.path.stem}]({link(file.path)})")
+            for key in sorted(self.by_file[module], key=lambda key: self.reading.met[key].line):
+                out += shown(self.reading.met[key])
+        return out
+
+
+def recovery_page(listing, root):
+    size = f"{listing.size()} in {len(listing.modules)} files"
+    out = [
+        "# What a reader has to believe",
+        "",
+        HEAD,
+        "",
+        f"What is proved of recovery is the contract of [`{root.call}`]({link(root.path, root.line)}):",
+        "",
+        "```",
+        root.clauses,
+        "```",
+        "",
+        f"It says what it says by **{size}**, found by following names from these clauses. {SHOWN[0]}",
+        SHOWN[1],
+        f"{SHOWN[2]} No proof can tell whether they say what is meant. That is what a reader has to believe, and then has to believe no code.",
+        f"What the engine's theorem adds is on [a page of its own]({ENGINE.name}).",
+        "",
+        "In the clauses, `result` and `segments` stand for plain values: what the call returns is seen as an `Accessor` (the map from",
+        "region to table, the cleaned regions in order, the counts), a part of a file as a `Part` (its file, version, offset and bytes).",
+        "The contracts of all other calls on them, such as those that look up a table or make a part, speak of the same values.",
+        "",
+        *listing.contents(),
+        *listing.words(),
+        *listing.definitions(),
+    ]
+    return "\n".join(out) + "\n", size
+
+
+def promised(title, roots):
+    """The clauses of calls that promise something, with links to the calls."""
+    calls = ", ".join(f"[`{root.call}`]({link(root.path, root.line)})" for root in roots)
+    named = (f"// {root.call}\n{root.clauses}" if len(roots) > 1 else root.clauses for root in roots)
+    return [f"**{title}**: {calls}", "", "```", *named, "```", ""]
+
+
+def passed_over(everything, page):
+    """The names that the page doesn't follow, each with its reason."""
+    out = ["| not followed | why |", "|---|---|"]
+    for name, call in JOINTS.items():
+        root = Root(*call)
+        out.append(f"| `{name.split('.')[-1]}` | joins the clauses of [`{root.call}`]({link(root.path, root.line)}) to the law |")
+    for name, why in HANDED_ON.items():
+        module, _, last = name.rpartition(".")
+        whole = f"`{last}`" if (module, last) in page.met else f"`{last}` of `{module.split('.')[-1]}`"
+        out.append(f"| {whole} | {why} |")
+    return [*out, "", f"With these it would be {Listing(everything).size()}."]
+
+
+def check_passed(page):
+    """Fails where a name that is passed over isn't met any more, or doesn't join what it should."""
+    for name, call in JOINTS.items():
+        module, _, last = name.rpartition(".")
+        if (module, last) not in Reading(page.crates, page.files).read([Root(*call)]).met:
+            raise SystemExit(f"the clauses of {call[2]} don't lead to {last}, which is to join them to a law")
+        if (module, last) not in page.met:
+            raise SystemExit(f"{last} is passed over, but isn't met")
+    for name in HANDED_ON:
+        of, _, last = name.rpartition(".")
+        module, _, record = of.rpartition(".")
+        found = page.met.get((module, record))
+        if (of, last) not in page.met and not (found and any(line.startswith(f"  pub {last} :") for line in found.code)):
+            raise SystemExit(f"{name} is passed over, but isn't met")
+
+
+def added_by_others(page, recovery):
+    """How many definitions the clauses of other calls add to those of both pages."""
+    shown = {**recovery.met, **page.met}
+    out = []
+    for title, calls in OTHERS:
+        other = Reading(page.crates, page.files).read([Root(*call) for call in calls])
+        for key in shown:
+            other.met.pop(key, None)
+        out.append(f"| {title} ({', '.join(f'`{call[2]}`' for call in calls)}) | {Listing(other).size()} |")
+    return out
+
+
+def engine_page(crates, files, recovery):
+    promises = [(title, [Root(*call) for call in calls]) for title, calls in PROMISES]
+    roots = [root for _, several in promises for root in several]
+    everything = Reading(crates, files).read(roots)
+    page = Reading(crates, files, {*JOINTS, *HANDED_ON}).read(roots)
+    check_passed(page)
+    listing, all_of_it = Listing(page, recovery), Listing(page)
+    size = f"{listing.size()} in {len(listing.modules)} files"
+    out = [
+        "# What a reader has to believe of the engine",
+        "",
+        HEAD,
+        "",
+        "What is [promised of an engine](../README.md#the-promises) where its calls succeed is said by these clauses (that an opening writes nothing else by `own_files_are_told_nothing`):",
+        "",
+        *(line for promise in promises for line in promised(*promise)),
+        f"They say what they say by **{all_of_it.size()}**, found by following names from these clauses. **{size}** of them",
+        f"stand here; [the page of recovery]({RECOVERY.name}) has the others. {SHOWN[0]}",
+        SHOWN[1],
+        f"{SHOWN[2]} No proof can tell whether they say what is meant.",
+        "",
+        "An engine is seen as a `KeptEngine`, and its files as the list of what was asked of them. What a crash may leave of that is said by `Disk` of `raft_files`; that a disk",
+        "leaves nothing else is a premise ([in plain words](../README.md#premises-in-plain-words)). Read first [Asks](#raft_files-asks) and [Disk](#raft_files-disk), then",
+        "[Records](#raft_engine_laws-records) (`live`), [Lasting](#raft_engine-lasting) and [Restarts](#raft_engine-restarts), and the others as these name them.",
+        "",
+        *listing.contents(),
+        "",
+        "## What isn't followed",
+        "",
+        "Some names aren't followed, since nobody has to know what they say. A name *joins* two clauses where one of them gives what the other one takes: `open` returns",
+        "an engine that `IsOpened`, and the law says of each such engine which records it has. Other facts are handed on to further laws.",
+        "",
+        *passed_over(everything, page),
+        "",
+        "## Said on two levels",
+        "",
+        *LEVELS,
+        "",
+        "## What other calls add",
+        "",
+        "| what they say | definitions that are on neither page (a definition may count in several rows) |",
+        "|---|---|",
+    ]
+    out += added_by_others(page, recovery) + listing.words(", but for those of the other page") + listing.definitions()
+    return "\n".join(out) + "\n", f"{size}, {all_of_it.size()} in all"
+
+
+def pages():
+    crates = [line.split(":")[0].split()[0] for line in (TOP / "crates.txt").read_text().splitlines() if line and line[0] != "#"]
+    files = specs_of(crates)
+    root = Root("raft_recover", "src/recovery.rt", "recover")
+    recovery = Reading(crates, files).read([root])
+    yield RECOVERY, *recovery_page(Listing(recovery), root)
+    yield ENGINE, *engine_page(crates, files, recovery)
 
 
 def main(words):
     if words not in ([], ["--check"]):
         raise SystemExit(__doc__)
-    text, count, total, files = page()
-    if not words:
-        PAGE.write_text(text)
-    elif not PAGE.exists() or PAGE.read_text() != text:
-        raise SystemExit("docs/BELIEVE.md isn't what the definitions say: `make believe` writes it anew")
-    print(f"docs/BELIEVE.md: {count} definitions, {total} lines in {files} files")
+    for path, text, size in pages():
+        name = path.relative_to(TOP)
+        if not words:
+            path.write_text(text)
+        elif not path.exists() or path.read_text() != text:
+            raise SystemExit(f"{name} isn't what the definitions say: `make believe` writes it anew")
+        print(f"{name}: {size}")
 
 
 main(sys.argv[1:])

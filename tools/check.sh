@@ -3,8 +3,9 @@
 # of `raftlog` on the stack, runs with little stack, crashes of more histories, writes of `raft_example` that fail half way, what `raftlog` says of damaged
 # folders and what an engine does with them, where there is a C compiler the rows of `raft_refusals` with memory and starts of threads
 # refused, and where there is cargo the tests of rust/, and whether programs in Rust and in Rattle open the folders of each other; first of
-# all whether docs/BELIEVE.md and docs/CALLS.md are what the definitions and the sources say, the declarations of the Rust crate what the
-# exports are, and whether each wrong body can be applied. The last line is that of `rt ci`, 'N passed, M failed'.
+# all whether docs/BELIEVE.md, docs/BELIEVE_ENGINE.md and docs/CALLS.md are what the definitions and the sources say, whether what pages name
+# is there, the declarations of the Rust crate are what the exports are, and each wrong body can be applied. Each step is said as it begins,
+# with its times as it ends, and all of them at the end. The last line is that of `rt ci`, 'N passed, M failed'.
 set -euo pipefail
 cd "$(dirname "$0")/.."
 program=crates/raftlog/out/raftlog
@@ -14,19 +15,25 @@ frame_limit=16384
 room=$(mktemp -d)
 trap 'rm -rf "$room"' EXIT
 
-# Says what begins, and how long what came before it took.
+# Says what begins, and how long what came before it took, by the clock and of the processors.
 heading=
 begun=$SECONDS
+used=0
 step() {
-  [ -z "$heading" ] || echo "-- $heading: $((SECONDS - begun)) s"
+  times > "$room/times"
+  local now
+  now=$(awk -F '[ms ]+' 'NR == 2 { printf "%d", 60 * $1 + $2 + 60 * $3 + $4 }' "$room/times")
+  [ -z "$heading" ] || echo "-- $heading: $((SECONDS - begun)) s, $((now - used)) s of processor time" | tee -a "$room/steps"
   heading=$1
   begun=$SECONDS
+  used=$now
   [ -z "$heading" ] || echo "-- $heading"
 }
 
 step "pages, declarations and wrong bodies"
 tools/believe.py --check
 tools/calls.py --check
+tools/pages.py
 tools/ffi.py
 tools/wrong_bodies.py --applies
 step "proofs, must-fail edits, tests and programs"
@@ -76,4 +83,6 @@ if cargo --version > "$room/cargo" 2>&1; then
   tools/both_folders.py "$program" crates/raft_example/out/raft_example "$room/target/debug/examples"
 fi
 step ""
+echo "-- all steps:"
+cat "$room/steps"
 tail -n 1 "$room/proved"

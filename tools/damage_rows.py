@@ -50,6 +50,11 @@ def entries_of(region, first, lens, before=0):
     return number(region) + b"\x01" + number(len(lens)) + number(first) + b"".join(map(number, tails))
 
 
+def put(region, key, value):
+    """An item that puts a key."""
+    return number(region) + b"\x03\x01" + number(len(key)) + key + number(len(value)) + value
+
+
 def marker(group, status):
     """An item that marks the place of its batch in an atomic group."""
     return number(group) + b"\x03\x01\x03__\x01\x01" + bytes([status])

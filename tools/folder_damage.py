@@ -19,9 +19,10 @@ import shutil
 import subprocess
 import sys
 import tempfile
+import xml.dom.minidom
 from pathlib import Path
 
-from damage_rows import LAST, ROWS, TOP, Room, batches, both_torn, counted, entry_byte, first_byte, name_of, rewrite_torn, torn
+from damage_rows import LAST, ROWS, TOP, Room, batch, batches, both_torn, counted, entries_of, entry_byte, first_byte, name_of, put, rewrite_torn, torn
 
 SECONDS = 60
 
@@ -241,6 +242,50 @@ def look_at_pictures(looker, folder):
         looker.wrong("a picture is written over a file")
 
 
+def look_at_uses(looker, folder):
+    """How much of each file is live, which regions hold it, and the keys of a region, of files whose entries and keys are known."""
+    room = Room(folder / "uses")
+    room.only([[batch(1, entries_of(1, 1, [10, 20, 30, 40]), put(2, b"k1", b"v"), entries=b"a" * 100)],
+               [batch(2, entries_of(1, 3, [5]), entries_of(2, 1, [7, 8], before=5), put(2, b"\x01\xff", b""), put(2, b"leader", b"n1"), entries=b"b" * 20)]],
+              [[batch(1, entries_of(3, 5, [9, 9]), entries=b"c" * 18)]])
+    # entries 3 and 4 of region 1 are replaced in file 2; the oldest record of region 2 is a key of file 1
+    owed = [("append", 1, 30, [1, 2]), ("append", 2, 20, []), ("rewrite", 1, 18, [3])]
+    lens = [room.file(seq, "raftlog" if queue == "append" else queue).stat().st_size for queue, seq, _, _ in owed]
+    lines = []
+    for (queue, seq, live, regions), len_ in zip(owed, lens):
+        bar = f"|{'#' * (live * 40 // len_):<40}| {live * 100 // len_:>3} % live, {live} B of entries"
+        held = f"; the oldest file of region{'s' if len(regions) > 1 else ''} {' '.join(map(str, regions))}" if regions else ""
+        lines.append(f"{queue:<7} {seq:>6} {len_:>12} B {bar}{held}\n")
+    told = looker.run("files", room.path)
+    looker.expect("files", told, 0, ["".join(lines)])
+    if told.stdout != "".join(lines):
+        looker.wrong(f"files says something else: {told.stdout}")
+    said = [json.loads(line) for line in looker.run("files", "--json", room.path).stdout.splitlines()]
+    if said != [{"queue": queue, "file": seq, "bytes": len_, "live": live, "regions": regions} for (queue, seq, live, regions), len_ in zip(owed, lens)]:
+        looker.wrong(f"files --json says something else: {said}")
+    looker.expect("files --svg of known files", looker.run("files", "--svg", folder / "uses.svg", room.path), 0, [])
+    drawn = xml.dom.minidom.parse(str(folder / "uses.svg"))
+    bars = [tuple(int(bar.getAttribute(name)) for name in ("x", "y", "width")) for bar in drawn.getElementsByTagName("rect")[1:]]
+    _, *texts = [text.firstChild.data for text in drawn.getElementsByTagName("text")]
+    widest = max(width for _, _, width in bars)
+    for at, ((queue, seq, live, regions), len_) in enumerate(zip(owed, lens)):
+        whole, full = bars[2 * at:2 * at + 2]
+        wide = abs(whole[2] - widest * len_ / max(lens)) < 1 and abs(full[2] - widest * live / max(lens)) < 1
+        if not wide or whole[:2] != full[:2] or texts[2 * at] != f"{queue} {seq}" or not re.match(rf"{live * 100 // len_} % of {len_} bytes are live(;.* {' '.join(map(str, regions))})?$", texts[2 * at + 1]):
+            looker.wrong(f"the picture has another bar or text of {queue} {seq}: {whole} {full} {texts}")
+    line = "2 entries 1..3 keys 3 append 1 rewrite -\n"
+    for words, keys in (([], ["0x01ff 0 bytes", '"k1" 1 bytes', '"leader" 2 bytes']), (["--values"], ['0x01ff = ""', '"k1" = "v"', '"leader" = "n1"'])):
+        told = looker.run("regions", "--region", "2", *words, room.path)
+        looker.count += 1
+        if told.stdout != line + "".join(f"  key {key}\n" for key in keys) or told.returncode:
+            looker.wrong(f"regions --region 2 {words} says something else: {told.stdout}{told.stderr}")
+    said = [json.loads(line) for line in looker.run("regions", "--region", "2", "--json", room.path).stdout.splitlines()]
+    pairs = [{"key": "01ff", "value": ""}, {"key": "6b31", "value": "76"}, {"key": "6c6561646572", "value": "6e31"}]
+    looker.count += 2
+    if said != [{"region": 2, "first": 1, "last": 2, "keys": 3, "append": 1, "rewrite": None, "pairs": pairs}]:
+        looker.wrong(f"regions --region 2 --json says something else: {said}")
+
+
 def look_at_closed_streams(looker, folder):
     """What is printed to a closed stream goes into no file."""
     for closed in range(1, 8):
@@ -358,6 +403,7 @@ def main():
         look_at_cuts(looker, folder)
         look_at_tails(looker, folder)
         look_at_pictures(looker, folder)
+        look_at_uses(looker, folder)
         look_at_closed_streams(looker, folder)
         look_at_damaged(looker)
         look_at_words(looker, folder)

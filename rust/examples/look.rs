@@ -1,5 +1,5 @@
-//! Looks at the folder of an engine without changing it: `look <folder>`. Says what an opening would cut off its files, and why, how
-//! large these are, and what each region has.
+//! Looks at the folder of an engine without changing it: `look <folder>`. Says what an opening would cut off its files, and why, which
+//! batches have damaged entries, how large the files are, and what each region has.
 
 use raft_recover::{Engine, Options, QueueStats};
 use std::{env, error::Error};
@@ -9,6 +9,9 @@ fn main() -> Result<(), Box<dyn Error>> {
     let engine = Engine::open_read_only(folder, Options::new())?;
     for cut in engine.recovered().cuts() {
         println!("left out: {cut}");
+    }
+    for batch in &engine.recovered().damaged {
+        println!("kept: {batch}");
     }
     let stats = engine.stats();
     for (queue, stats) in [("append", stats.append), ("rewrite", stats.rewrite)] {

@@ -1,11 +1,13 @@
 //! Times an engine in a folder, which has to be a new one: `speed <folder> [rounds] [megabytes]`, and says the best of all rounds.
 //!
-//! A round writes batches of eight entries of 128 bytes and a key, each by one call, for half a second: without and with a sync, from
-//! one thread and from four. Then it recovers a log of so many megabytes from memory, and opens its folder, on 1, 2 and 4 threads.
-//! At last it reads entries of the log by one call each, of ten blocks in turn and of a hundred regions in order, and writes while
-//! another thread purges the log, which moves half of it.
+//! A round writes batches of eight entries of 128 bytes and a key, each by one call, for half a second: without and with a sync,
+//! from one thread and from four; and it appends as many bytes as such a batch has to a file, each time by one call. Then it
+//! recovers a log of so many megabytes from memory, and opens its folder, on 1, 2 and 4 threads. At last it reads entries of the
+//! log by one call each, of ten blocks in turn and of a hundred regions in order, and writes while another thread purges the log,
+//! which moves half of it.
 
 use raft_recover::{Engine, FilePart, LogBatch, LogFile, Options, Queue, Result, recover};
+use std::io::{self, Write};
 use std::time::{Duration, Instant};
 use std::{env, fs, path::Path, thread};
 
@@ -23,6 +25,12 @@ fn batch(region: u64, first: u64) -> Result<LogBatch> {
     batch.add_entries(region, first, &[[7; 128]; 8])?;
     batch.put(region, b"last", &(first + 7).to_le_bytes())?;
     Ok(batch)
+}
+
+/// Returns how many bytes a batch takes in a file.
+fn encoded_len() -> Result<usize> {
+    let mut batch = batch(1, 1)?;
+    batch.finish()
 }
 
 /// Writes from so many threads, and returns how many batches a second that were, and how many of them a sync.
@@ -49,6 +57,17 @@ fn write(folder: &Path, threads: u64, sync: bool) -> Result<(f64, f64)> {
     let (stats, seconds) = (engine.stats(), begun.elapsed().as_secs_f64());
     let batches = stats.batches as f64;
     Ok((batches / seconds, batches / stats.syncs as f64))
+}
+
+/// Appends so many bytes to a new file again and again, without a sync, and returns how often a second that was.
+fn append(path: &Path, len: usize) -> io::Result<f64> {
+    let (mut file, bytes) = (fs::File::create_new(path)?, vec![7; len]);
+    let (begun, mut count) = (Instant::now(), 0.0);
+    while begun.elapsed() < HALF_A_SECOND {
+        file.write_all(&bytes)?;
+        count += 1.0;
+    }
+    Ok(count / begun.elapsed().as_secs_f64())
 }
 
 /// Fills a folder with batches of a thousand regions.
@@ -143,7 +162,8 @@ fn main() -> std::result::Result<(), Box<dyn std::error::Error>> {
     fill(&log, bytes)?;
     let files = read(&log)?;
     let parts: Vec<_> = cut(&files);
-    let mut written = [(0.0, 0.0); 4];
+    let len = encoded_len()?;
+    let (mut written, mut appended) = ([(0.0, 0.0); 4], 0.0);
     let (mut recovered, mut opened) = ([f64::MAX; 3], [f64::MAX; 3]);
     for round in 0..rounds {
         for (best, (threads, sync)) in written.iter_mut().zip(WRITING) {
@@ -154,6 +174,9 @@ fn main() -> std::result::Result<(), Box<dyn std::error::Error>> {
                 *best = now;
             }
         }
+        let path = folder.join(format!("{round}-plain"));
+        appended = append(&path, len)?.max(appended);
+        fs::remove_file(path)?;
         for (i, threads) in READING.into_iter().enumerate() {
             let now = time(|| recover(&parts, Queue::Append, threads))?;
             recovered[i] = now.min(recovered[i]);
@@ -166,6 +189,9 @@ fn main() -> std::result::Result<(), Box<dyn std::error::Error>> {
         let share = share.unwrap_or_default();
         println!("{threads} threads, sync {sync}: {rate:.0} batches a second{share}");
     }
+    println!(
+        "{len} bytes, as many as a batch has, appended to a file: {appended:.0} times a second"
+    );
     for (i, threads) in READING.into_iter().enumerate() {
         let (recovered, opened) = (recovered[i], opened[i]);
         println!("{threads} threads: recovered in {recovered:.0} ms, opened in {opened:.0} ms");

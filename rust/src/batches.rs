@@ -76,11 +76,11 @@ impl<'a> Batches<'a> {
     ///
     /// `InvalidArgument` where the bytes end past offset 2^64 - 1.
     pub fn new(part: FilePart<'a>) -> Result<Batches<'a>> {
-        part.check()?;
+        part.check_end()?;
         Ok(Batches { part, at: Some(0) })
     }
 
-    /// Returns where in the part the next batch begins; nothing behind a refusal, and at the end.
+    /// Returns where in the part the next batch begins; `None` behind a refusal, and at the end.
     ///
     /// ```
     /// # use raft_recover::{Batches, FilePart, LogBatch, LogFile, Queue, Version};
@@ -121,7 +121,7 @@ impl Iterator for Batches<'_> {
 impl FusedIterator for Batches<'_> {}
 
 /// Returns how many bytes of the part, from its first on, are readable batches, one behind the other, and why the batch there
-/// can't be read, unless that is the end. So a torn tail of a file begins there.
+/// can't be read; `None` where the part ends there. So a torn tail of a file begins there.
 ///
 /// ```
 /// use raft_recover::{ErrorKind, FilePart, LogBatch, LogFile, Queue, Version, readable_front};
@@ -144,12 +144,13 @@ impl FusedIterator for Batches<'_> {}
 ///
 /// `InvalidArgument` where the bytes end past offset 2^64 - 1.
 pub fn readable_front(part: FilePart<'_>) -> Result<(usize, Option<Error>)> {
-    part.check()?;
+    part.check_end()?;
     let (front, refused) = sys::readable_front(part);
     Ok((front, refused.map(|e| with_place(e, part, front))))
 }
 
-/// Says of a refusal where in the file the batch begins that can't be read.
+/// Returns the refusal of the batch at the byte `at` of a part with its place in the file; `Memory`, which is about no place, as it
+/// is.
 fn with_place(refused: Error, part: FilePart<'_>, at: usize) -> Error {
     match refused.kind {
         ErrorKind::Memory => refused,
@@ -157,8 +158,8 @@ fn with_place(refused: Error, part: FilePart<'_>, at: usize) -> Error {
     }
 }
 
-/// Returns how long the log batch is whose header stands in front of the bytes, if one does. So files are cut between batches,
-/// for [`recover`](crate::recover):
+/// Returns how many bytes the log batch has whose header stands at the front of the bytes; `None` where no header stands there. So
+/// files are cut between batches, for [`recover`](crate::recover):
 ///
 /// ```
 /// use raft_recover::{FilePart, batch_len};

@@ -114,13 +114,13 @@ impl Context {
     /// or `Io` where they are no sequence of readable batches, or where these can't follow those before; `Full` where more
     /// than 2^64 - 1 records would be live; `Memory`; `Failed`.
     pub fn replay(&mut self, part: FilePart<'_>) -> Result<()> {
-        part.check()?;
+        part.check_end()?;
         let handle = self.take()?;
         self.handle = Some(handle.replay(part)?);
         Ok(())
     }
 
-    /// Takes in the context of the batches that follow, all of this queue.
+    /// Takes in the context `newer`, of the batches that follow, all of the queue `queue`.
     ///
     /// ```
     /// # use raft_recover::{Context, FilePart, LogBatch, LogFile, Queue, Version};
@@ -178,7 +178,7 @@ impl Context {
         Ok(())
     }
 
-    /// Says how much the context holds.
+    /// Counts what the context holds.
     ///
     /// ```
     /// # use raft_recover::{Context, FilePart, LogBatch, LogFile, Queue, Version};
@@ -230,7 +230,7 @@ impl Context {
         Ok(Tables::of(tables))
     }
 
-    /// Takes the handle out for a call, which puts it back unless it is refused.
+    /// Takes the handle out for a call, which puts it back unless that is refused.
     ///
     /// # Errors
     ///

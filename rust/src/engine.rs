@@ -29,6 +29,7 @@ mod purging;
 mod reading;
 mod recovered;
 mod recovery_mode;
+mod shared_tables;
 mod stats;
 mod turns;
 mod unwritten;
@@ -43,7 +44,7 @@ pub use memory_files::{Ask, MemoryFiles, Unsynced};
 pub use options::Options;
 pub use pairs::Pairs;
 pub use purged::{Holder, Purged};
-pub use recovered::{CutTail, Recovered};
+pub use recovered::{CutTail, DamagedBatch, Recovered};
 pub use recovery_mode::RecoveryMode;
 pub use stats::{QueueStats, Stats};
 pub use usage::{QueueUsage, Usage};
@@ -54,6 +55,7 @@ use found::Found;
 use kept_blocks::KeptBlocks;
 use listening::{Event, Events};
 use numbers::Numbers;
+use shared_tables::SharedTables;
 use turns::Turns;
 use unwritten::Unwritten;
 
@@ -72,7 +74,7 @@ use unwritten::Unwritten;
 /// let mut batch = LogBatch::new()?;
 /// batch.add_entries(7, 1, &["an entry", "another one"])?;
 /// batch.put(7, b"key", b"value")?;
-/// engine.write(&mut batch, true)?; // it lasts from here on
+/// engine.write(&mut batch, true)?; // no crash loses it from here on
 /// drop(engine);
 ///
 /// let engine = Engine::open(&path, Options::new())?;
@@ -104,16 +106,16 @@ use unwritten::Unwritten;
 /// # Ok::<(), raft_recover::Error>(())
 /// ```
 ///
-/// What was written is read at once, synced or not. Where a change of the files fails, and in few cases without memory, the
-/// engine fails: every later change returns `Failed` with the reason, and what the files have is found when it is dropped and they
-/// are opened again; where a sync failed, once the machine was started again ([`Files`] says why). Where it was the files that
-/// failed, reads go on: they find all that was written, and perhaps what was being written then, which may last or not. Else they
+/// What was written is read at once, synced or not. Where a change of the files fails, and in few cases without memory, the engine
+/// fails: every later change returns `Failed` with the reason, and what the files have is found when it is dropped and they are
+/// opened again; where a sync failed, once the machine was started again ([`Files`] says why). Where it was the files that failed,
+/// reads go on: they find all that was written, and perhaps what was being written then, which a crash may take away. Else they
 /// return `Failed` too. A call that is refused otherwise changes nothing, unless it says what it leaves. Dropping an engine syncs
 /// nothing.
 ///
-/// Where a change found no room in a folder, and left the files as they were ([`Files::is_as_before`]), the engine hasn't failed. All
-/// is read, and every change first does what was left undone, and returns that `Io` until there is room. So a write that found none is
-/// made again by the same call: its batch was kept, and is empty.
+/// Where a change found no room in a folder, and left the files as they were ([`Files::is_as_before`]), the engine hasn't failed.
+/// All is read, and every change first does what was left undone, and returns that `Io` until there is room. So a write that found
+/// none is made again by the same call: its batch was kept, and is empty.
 ///
 /// A batch is handed in by one thread, and files that threads can't share make no engine:
 ///
@@ -143,12 +145,11 @@ use unwritten::Unwritten;
 pub struct Engine<F: Files = FolderFiles> {
     files: F,
     options: Options,
-    /// What was cut when the files were opened.
+    /// What was cut when the files were opened, and what was found damaged.
     recovered: Recovered,
     /// How long that took.
     opening: Duration,
-    /// The tables, locked for single calls.
-    tables: Mutex<EngineHandle>,
+    tables: SharedTables,
     /// It is held from a call that orders something until that is carried out.
     turns: Turns,
     numbers: Mutex<Numbers>,
@@ -168,9 +169,9 @@ pub struct Engine<F: Files = FolderFiles> {
 
 impl Engine {
     /// Opens a folder, or makes it. Its files are read on several threads ([`Options::recovery_threads`]). The torn tail of
-    /// a queue's last file, which a stop in the midst of a write leaves, is cut, and kept in a file beside. A damaged last batch
-    /// there counts as one, unless its checksum is that for another file. [`Engine::recovered`] tells of it, and
-    /// [`Options::recovery_mode`] may say otherwise.
+    /// a queue's last file, which a crash in the midst of a write leaves, is cut, and kept in a file beside. A last batch there whose
+    /// header or items are damaged counts as one, unless its checksum is that for another file. [`Engine::recovered`] tells of it,
+    /// and [`Options::recovery_mode`] may say otherwise.
     ///
     /// ```
     /// use raft_recover::{Engine, Options};
@@ -234,31 +235,30 @@ impl<F: Files> Engine<F> {
     ///
     /// # Errors
     ///
-    /// `Corruption` where a file before the last one of its queue can't be read; where the last one can't, and the
-    /// [`RecoveryMode`] cuts nothing off, or not what is left: in the default one where that isn't part of one batch, and a batch that
-    /// can be read stands behind, or one that is signed for another file; where it is of the other version, a file is missing between
-    /// two others, or the numbers of files don't rise;
-    /// `InvalidArgument` where a file is one of raft-engine, which begins with a header, or the batches of an atomic group don't
-    /// stand in a row in one file; `Codec`, `Full`. Nothing was asked of the files then but to be read. `Io`, `Memory`: whatever
-    /// is left has the records that were found.
+    /// `Corruption` where a file before the last one of its queue can't be read; where the last one can't, and the [`RecoveryMode`]
+    /// cuts nothing off, or not what is left: in the default one where that isn't part of one batch, and a batch that can be read
+    /// stands behind, or one that is signed for another file; where it is of the other version, a file is missing between two
+    /// others, or the numbers of files don't rise; `InvalidArgument` where a file is one of raft-engine, which begins with a
+    /// header, or the batches of an atomic group don't stand in a row in one file; `Codec`, `Full`. Nothing was asked of the files
+    /// then but to be read. `Io`, `Memory`: whatever is left has the records that were found.
     pub fn with_files(files: F, options: Options) -> Result<Engine<F>> {
-        Engine::with_files_and(files, options, None)
+        Engine::open_over(files, options, None)
     }
 
-    /// Opens an engine over files, with a listener or without.
+    /// Opens an engine over files, and tells the listener, if there is one, what the opening does to them.
     ///
     /// # Errors
     ///
     /// Those of [`Engine::with_files`].
-    fn with_files_and(
+    fn open_over(
         files: F,
         options: Options,
         listener: Option<Arc<dyn Listener>>,
     ) -> Result<Engine<F>> {
         let begun = Instant::now();
-        let (mut engine, orders) = Engine::of_found(files, options)?;
+        let (mut engine, orders) = Engine::read_found(files, options)?;
         engine.events = Events::of(listener);
-        engine.tell_after(|| engine.turn()?.open(orders))?;
+        engine.tell_after(|| engine.wait_for_turn()?.carry_out_opening(orders))?;
         engine.opening = begun.elapsed();
         Ok(engine)
     }
@@ -286,7 +286,7 @@ impl<F: Files> Engine<F> {
     /// Those of [`Engine::with_files`], but for those of changes.
     pub fn with_files_read_only(files: F, options: Options) -> Result<Engine<F>> {
         let begun = Instant::now();
-        let (engine, orders) = Engine::of_found(files, options)?;
+        let (engine, orders) = Engine::read_found(files, options)?;
         for order in orders {
             if let Order::Cut(queue, len) = order {
                 locks::lock(&engine.numbers).note_cut(queue, len);
@@ -299,19 +299,19 @@ impl<F: Files> Engine<F> {
         })
     }
 
-    /// Reads the files, and returns an engine with what is to be done to them before it is used.
+    /// Reads the files, and returns an engine over them with the orders that are to be carried out before it is used.
     ///
     /// # Errors
     ///
     /// Those of [`Engine::with_files`]. The files are then as they were.
-    fn of_found(files: F, options: Options) -> Result<(Engine<F>, Vec<Order>)> {
+    fn read_found(files: F, options: Options) -> Result<(Engine<F>, Vec<Order>)> {
         let opened = Found::read(&files, &options)?.open(&options)?;
         let engine = Engine {
             files,
             options,
             recovered: opened.recovered,
             opening: Duration::ZERO,
-            tables: Mutex::new(opened.tables),
+            tables: SharedTables::of(opened.tables),
             turns: Turns::default(),
             numbers: Mutex::new(opened.numbers),
             unwritten: Unwritten::default(),
@@ -325,7 +325,8 @@ impl<F: Files> Engine<F> {
         Ok((engine, opened.orders))
     }
 
-    /// Returns what was cut off the files when they were opened.
+    /// Returns what was cut off the files when they were opened (in memory alone, if only to be read), and which batches of the
+    /// last append file have damaged entries; these were kept.
     ///
     /// ```
     /// # use raft_recover::{Engine, MemoryFiles, Options};
@@ -333,6 +334,9 @@ impl<F: Files> Engine<F> {
     /// let engine = Engine::with_files(found, Options::new())?;
     /// for cut in engine.recovered().cuts() {
     ///     eprintln!("{cut}");
+    /// }
+    /// for batch in &engine.recovered().damaged {
+    ///     eprintln!("{batch}");
     /// }
     /// # assert_eq!(engine.recovered().append.as_ref().unwrap().len, 4);
     /// # Ok::<(), raft_recover::Error>(())
@@ -369,12 +373,12 @@ impl<F: Files> Engine<F> {
         self.is_read_only
     }
 
-    /// Tests that a call may change something.
+    /// Tests that a call, which `call` names, may change something.
     ///
     /// # Errors
     ///
-    /// `InvalidArgument`, with the name of the call, where the engine was opened to be read alone.
-    fn changeable(&self, call: &str) -> Result<()> {
+    /// `InvalidArgument`, with that name, where the engine was opened to be read alone.
+    fn check_changeable(&self, call: &str) -> Result<()> {
         if self.is_read_only {
             let text = format!("{call}: the engine is open for reading alone");
             return Err(Error::invalid_argument(&text));
@@ -395,9 +399,14 @@ impl<F: Files> Engine<F> {
         &self.options
     }
 
-    /// Locks the tables, and waits for that.
-    fn tables(&self) -> MutexGuard<'_, EngineHandle> {
-        locks::lock(&self.tables)
+    /// Locks the tables, and waits until no other thread has them locked. A thread that has them mustn't call it again.
+    fn lock_tables(&self) -> MutexGuard<'_, EngineHandle> {
+        self.tables.lock()
+    }
+
+    /// Locks the tables behind those who wait for them, as a thread does that goes from region to region.
+    fn lock_tables_behind_others(&self) -> MutexGuard<'_, EngineHandle> {
+        self.tables.lock_behind_others()
     }
 
     /// Returns what the engine has, in numbers.
@@ -415,11 +424,12 @@ impl<F: Files> Engine<F> {
     /// ```
     #[must_use]
     pub fn stats(&self) -> Stats {
-        let live = [Queue::Append, Queue::Rewrite].map(|queue| self.tables().live(queue));
+        let live =
+            [Queue::Append, Queue::Rewrite].map(|queue| self.lock_tables().count_live(queue));
         let numbers = locks::lock(&self.numbers);
         Stats {
-            append: numbers.of(Queue::Append, live[0]),
-            rewrite: numbers.of(Queue::Rewrite, live[1]),
+            append: numbers.stats_of(Queue::Append, live[0]),
+            rewrite: numbers.stats_of(Queue::Rewrite, live[1]),
             batches: numbers.batches,
             syncs: numbers.syncs,
             sync_time: numbers.sync_time,

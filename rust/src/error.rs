@@ -67,7 +67,11 @@ impl ErrorKind {
 impl TryFrom<u8> for ErrorKind {
     type Error = Error;
 
-    /// Returns the kind of a number of the library.
+    /// Returns the kind that has a number of the library.
+    ///
+    /// # Errors
+    ///
+    /// `InvalidArgument` where no kind has it.
     fn try_from(number: u8) -> Result<ErrorKind> {
         usize::from(number)
             .checked_sub(1)
@@ -163,7 +167,7 @@ struct Source(Box<dyn error::Error + Send + Sync>);
 pub type Result<T> = std::result::Result<T, Error>;
 
 impl Error {
-    /// Returns the kind of the system's error, if that is the reason.
+    /// Returns the kind of the system's error; `None` where no error of the system is the reason.
     ///
     /// ```
     /// use raft_recover::{Engine, Options};
@@ -178,13 +182,14 @@ impl Error {
         source.downcast_ref().map(io::Error::kind)
     }
 
-    /// Makes the refusal of a number of the library. A place in front of its words is that of the refusal.
+    /// Makes the refusal that the library tells by its number `code` and its text. The place that stands in front of the words is
+    /// that of the refusal.
     pub(crate) fn of(code: u32, text: String) -> Error {
         let kind = u8::try_from(code).map(ErrorKind::try_from);
         let Ok(Ok(kind)) = kind else {
             unreachable!("the library has no error of number {code}")
         };
-        let place = Place::in_front_of(&text);
+        let place = Place::read_from(&text);
         Error {
             file: place.file.map(|(file, _)| file),
             offset: place.file.map(|(_, offset)| offset),
@@ -241,7 +246,7 @@ impl Error {
         Error::new(ErrorKind::Corruption, format!("Corruption: {text}")).at(file, offset)
     }
 
-    /// Makes the refusal of the system, about something that these words name.
+    /// Makes the refusal of the system. The words of `about` name what was refused.
     pub(crate) fn system(about: impl fmt::Display, source: io::Error) -> Error {
         let text = format!("IO Error: {about}: {source}");
         Error {
@@ -250,7 +255,7 @@ impl Error {
         }
     }
 
-    /// Makes the refusal of a message, about something that these words name.
+    /// Makes the refusal of a message. The words of `about` say where it stands.
     pub(crate) fn message(
         about: impl fmt::Display,
         source: impl Into<Box<dyn error::Error + Send + Sync>>,
@@ -263,8 +268,8 @@ impl Error {
         }
     }
 
-    /// Adds to a refusal which item of a batch it is about, counted from 0.
-    pub(crate) fn of_item(mut self, item: usize) -> Error {
+    /// Returns the refusal with the item of a batch that it is about, counted from 0, also in its words.
+    pub(crate) fn with_item(mut self, item: usize) -> Error {
         if let Some((kind, reason)) = self.text.split_once(": ") {
             self.text = format!("{kind}: item {item}: {reason}");
         }
@@ -272,7 +277,8 @@ impl Error {
         self
     }
 
-    /// Adds to a refusal which byte of a file it is about.
+    /// Returns the error with the place that it is about: sets `file` and `offset`, and puts both behind the kind in its text,
+    /// as in `Corruption: append file 3, offset 17: ..`. A text without a reason behind its kind stays.
     pub(crate) fn at(mut self, file: FileId, offset: u64) -> Error {
         if let Some((kind, reason)) = self.text.split_once(": ") {
             self.text = format!("{kind}: {file}, offset {offset}: {reason}");
@@ -281,16 +287,16 @@ impl Error {
         self
     }
 
-    /// Says which entry of a region the refusal is about, in front of the place in a file that it names.
-    pub(crate) fn of_entry(mut self, region: u64, index: u64) -> Error {
+    /// Returns the refusal with the entry of a region that it is about, also in its words, in front of the place in a file.
+    pub(crate) fn with_entry(mut self, region: u64, index: u64) -> Error {
         if let Some((kind, reason)) = self.text.split_once(": ") {
             self.text = format!("{kind}: region {region}, index {index}, {reason}");
         }
-        self.about(region, Some(index))
+        self.with_region(region, Some(index))
     }
 
-    /// Notes the region that the refusal is about, and the index of an entry. Its words stay.
-    pub(crate) fn about(self, region: u64, index: Option<u64>) -> Error {
+    /// Returns the refusal with the region that it is about, and the index of the entry, if it is about one. Its words stay.
+    pub(crate) fn with_region(self, region: u64, index: Option<u64>) -> Error {
         Error {
             region: Some(region),
             index,
@@ -309,8 +315,8 @@ struct Place {
 }
 
 impl Place {
-    /// Reads the place in front of a refusal's words. What doesn't stand there is `None`.
-    fn in_front_of(text: &str) -> Place {
+    /// Reads the place in front of a refusal's words: `None` for each part that doesn't stand there.
+    fn read_from(text: &str) -> Place {
         let mut place = Place::default();
         let Some((_, words)) = text.split_once(": ") else {
             return place;
@@ -325,7 +331,7 @@ impl Place {
     }
 }
 
-/// Reads a number behind a word, and returns it with what follows; no number where it doesn't stand there.
+/// Reads a number behind a word, and returns it with the words that follow; `None` with all words where there is no number.
 fn number_behind<'a>(word: &str, words: &'a str) -> (Option<u64>, &'a str) {
     let number = |text: &'a str| {
         let (number, rest) = text.split_once(", ").unwrap_or((text, ""));
@@ -337,7 +343,7 @@ fn number_behind<'a>(word: &str, words: &'a str) -> (Option<u64>, &'a str) {
     }
 }
 
-/// Reads a place in a file.
+/// Reads a place in a file, such as `append file 3, offset 17`; `None` where the words aren't one.
 fn file_in(place: &str) -> Option<(FileId, u64)> {
     let (file, offset) = place.split_once(", offset ")?;
     let (queue, seq) = file.split_once(" file ")?;
@@ -369,7 +375,7 @@ impl fmt::Display for Error {
 }
 
 impl error::Error for Error {
-    /// Returns the refusal of the system, or of a message, if that is the reason.
+    /// Returns the refusal of the system, or of a message; `None` where neither is the reason.
     fn source(&self) -> Option<&(dyn error::Error + 'static)> {
         let source = self.source.as_deref()?;
         Some(&*source.0)

@@ -37,6 +37,10 @@ impl FromStr for Queue {
     type Err = Error;
 
     /// Returns the queue of a word, `append` or `rewrite`.
+    ///
+    /// # Errors
+    ///
+    /// `InvalidArgument` for any other word.
     fn from_str(word: &str) -> Result<Queue> {
         match word {
             "append" => Ok(Queue::Append),
@@ -52,6 +56,10 @@ impl TryFrom<u8> for Queue {
     type Error = Error;
 
     /// Returns the queue of a number, 0 or 1.
+    ///
+    /// # Errors
+    ///
+    /// `InvalidArgument` for any other number.
     fn try_from(number: u8) -> Result<Queue> {
         match number {
             0 => Ok(Queue::Append),
@@ -92,6 +100,10 @@ impl TryFrom<u8> for Version {
     type Error = Error;
 
     /// Returns the version of a number, 1 or 2.
+    ///
+    /// # Errors
+    ///
+    /// `InvalidArgument` for any other number.
     fn try_from(number: u8) -> Result<Version> {
         match number {
             1 => Ok(Version::V1),
@@ -121,7 +133,7 @@ pub struct FileId {
 }
 
 impl FileId {
-    /// Makes one of its parts.
+    /// Makes the id of the file with a number in a queue.
     ///
     /// ```
     /// use raft_recover::{FileId, Queue};
@@ -165,7 +177,7 @@ pub struct LogFile {
 }
 
 impl LogFile {
-    /// Makes one of its parts.
+    /// Makes the file with a number in a queue, in a version.
     ///
     /// ```
     /// use raft_recover::{LogFile, Queue, Version};
@@ -236,7 +248,7 @@ impl<'a> FilePart<'a> {
     /// # Errors
     ///
     /// `InvalidArgument` where they don't.
-    pub(crate) fn check(&self) -> Result<()> {
+    pub(crate) fn check_end(&self) -> Result<()> {
         match self.offset.checked_add(self.bytes.len() as u64) {
             Some(_) => Ok(()),
             None => Err(Error::invalid_argument("a part ends past the last offset")),

@@ -13,7 +13,7 @@
 //! let mut batch = LogBatch::new()?;
 //! batch.add_entries(7, 1, &["an entry", "another one"])?;
 //! batch.put(7, b"state", b"leader")?;
-//! engine.write(&mut batch, true)?; // it lasts from here on
+//! engine.write(&mut batch, true)?; // no crash loses it from here on
 //! for entry in engine.entries(7, ..)? {
 //!     println!("{}", String::from_utf8_lossy(&entry));
 //! }
@@ -68,8 +68,9 @@ pub use batches::{
 };
 pub use context::{Context, Kept};
 pub use engine::{
-    Ask, CutTail, Engine, Entries, Files, FolderFiles, Holder, Listener, MemoryFiles, Options,
-    Pairs, Purged, QueueStats, QueueUsage, Recovered, RecoveryMode, Stats, Unsynced, Usage,
+    Ask, CutTail, DamagedBatch, Engine, Entries, Files, FolderFiles, Holder, Listener, MemoryFiles,
+    Options, Pairs, Purged, QueueStats, QueueUsage, Recovered, RecoveryMode, Stats, Unsynced,
+    Usage,
 };
 pub use entries::{Block, Entry, Pair};
 pub use error::{Error, ErrorKind, Result};

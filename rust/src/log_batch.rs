@@ -74,7 +74,7 @@ impl LogBatch {
         }
     }
 
-    /// Makes one of a handle that has a `Clean` for each of these regions.
+    /// Makes the batch of a handle that holds one with a `Clean` for each of the regions.
     pub(crate) fn of_cleans(handle: LogBatchHandle, regions: &[u64]) -> LogBatch {
         let mut batch = LogBatch::of(handle);
         for region in regions {
@@ -109,7 +109,7 @@ impl LogBatch {
         Ok(LogBatch::of(LogBatchHandle::new()?))
     }
 
-    /// Makes an open batch without items that has room to pack so many bytes of entries, so that
+    /// Makes an open batch without items that has room to pack `bytes` bytes of entries, so that
     /// [`LogBatch::add_entries`] and [`LogBatch::add_messages`] need no more of it for them. It keeps this room when it is written.
     ///
     /// ```
@@ -200,9 +200,9 @@ impl LogBatch {
         self.shapes.clear();
     }
 
-    /// Says of a refusal which item of the regions that are tested doesn't fit the entries of its own. A call finds what a region
-    /// has.
-    pub(crate) fn misfit(
+    /// Returns a refusal with the item that doesn't fit the entries of its region, if that is its reason: the first one of the
+    /// regions for which `is_tested` holds. `summary` finds what a region had before the batch.
+    pub(crate) fn name_misfit(
         &self,
         refused: Error,
         is_tested: impl Fn(u64) -> bool,
@@ -211,13 +211,13 @@ impl LogBatch {
         if refused.kind != ErrorKind::Corruption {
             return refused;
         }
-        match self.shapes.misfit(is_tested, summary) {
-            Some((item, region, index)) => refused.of_item(item).about(region, Some(index)),
+        match self.shapes.find_misfit(is_tested, summary) {
+            Some((item, region, index)) => refused.with_item(item).with_region(region, Some(index)),
             None => refused,
         }
     }
 
-    /// Returns about how many bytes the batch will have, and how many it has once they are made: 0 without items.
+    /// Returns about how many bytes the batch will have, or how many it has once they are made: 0 without items.
     ///
     /// ```
     /// # use raft_recover::LogBatch;

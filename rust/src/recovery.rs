@@ -3,7 +3,7 @@
 use crate::{Context, FilePart, Queue, Result, Tables};
 use std::{panic, thread};
 
-/// Recovers the tables of a queue from parts of its files, which are read in their order, on this many threads.
+/// Recovers the tables of a queue from parts of its files, which are read in their order, on `workers` threads.
 ///
 /// Each thread takes a stretch of whole parts, all of about the same number of bytes. So a few large files are better cut
 /// between batches, by [`batch_len`](crate::batch_len). Neighbors are merged by halves. The caller's thread is one of them, 0
@@ -35,8 +35,8 @@ pub fn recover(parts: &[FilePart<'_>], queue: Queue, workers: usize) -> Result<T
     read_parts(parts, queue, workers)?.finish()
 }
 
-/// Recovers the tables of both queues: those of the append queue over those of the rewrite queue. Each queue is read on this
-/// many threads, the rewrite queue first.
+/// Recovers the tables of both queues: those of the append queue over those of the rewrite queue. Each queue is read on
+/// `workers` threads, the rewrite queue first.
 ///
 /// ```
 /// use raft_recover::recover_both;
@@ -59,13 +59,13 @@ pub fn recover_both(
     both.finish()
 }
 
-/// Reads parts of a queue on at most this many threads, and returns the context that has read all.
+/// Reads parts of a queue on at most `workers` threads, and returns the context that has read all.
 ///
 /// # Errors
 ///
 /// The refusal of the first batch in order that is refused, `Memory`.
 fn read_parts(parts: &[FilePart<'_>], queue: Queue, workers: usize) -> Result<Context> {
-    read_stretches(&stretches(parts, workers.max(1)), queue)
+    read_stretches(&cut_into_stretches(parts, workers.max(1)), queue)
 }
 
 /// Reads stretches of parts by halves, both halves at once, and merges what was read.
@@ -103,7 +103,8 @@ fn replay_parts(parts: &[FilePart<'_>]) -> Result<Context> {
     Ok(context)
 }
 
-/// Makes two calls at once, the second one on another thread; one behind the other where none can be started.
+/// Makes two calls at once, the second one on another thread, and returns what both return. Where no thread can be started it makes
+/// one call after the other.
 fn call_both<A, B: Send>(
     first: impl FnOnce() -> A,
     second: impl FnOnce() -> B + Copy + Send,
@@ -119,8 +120,8 @@ fn call_both<A, B: Send>(
     })
 }
 
-/// Cuts parts into at most `count` stretches of about the same number of bytes.
-fn stretches<'p, 'a>(parts: &'p [FilePart<'a>], count: usize) -> Vec<&'p [FilePart<'a>]> {
+/// Cuts parts into at most `count` stretches of whole parts, in order, each of about the same number of bytes.
+fn cut_into_stretches<'p, 'a>(parts: &'p [FilePart<'a>], count: usize) -> Vec<&'p [FilePart<'a>]> {
     let total: u128 = parts.iter().map(|part| part.bytes.len() as u128).sum();
     let mut stretches = Vec::new();
     let (mut from, mut read) = (0, 0);

@@ -97,9 +97,13 @@ impl Slot {
         Ok(Slot { number, tables })
     }
 
-    /// Takes the table of a region, if there is one, out of tables. Where that is refused it is gone.
+    /// Takes the table of a region, if there is one, out of tables.
+    ///
+    /// # Errors
+    ///
+    /// `InvalidArgument` for a region of another slot, and nothing has changed. `Full`, `Memory`: the table is then gone.
     pub(crate) fn take_table(&mut self, region: u64, tables: &mut Tables) -> Result<()> {
-        self.check(region)?;
+        self.check_region(region)?;
         tables.handle.move_table(region, &mut self.tables.handle)
     }
 
@@ -108,7 +112,7 @@ impl Slot {
     /// # Errors
     ///
     /// `InvalidArgument` where it isn't.
-    fn check(&self, region: u64) -> Result<()> {
+    fn check_region(&self, region: u64) -> Result<()> {
         if slot_of(region) == self.number {
             return Ok(());
         }
@@ -146,7 +150,7 @@ impl Slot {
     ///
     /// Those of `Tables::append`, and `InvalidArgument` for a region of another slot.
     pub fn append(&mut self, region: u64, entries: &[Entry]) -> Result<()> {
-        self.check(region)?;
+        self.check_region(region)?;
         self.tables.append(region, entries)
     }
 
@@ -168,7 +172,7 @@ impl Slot {
     ///
     /// `InvalidArgument` for a region of another slot, `Memory`.
     pub fn compact(&mut self, region: u64, index: u64) -> Result<u64> {
-        self.check(region)?;
+        self.check_region(region)?;
         self.tables.compact(region, index)
     }
 
@@ -190,11 +194,11 @@ impl Slot {
     ///
     /// `InvalidArgument` for a region of another slot, `Memory`.
     pub fn truncate(&mut self, region: u64, index: u64) -> Result<u64> {
-        self.check(region)?;
+        self.check_region(region)?;
         self.tables.truncate(region, index)
     }
 
-    /// Puts a key of a region with its value, which were written to this file.
+    /// Puts a key of a region with its value, which were written to the file `file`.
     ///
     /// ```
     /// # use raft_recover::{FileId, Queue, Slot, slot_of};
@@ -208,7 +212,7 @@ impl Slot {
     ///
     /// `InvalidArgument` for a region of another slot, `Full`, `Memory`.
     pub fn put(&mut self, region: u64, key: &[u8], value: &[u8], file: FileId) -> Result<()> {
-        self.check(region)?;
+        self.check_region(region)?;
         self.tables.put(region, key, value, file)
     }
 
@@ -227,7 +231,7 @@ impl Slot {
     ///
     /// `InvalidArgument` for a region of another slot, `Memory`.
     pub fn delete(&mut self, region: u64, key: &[u8]) -> Result<()> {
-        self.check(region)?;
+        self.check_region(region)?;
         self.tables.delete(region, key)
     }
 
@@ -252,7 +256,7 @@ impl Slot {
     ///
     /// Those of `Tables::rewrite`, and `InvalidArgument` for a region of another slot.
     pub fn rewrite(&mut self, region: u64, entries: &[Entry], gate: Option<u64>) -> Result<()> {
-        self.check(region)?;
+        self.check_region(region)?;
         self.tables.rewrite(region, entries, gate)
     }
 
@@ -277,7 +281,7 @@ impl Slot {
         gate: Option<u64>,
         seq: u64,
     ) -> Result<()> {
-        self.check(region)?;
+        self.check_region(region)?;
         self.tables.rewrite_key(region, key, gate, seq)
     }
 
@@ -297,7 +301,7 @@ impl Slot {
     ///
     /// `InvalidArgument` where `start` is above `end` or for a region of another slot, `Memory`.
     pub fn set_atomic_group(&mut self, region: u64, start: u64, end: u64) -> Result<()> {
-        self.check(region)?;
+        self.check_region(region)?;
         self.tables.set_atomic_group(region, start, end)
     }
 
@@ -318,7 +322,7 @@ impl Slot {
     ///
     /// `InvalidArgument` for a region of another slot; `Memory`, where the region is to be listed.
     pub fn remove(&mut self, region: u64, is_listed: bool) -> Result<bool> {
-        self.check(region)?;
+        self.check_region(region)?;
         self.tables.remove(region, is_listed)
     }
 
@@ -362,7 +366,7 @@ impl Slot {
     pub fn check_append(&self, batch: &LogBatch) -> Result<()> {
         let checked = self.tables.handle.check_share(self.number, batch.handle());
         let is_here = |region| slot_of(region) == self.number;
-        checked.map_err(|e| batch.misfit(e, is_here, |region| self.summary(region)))
+        checked.map_err(|e| batch.name_misfit(e, is_here, |region| self.summary(region)))
     }
 
     /// Writes those items of a batch of the append queue whose regions are of the slot, in order. The others are those of other
@@ -426,7 +430,7 @@ impl Slot {
             .rewrite_share(self.number, batch.handle(), gate, seq)
     }
 
-    /// Writes a new item of the append queue, which was written to this file. A group marker changes nothing.
+    /// Writes a new item of the append queue, which was written to the file `file`. A group marker changes nothing.
     ///
     /// ```
     /// # use raft_recover::{Content, FileId, Item, Queue, Slot, slot_of};

@@ -8,7 +8,7 @@
 //! - A handle is in one call at a time (its calls take `&mut self`, or a `Cell` that makes it no `Sync`), isn't copied (no
 //!   `Clone`), and is freed once (by `Drop`, unless a call takes it).
 //! - Slices are lent for the call alone. They overlap nowhere: what is written is behind a `&mut` or of the call's own.
-//! - Numbers and stages that a contract bounds are tested where they come in: the part of a file by [`FilePart::check`]; the
+//! - Numbers and stages that a contract bounds are tested where they come in: the part of a file by [`FilePart::check_end`]; the
 //!   files of an atomic group by [`Tables::set_atomic_group`](crate::Tables::set_atomic_group); the stage of a batch, the last
 //!   index of its entries and its offset by [`LogBatchHandle`].
 //! - Readers that an engine is opened with have read just the batches of its files, up to where each queue's last one can't be
@@ -47,8 +47,8 @@ pub(crate) use packed::Packed;
 pub(crate) use reader::{ReadFiles, ReaderHandle, Size, open_engine};
 pub(crate) use tables::TablesHandle;
 
-use lists::{list, list_found, list_in, make_room, packed_pairs, pairs};
-use numbers::{EntryNumbers, File, Maybe, SummaryNumbers, entries, numbers};
+use lists::{list, list_found, list_in, list_packed_pairs, list_pairs, make_room};
+use numbers::{EntryNumbers, File, Maybe, SummaryNumbers, entries_of, numbers_of};
 
 /// The pointer of a box in the library, null where there is none.
 #[repr(C)]
@@ -65,12 +65,13 @@ struct Status {
 }
 
 unsafe extern "C" {
-    /// Returns how long the log batch is whose header stands at the front of the bytes; 0 where
-    /// none does. So files can be cut between batches.
+    /// Returns how many bytes the log batch at the start of `bytes` has by its header, or 0 if no
+    /// header stands there. So files can be cut between batches. Whether the batch can be read
+    /// isn't tested.
     fn raft_ffi_batch_len(bytes: *const u8, bytes_len: usize) -> usize;
-    /// Says how many of the bytes that stand in the file from `offset` on are readable batches, one
-    /// behind the other, from the first byte on. The status says why the batch behind them can't be
-    /// read; it is 0 where they end there.
+    /// Sets `len` to how many of `bytes`, from the first one on, are readable batches, one behind
+    /// the other; `bytes` stand in `file` from `offset` on. The code says why the batch behind them
+    /// can't be read, with its text in `text`; it is 0 if they are all of `bytes`.
     fn raft_ffi_readable_front(
         file: File,
         offset: u64,
@@ -80,23 +81,23 @@ unsafe extern "C" {
         text: *mut u8,
         text_len: usize,
     ) -> Status;
-    /// Returns the CRC-32 of the bytes.
+    /// Returns the CRC-32 of `bytes`.
     fn raft_ffi_crc32(bytes: *const u8, bytes_len: usize) -> u32;
-    /// Returns the number of the slot that holds a region's table, below 128.
+    /// Returns the number of the slot that holds a region's table, which is below 128.
     fn raft_ffi_slot_of(region: u64) -> usize;
 }
 
 /// How many bytes of a refusal's text are kept.
 const TEXT_LEN: usize = 256;
 
-/// Makes a call that may be refused, with room for its text. Returns the refusal, if there is one.
-fn refusal(call: impl FnOnce(*mut u8, usize) -> Status) -> Option<Error> {
+/// Makes a call that may be refused, with room for its text. Returns the refusal; `None` where it isn't refused.
+fn refusal_of_call(call: impl FnOnce(*mut u8, usize) -> Status) -> Option<Error> {
     let mut text = [0u8; TEXT_LEN];
     let status = call(text.as_mut_ptr(), text.len());
     (status.code != 0).then(|| refusal_of(status.code, status.text_len, &text))
 }
 
-/// Makes the refusal of a number that isn't 0, of whose text so many bytes were written, where there was room.
+/// Makes the refusal of a number that isn't 0, whose text has `text_len` bytes and stands in `text`, as far as there was room.
 fn refusal_of(code: u32, text_len: usize, text: &[u8; TEXT_LEN]) -> Error {
     let text = &text[..text_len.min(TEXT_LEN)];
     Error::of(code, String::from_utf8_lossy(text).into_owned())
@@ -108,10 +109,14 @@ fn refusal_of(code: u32, text_len: usize, text: &[u8; TEXT_LEN]) -> Error {
 ///
 /// The refusal.
 fn check_call(call: impl FnOnce(*mut u8, usize) -> Status) -> Result<()> {
-    refusal(call).map_or(Ok(()), Err)
+    refusal_of_call(call).map_or(Ok(()), Err)
 }
 
-/// Says how a call ended that is refused for want of memory alone.
+/// Returns how a call ended that is refused for want of memory alone, by its number.
+///
+/// # Errors
+///
+/// `Memory` where that isn't 0.
 fn memory_result(code: u32) -> Result<()> {
     match code {
         0 => Ok(()),
@@ -125,8 +130,8 @@ impl Handle {
     };
 }
 
-/// Gives a handle to a call, and keeps what the call leaves there.
-fn with<A>(cell: &Cell<Handle>, call: impl FnOnce(*mut Handle) -> A) -> A {
+/// Gives a handle to a call, keeps what the call leaves there, and returns what it returns.
+fn with_handle<A>(cell: &Cell<Handle>, call: impl FnOnce(*mut Handle) -> A) -> A {
     let mut handle = cell.get();
     let answer = call(&mut handle);
     cell.set(handle);
@@ -136,10 +141,10 @@ fn with<A>(cell: &Cell<Handle>, call: impl FnOnce(*mut Handle) -> A) -> A {
 /// Returns how many bytes of a part, from the first on, are readable batches, and why there is none
 /// behind them; `None` where the part ends there.
 pub(crate) fn readable_front(part: FilePart<'_>) -> (usize, Option<Error>) {
-    part.check().expect("a part ends where an offset can");
+    part.check_end().expect("a part ends where an offset can");
     let mut len = 0;
     // SAFETY: `ends`: the bytes end where an offset can.
-    let refused = refusal(|text, text_len| unsafe {
+    let refused = refusal_of_call(|text, text_len| unsafe {
         raft_ffi_readable_front(
             part.file.into(),
             part.offset,

@@ -73,7 +73,7 @@ impl Tables {
         Tables { handle }
     }
 
-    /// Makes no tables.
+    /// Makes tables of no region.
     ///
     /// ```
     /// assert_eq!(raft_recover::Tables::new()?.to_string(), "cleaned -\nlive 0 0\n");

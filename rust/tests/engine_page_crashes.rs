@@ -1,6 +1,6 @@
 //! Histories of an engine, and stops of a machine whose disk writes unsynced pages in any order: of the last file of each queue any of
 //! the pages that weren't synced may be zeros, and it ends anywhere behind what was synced. What is left is opened, or refused by its
-//! place, and compared with maps.
+//! place, and compared with maps. Each entry can be read then, or its batch is named, and just the damaged ones are.
 //!
 //! `HISTORIES=10000 SEED=1 cargo test --release --test engine_page_crashes` runs more of them than by default, from a seed on. A seed
 //! gives the same history each time.
@@ -250,6 +250,17 @@ impl Left {
         numbers.last()
     }
 
+    /// Tests that an opening names just those batches of the last append file whose entries aren't as they were written.
+    fn assert_damaged(&self, engine: &Engine<MemoryFiles>) {
+        let last = self.lasts.iter().find(|it| it.id.queue == Queue::Append);
+        let expected = last.map_or(Vec::new(), |last| {
+            let left = &self.files[0].last().unwrap().1;
+            let damaged = damaged_blocks(&last.bytes, left).into_iter();
+            damaged.map(|at| (last.id, at)).collect()
+        });
+        assert_eq!(named(engine), expected);
+    }
+
     /// Tests that a refusal names the first place of a last file that isn't as it was written.
     fn assert_named(&self, e: &Error) {
         assert_eq!(e.kind, ErrorKind::Corruption, "{e}");
@@ -282,10 +293,24 @@ fn lose_pages(bytes: &mut Vec<u8>, synced: usize, page: usize, draw: &mut Draw) 
 }
 
 /// Where the first batch begins of which the header or the items aren't as they were written, or of whose bytes a part is gone; and
-/// the first one whose entries aren't: they stand between the 16 bytes of a header, the first seven of which are the length of the
-/// batch, and the items, the offset of which the last eight are.
+/// the first one whose entries aren't.
 fn broken_places(written: &[u8], left: &[u8]) -> [Option<usize>; 2] {
-    let (mut batch, mut block, mut at) = (None, None, 0);
+    let (batch, blocks) = broken(written, left);
+    [batch, blocks.first().copied()]
+}
+
+/// Where the batches begin whose entries aren't as they were written, in front of the first one of which more isn't.
+fn damaged_blocks(written: &[u8], left: &[u8]) -> Vec<usize> {
+    let (batch, mut blocks) = broken(written, left);
+    blocks.retain(|at| batch.is_none_or(|batch| *at < batch));
+    blocks
+}
+
+/// Where the first batch begins of which the header or the items aren't as they were written, or of whose bytes a part is gone; and
+/// all whose entries aren't, up to the first one that isn't whole: they stand between the 16 bytes of a header, the first seven of
+/// which are the length of the batch, and the items, the offset of which the last eight are.
+fn broken(written: &[u8], left: &[u8]) -> (Option<usize>, Vec<usize>) {
+    let (mut batch, mut blocks, mut at) = (None, Vec::new(), 0);
     let is_same = |from: usize, to: usize| left.get(from..to) == Some(&written[from..to]);
     while at + 16 <= written.len() {
         let number = |from: usize| u64::from_be_bytes(written[from..from + 8].try_into().unwrap());
@@ -301,17 +326,28 @@ fn broken_places(written: &[u8], left: &[u8]) -> [Option<usize>; 2] {
             batch = batch.or(Some(at));
         }
         if !is_same(at + 16, items) {
-            block = block.or(Some(at));
+            blocks.push(at);
         }
         at = end;
     }
-    [batch.or((at < written.len()).then_some(at)), block]
+    (batch.or((at < written.len()).then_some(at)), blocks)
 }
 
-/// Tests that an engine has the records of a state. Entries that can't be read were in batches behind a number; they are named.
-/// Returns which ones those are.
+/// The batches that an opening has named: the file of each, and where it begins. Each is refused by that place.
+fn named(engine: &Engine<MemoryFiles>) -> Vec<(FileId, usize)> {
+    let damaged = engine.recovered().damaged.iter();
+    let places = damaged.map(|batch| {
+        let e = &batch.reason;
+        assert_eq!((e.file, e.offset), (Some(batch.file), Some(batch.offset)));
+        (batch.file, batch.offset as usize)
+    });
+    places.collect()
+}
+
+/// Tests that an engine has the records of a state. Entries that can't be read were in batches behind a number; their batches are
+/// named. Returns which ones those are.
 fn check(engine: &Engine<MemoryFiles>, state: &State, synced: usize) -> Vec<(u64, u64)> {
-    let mut unread = Vec::new();
+    let (mut unread, named) = (Vec::new(), named(engine));
     for (i, region) in state.regions.iter().enumerate() {
         let id = 1 + i as u64;
         let ends = [region.entries.keys().next(), region.entries.keys().last()];
@@ -322,7 +358,8 @@ fn check(engine: &Engine<MemoryFiles>, state: &State, synced: usize) -> Vec<(u64
                 Ok(found) => assert_eq!(found.as_ref(), Some(entry)),
                 Err(e) => {
                     assert_eq!((e.region, e.index), (Some(id), Some(*index)), "{e}");
-                    assert!(e.file.is_some() && e.offset.is_some(), "{e}");
+                    let block = e.offset.unwrap() as usize; // behind the header of its batch
+                    assert!(named.contains(&(e.file.unwrap(), block - 16)), "{e}");
                     assert!(state.batches[i][index] > synced, "{e}");
                     unread.push((id, *index));
                 }
@@ -377,6 +414,7 @@ fn stop_everywhere(history: &History, counts: &Counts) {
             if let Some(last) = left.last_whole(options(history.seed).version) {
                 assert_eq!(count, last);
             }
+            left.assert_damaged(&engine);
             let state = &history.states[count as usize];
             let unread = check(&engine, state, synced);
             counts.opened.fetch_add(1, Relaxed);
@@ -433,8 +471,8 @@ fn nothing_that_was_synced_is_lost_on_a_disk_that_writes_pages_in_any_order() {
     let [opened, refused, unread] =
         [counts.opened, counts.refused, counts.unread].map(AtomicU64::into_inner);
     println!(
-        "{histories} histories from seed {first} on, {} stops: {opened} opened, {refused} refused by place, 0 different; in {unread} an \
-         entry that wasn't synced can't be read",
+        "{histories} histories from seed {first} on, {} crashes: {opened} opened, {refused} refused by place, 0 different; in {unread} an \
+         entry that wasn't synced can't be read, and its batch is named",
         opened + refused
     );
     assert!(1 < refused && refused < opened);

@@ -113,15 +113,17 @@ fn the_times_of_an_engine_are_told() {
     let said = said("speed", &[&folder, Path::new("1"), Path::new("1")]);
     let written = said
         .iter()
-        .filter(|line| line.ends_with(" a second") || line.ends_with(" a sync"));
+        .filter(|line| line.contains(" batches a second"));
+    let appended = said.iter().filter(|line| line.ends_with(" times a second"));
     let read = said.iter().filter(|line| line.contains("ms, opened in "));
     let got = said
         .iter()
         .filter(|line| line.starts_with("an entry of ") && line.ends_with(" ns"));
-    assert_eq!((written.count(), read.count(), got.count()), (4, 3, 1));
+    assert_eq!((written.count(), appended.count()), (4, 1));
+    assert_eq!((read.count(), got.count()), (3, 1));
     let purged = said.last().unwrap();
     assert!(purged.ends_with(" ms") && purged.contains(" writes beside a purge: "));
-    assert_eq!(said.len(), 9);
+    assert_eq!(said.len(), 10);
 }
 
 #[test]

@@ -3,7 +3,9 @@
 mod common;
 
 use common::TempFolder;
-use raft_recover::{ErrorKind, FileId, Files, FolderFiles, Queue, Result};
+use raft_recover::{
+    Engine, ErrorKind, FileId, Files, FolderFiles, LogBatch, Options, Queue, Result,
+};
 use std::fs::{self, TryLockError};
 use std::io;
 use std::os::unix::fs::symlink;
@@ -287,4 +289,58 @@ fn after_a_change_that_failed_none_is_made_and_files_can_be_read() {
         let files = FolderFiles::open(room.path()).unwrap();
         assert_eq!(files.list(Queue::Append).unwrap(), [(1, 3)], "{what}");
     }
+}
+
+/// Counts the files of a folder that are open and have no name any more.
+#[cfg(target_os = "linux")]
+fn count_open_without_name(folder: &TempFolder) -> usize {
+    let folder = fs::canonicalize(folder.path()).unwrap();
+    let open = fs::read_dir("/proc/self/fd").unwrap();
+    let paths = open.filter_map(|file| fs::read_link(file.unwrap().path()).ok());
+    let is_deleted = |path: &PathBuf| {
+        path.starts_with(&folder) && path.to_string_lossy().ends_with(" (deleted)")
+    };
+    paths.filter(is_deleted).count()
+}
+
+#[test]
+#[cfg(target_os = "linux")]
+fn a_deleted_file_is_closed_once_its_room_is_asked_back_or_the_next_file_begins() {
+    let room = TempFolder::new();
+    let files = FolderFiles::open(room.path()).unwrap();
+    for seq in 1..=3 {
+        files.rotate(FileId::new(Queue::Append, seq)).unwrap();
+    }
+    files.delete(FIRST).unwrap();
+    assert_eq!(
+        names(&room),
+        [
+            "0000000000000002.raftlog",
+            "0000000000000003.raftlog",
+            "LOCK"
+        ]
+    );
+    assert_eq!(count_open_without_name(&room), 1);
+    files.free_deleted();
+    assert_eq!(count_open_without_name(&room), 0);
+    files.delete(SECOND).unwrap();
+    assert_eq!(count_open_without_name(&room), 1);
+    files.rotate(FileId::new(Queue::Append, 4)).unwrap();
+    assert_eq!(count_open_without_name(&room), 0);
+}
+
+#[test]
+#[cfg(target_os = "linux")]
+fn a_purge_gives_the_room_of_the_files_that_it_deletes_back() {
+    let room = TempFolder::new();
+    let engine = Engine::open(room.path(), Options::new()).unwrap();
+    let mut batch = LogBatch::new().unwrap();
+    for index in 1..=3 {
+        batch.compact(7, index).unwrap();
+        batch.add_entries(7, index, &["an entry"]).unwrap();
+        engine.write(&mut batch, false).unwrap();
+        engine.rotate().unwrap();
+    }
+    assert_eq!(engine.purge().unwrap().append_files, 2);
+    assert_eq!(count_open_without_name(&room), 0);
 }

@@ -24,7 +24,7 @@ const ENTRY: usize = 10_000;
 /// and a deleted file that is open anywhere still takes its room.
 static ONE_DISK: Mutex<()> = Mutex::new(());
 
-/// A file system of 256 KiB, the only one at its time, which is taken away at the end.
+/// A file system of 256 KiB in pages of 4 KiB, the only one at its time, which is taken away at the end.
 struct SmallDisk(TempFolder, #[expect(dead_code)] MutexGuard<'static, ()>);
 
 impl SmallDisk {
@@ -207,7 +207,7 @@ fn a_full_disk_is_freed_by_a_purge_and_goes_on() {
 }
 
 #[test]
-fn an_engine_that_found_no_room_goes_on_once_there_is_some() {
+fn an_engine_that_found_no_room_in_the_midst_of_a_write_goes_on_once_there_is_some() {
     let Some(disk) = SmallDisk::mounted() else {
         return;
     };
@@ -216,6 +216,9 @@ fn an_engine_that_found_no_room_goes_on_once_there_is_some() {
     let (written, e) = write_until_full(&engine);
     assert_full(&e);
     let before = files_in(&disk.path());
+    // there was room for some pages of the batch, which were written and taken back, and not for all
+    let room = (192 << 10) - before["0000000000000001.raftlog"].len();
+    assert!((4096..ENTRY).contains(&room), "{room}");
     let mut batch = LogBatch::new().unwrap();
     batch.put(8, b"key", b"value").unwrap();
     for _ in 0..3 {

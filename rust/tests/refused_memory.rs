@@ -320,6 +320,27 @@ fn a_torn_tail_that_is_found_without_memory_is_cut_where_it_begins() {
 }
 
 #[test]
+fn damaged_batches_that_are_found_without_memory_are_all_named_or_nothing_is_opened() {
+    let _turn = TURN.lock();
+    let mut one = batch_bytes(file(1), |more| more.merge(&mut batch()).unwrap());
+    one[16] ^= 1; // the first byte of its entries
+    let damaged = one.repeat(3);
+    let places = [0, one.len(), 2 * one.len()].map(|at| at as u64);
+    let open = || {
+        let files = MemoryFiles::found(vec![(1, damaged.clone())], vec![(1, vec![])]);
+        Engine::with_files(files, Options::new())
+    };
+    let shown = |engine: Engine<MemoryFiles>| {
+        let named = &engine.recovered().damaged;
+        assert!(named.iter().map(|batch| batch.offset).eq(places));
+        named.iter().map(|batch| format!("{batch}\n")).collect()
+    };
+    let whole: String = shown(open().unwrap());
+    assert_eq!(whole.lines().count(), 3);
+    assert!(refused_in_turn(&whole, open, shown) > 10);
+}
+
+#[test]
 fn an_engine_without_memory_loses_nothing() {
     let _turn = TURN.lock();
     for granted in 0.. {

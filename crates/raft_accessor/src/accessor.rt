@@ -22,8 +22,8 @@ use std::alloc::{AllocError, Global};
 use std::marker::Model;
 pub use writes::accepted_items_lack_room_alone;
 
-/// Returns the number of the slot that holds a region's table: the low 7 bits of the hash of the
-/// region's id.
+/// Returns the number of the slot, from 0 to 127, that holds the table of the region `id`: the low 7 bits of
+/// the hash of its id.
 #[tactic(auto, unfolding(crate::specs::Accessor::slot_of))]
 pub fn slot_of(id: u64) -> usize
     ensures value { result ≡ slot_of id }
@@ -32,14 +32,19 @@ pub fn slot_of(id: u64) -> usize
     (hash_u64(id) % 128) as usize
 }
 
-/// Turns a refusal that owns no memory into `Memory`.
+/// Returns `table`, with an `AllocError` made into `Memory`.
+///
+/// # Errors
+///
+/// `Memory` if `table` is an error.
 fn lent<'a>(table: AllocResult<&'a MemTable>) -> Result<&'a MemTable>
     ensures { result ≡ lent_as table.entry }
 {
     table.map_err(|_| Error::Memory)
 }
 
-/// The tables of all regions, how many of their records are live, and the regions that were cleaned.
+/// The tables of all regions, how many of their records are live, and a list of the regions that were
+/// cleaned.
 #[derive(Drop)]
 pub struct MemTableAccessor {
     slots: Vec<RegionTables>,
@@ -69,11 +74,11 @@ impl MemTableAccessor {
     ghost use denote.Follow.{follows_so};
     ghost use Rattle.raft_accessor.specs.contracts.accessor.MemTableAccessor.{the_row};
 
-    /// Makes one without tables.
+    /// Returns an accessor without tables.
     ///
     /// # Errors
     ///
-    /// `Memory`.
+    /// `Memory` alone.
     pub fn new(alloc: Global) -> Result<MemTableAccessor>
         ensures tables { IfOk result (λ accessor. accessor.tables ≡ finite.empty) }
         ensures cleaned { IfOk result (λ accessor. accessor.cleaned ≡ []) }
@@ -102,7 +107,7 @@ impl MemTableAccessor {
         let _ = &self.stats;
     }
 
-    /// Returns the table of a region, `None` where it has none.
+    /// Returns the table of the region `id`, or `None` if it has none.
     pub fn get(&self, id: u64) -> Option<&MemTable>
         ensures value { option_map (λ t. t.now) result ≡ finite.get self.now.tables id }
         ensures own { IfSome result (λ t. t.now.region_id ≡ id) }
@@ -110,11 +115,11 @@ impl MemTableAccessor {
         self.slots[slot_of(id)].get(id)
     }
 
-    /// Returns the table of a region, an empty one that is made where there is none.
+    /// Returns the table of the region `id`, and makes an empty one if it has none.
     ///
     /// # Errors
     ///
-    /// `Memory`. All tables are then as they were.
+    /// `Memory` alone. The tables are unchanged then.
     pub fn get_or_insert(&mut self, id: u64) -> Result<&MemTable>
         ensures* ends { sem 𝓛 (follows_so the_row the_row self.entry.ghost_name none (λ _ _. ⊤)
             (λ new. IsTableMade id result self.old new)) }
@@ -124,7 +129,13 @@ impl MemTableAccessor {
         lent(self.lend(id))
     }
 
-    /// Does what `get_or_insert` does, with an error that owns no memory: only so does the check prove `ends`.
+    /// Does what [`MemTableAccessor::get_or_insert`] does for the region `id`, so it makes a table if there is none, but fails
+    /// with `AllocError`, a type that owns no memory: only for such an error can the clause `ends` be proved, which says what the
+    /// accessor is once the borrow of the table ends.
+    ///
+    /// # Errors
+    ///
+    /// `AllocError`. The tables are unchanged then.
     fn lend(&mut self, id: u64) -> AllocResult<&MemTable>
         ensures* ends { sem 𝓛 (follows_so the_row the_row self.entry.ghost_name none (λ _ _. ⊤)
             (λ new. IsTableMade id result self.old new)) }
@@ -134,14 +145,19 @@ impl MemTableAccessor {
         Ok(self.made(id))
     }
 
-    /// Does what `make` does, with an error that owns no memory.
+    /// Does what [`MemTableAccessor::make`] does for the region `id`, with an error that owns no memory, as
+    /// [`MemTableAccessor::lend`] needs it.
+    ///
+    /// # Errors
+    ///
+    /// `AllocError`. The tables are unchanged then.
     fn make_table(&mut self, id: u64) -> AllocResult<()>
         ensures { IsTableMade id result self.old self.new }
     {
         self.make(id).map_err(|_| AllocError)
     }
 
-    /// Returns the table of a region that has one.
+    /// Returns the table of the region `id`, which has one.
     fn made(&self, id: u64) -> &MemTable
         requires { IsTrue (is_some (finite.get self.now.tables id)) }
         ensures { result.now ≡ table_in self.now.tables id }
@@ -152,11 +168,11 @@ impl MemTableAccessor {
         }
     }
 
-    /// Makes an empty table for a region that has none.
+    /// Makes an empty table for the region `id`, unless it has one.
     ///
     /// # Errors
     ///
-    /// `Memory`. All tables are then as they were.
+    /// `Memory` alone. The tables are unchanged then.
     fn make(&mut self, id: u64) -> Result<()>
         ensures changed { IsTableChanged (Some (table_in self.old.tables id)) (λ e. ⊥) id result
             self.old self.new }
@@ -165,12 +181,12 @@ impl MemTableAccessor {
         self.slots[slot_of(id)].make(id, &mut self.stats)
     }
 
-    /// Does what a change says to a region's table, which is made where there is none. The number is
-    /// how many entries a compaction or a truncation drops, else 0.
+    /// Makes one change of the table of the region `id`, which is made if there is none. Returns how many
+    /// entries a compaction or a truncation dropped, and 0 for any other change.
     ///
     /// # Errors
     ///
-    /// Those of [`MemTable::change`], and `Memory`. All tables are then as they were.
+    /// Those of [`MemTable::change`]; `Memory`. Tables and counts are unchanged then.
     pub fn change(&mut self, id: u64, change: TableChange) -> Result<u64>
         ensures changed { IsTableChanged (after_change (table_in self.old.tables id) change)
             (IsChangeFault (table_in self.old.tables id) self.old.counts change) id result self.old
@@ -184,13 +200,14 @@ impl MemTableAccessor {
         self.slots[slot_of(id)].change(id, change, &mut self.stats)
     }
 
-    /// Sets the first and the last file of a region's atomic group; its table is made where there is
-    /// none. It is called once the group's End is written, for each region that the group names (see
-    /// [`MemTable::apply_rewrite_atomic_group`]).
+    /// Sets the first and the last file of the atomic group of the region `id` to `start` and `end`, of
+    /// which `start` is the lesser or the same. Its table is made if there is none. Call it once the End of
+    /// the group is written, for each region that the group names ([`MemTable::apply_rewrite_atomic_group`]
+    /// says why).
     ///
     /// # Errors
     ///
-    /// `Memory`. All tables are then as they were.
+    /// `Memory` alone. The tables are unchanged then.
     pub fn apply_rewrite_atomic_group(
         &mut self,
         id: u64,
@@ -206,13 +223,13 @@ impl MemTableAccessor {
         self.slots[slot_of(id)].apply_rewrite_atomic_group(id, start, end, &mut self.stats)
     }
 
-    /// Puts a table under its region's id and counts its records. The table that stood there is
-    /// taken off the counts and handed back.
+    /// Puts `table` under its region's id, in place of the one that is there, which is returned, and counts
+    /// the change.
     ///
     /// # Errors
     ///
-    /// `Full` where more than 2^64 - 1 records would be live in a queue beside the table that is
-    /// replaced, and `Memory`. Tables and counts are then as they were.
+    /// `Full` if more than 2^64 - 1 records would be live in a queue beside those of the table that is
+    /// replaced; `Memory`. Tables and counts are unchanged then, and `table` is dropped.
     pub fn insert(&mut self, id: u64, table: MemTable) -> Result<Option<MemTable>>
         requires { table.region_id ≡ id }
         ensures ok { OnOk result (self.new.tables ≡ finite.insert self.old.tables id table) }
@@ -230,12 +247,13 @@ impl MemTableAccessor {
         self.slots[slot_of(id)].insert(id, table, &mut self.stats)
     }
 
-    /// Takes a region's table away, and lists the region where that is asked for, also where it has
+    /// Removes the table of the region `id` and returns it, or `None` if it has none, and subtracts its
+    /// records from the live counts. With `record_tombstone` the region is listed as cleaned, even if it has
     /// no table.
     ///
     /// # Errors
     ///
-    /// `Memory`, where the region is to be listed. The accessor is then as it was.
+    /// `Memory` alone, and only if the region is to be listed. The accessor is unchanged then.
     pub fn remove(&mut self, id: u64, record_tombstone: bool) -> Result<Option<MemTable>>
         ensures tables { OnOk result (self.new.tables ≡ finite.remove self.old.tables id) }
         ensures removed { IfOk result (λ t. t ≡ finite.get self.old.tables id) }
@@ -252,13 +270,13 @@ impl MemTableAccessor {
         Ok(unboxed(self.take(id)))
     }
 
-    /// Merges the tables of a newer neighbor, each into the table of its region, which is made where
-    /// there is none. The list of `rhs` is dropped.
+    /// Merges the tables of a newer neighbor, each into the table of its region, which is made if there is
+    /// none ([`MemTable::merge_newer_neighbor`]). The list of cleaned regions of `rhs` is dropped.
     ///
     /// # Errors
     ///
-    /// Those of [`MemTable::merge_newer_neighbor`] at one table. Other tables are then merged or as they
-    /// were, and so is that one but for want of memory; the rest of `rhs` is lost.
+    /// Those of [`MemTable::merge_newer_neighbor`], for the first table that is refused. Each other table is
+    /// then merged or unchanged, and so is that one unless memory was refused; the rest of `rhs` is lost.
     pub fn merge_newer_neighbor(&mut self, rhs: MemTableAccessor) -> Result<()>
         ensures ok { OnOk result (AreTablesMerged with_newer self.old.tables rhs.tables
             self.new.tables) }
@@ -273,13 +291,13 @@ impl MemTableAccessor {
         self.merge_neighbors(Neighbor::Newer, rhs)
     }
 
-    /// Merges appended tables, each into the rewritten table of its region, which is made where there
-    /// is none. The list of `rhs` is dropped.
+    /// Merges the appended tables of `rhs`, each into the rewritten table of its region, which is made if
+    /// there is none ([`MemTable::merge_append_table`]). The list of cleaned regions of `rhs` is dropped.
     ///
     /// # Errors
     ///
-    /// Those of [`MemTable::merge_append_table`] at one table. Other tables are then merged or as they
-    /// were, and so is that one but for want of memory; the rest of `rhs` is lost.
+    /// Those of [`MemTable::merge_append_table`], for the first table that is refused. Each other table is
+    /// then merged or unchanged, and so is that one unless memory was refused; the rest of `rhs` is lost.
     pub fn merge_append_table(&mut self, rhs: MemTableAccessor) -> Result<()>
         ensures ok { OnOk result (AreTablesMerged with_appended self.old.tables rhs.tables
             self.new.tables) }
@@ -294,7 +312,7 @@ impl MemTableAccessor {
         self.merge_neighbors(Neighbor::Appended, rhs)
     }
 
-    /// Tests whether there are no tables.
+    /// Tests whether no region has a table.
     pub fn is_empty(&self) -> bool
         ensures { IsTrue result ↔ (self.now.tables ≡ finite.empty) }
     {
@@ -306,8 +324,8 @@ impl MemTableAccessor {
         true
     }
 
-    /// Returns what `f` makes of `init` and each table, in no set order: it is called at each table
-    /// once.
+    /// Returns what `f` makes of `init` and all tables: it is called with what it returned before, and each
+    /// table once, in no set order.
     pub fn fold<B: Drop, F: FnMut(B, &MemTable) -> B>(&self, init: B, mut f: F) -> B
     where
         F: Drop,
@@ -326,7 +344,7 @@ impl MemTableAccessor {
     ///
     /// # Errors
     ///
-    /// `Memory`.
+    /// `Memory` alone.
     pub fn tables(&self) -> Result<Vec<&MemTable>>
         ensures tables { IfOk result (λ tables. IsPermutation (map (λ t. t.now) tables.items)
             (finite.values self.now.tables)) }
@@ -338,12 +356,11 @@ impl MemTableAccessor {
         self.collect(all)
     }
 
-    /// Returns the tables for which `f` returns true; it is called at each table once, in no set
-    /// order.
+    /// Returns the tables for which `f` returns true. It is called with each table once, in no set order.
     ///
     /// # Errors
     ///
-    /// `Memory`.
+    /// `Memory` alone.
     pub fn collect<F: FnMut(&MemTable) -> bool>(&self, mut f: F) -> Result<Vec<&MemTable>>
         requires { F.IsAlwaysCallable f }
         ensures ok { IfOk result (λ kept. (ts : List Table) × (last : F)
@@ -358,8 +375,7 @@ impl MemTableAccessor {
         Ok(kept)
     }
 
-    /// Returns how many entries all tables have together, and how many keys with a value, which are
-    /// the other records.
+    /// Returns how many entries all tables have together, and how many keys with a value.
     pub fn totals(&self) -> (u128, u128)
         ensures entries { result.0 ≡ total (λ (t : Table). length t.entries) self.now.tables }
         ensures keys { result.1 ≡ total (λ (t : Table). finite.len t.keys) self.now.tables }
@@ -373,7 +389,8 @@ impl MemTableAccessor {
         (entries, records - entries)
     }
 
-    /// Takes a region's table away in its box, and its records off the counts.
+    /// Removes the table of the region `id` and returns it in its box, or `None` if it has none, and
+    /// subtracts its records from the live counts.
     #[doc(hidden)]
     pub fn take(&mut self, id: u64) -> Option<BoxedTable>
         ensures taken { IsTableTaken id result self.old self.new }
@@ -381,12 +398,13 @@ impl MemTableAccessor {
         self.slots[slot_of(id)].take(id, &mut self.stats)
     }
 
-    /// Merges the tables of another accessor, each into the table of its region.
+    /// Merges the tables of `rhs`, each into the table of its region: newer ones, or appended ones, as `kind`
+    /// says.
     ///
     /// # Errors
     ///
-    /// Those of [`MemTable::merge_newer_neighbor`] or [`MemTable::merge_append_table`] at one
-    /// table. Other tables are then merged or as they were, and the rest of `rhs` is lost.
+    /// Those of [`MemTable::merge_newer_neighbor`] or [`MemTable::merge_append_table`], for the first table
+    /// that is refused. Each other table is then merged or unchanged; the rest of `rhs` is lost.
     fn merge_neighbors(&mut self, kind: Neighbor, rhs: MemTableAccessor) -> Result<()>
         ensures { AreMerged kind self.old rhs.tables result self.new }
     {
@@ -396,11 +414,12 @@ impl MemTableAccessor {
         Ok(())
     }
 
-    /// Merges the tables of a slot, each into the table of its region.
+    /// Merges the tables of one slot, each into the table of its region.
     ///
     /// # Errors
     ///
-    /// Those of `merge_neighbors`. Some tables are then merged, and the rest of `newer` is lost.
+    /// Those of [`merge_neighbors`](MemTableAccessor::merge_neighbors). Some tables are merged then, and the
+    /// rest of `newer` is lost.
     fn merge_slot(&mut self, kind: Neighbor, newer: RegionTables) -> Result<()>
         ensures { AreMerged kind self.old newer result self.new }
     {
@@ -410,11 +429,12 @@ impl MemTableAccessor {
         Ok(())
     }
 
-    /// Merges a table into the table of its region, which is made where there is none.
+    /// Merges `newer` into the table of the region `id`, which is made if there is none.
     ///
     /// # Errors
     ///
-    /// Those of `merge_neighbors`. The region's table is then as it was, but for want of memory.
+    /// Those of [`merge_neighbors`](MemTableAccessor::merge_neighbors). The table of the region is unchanged
+    /// then, unless memory was refused.
     fn merge_table(&mut self, kind: Neighbor, id: u64, newer: BoxedTable) -> Result<()>
         requires { newer.region_id ≡ id }
         ensures { IsMergedIn kind id newer self.old result self.new }
@@ -423,11 +443,11 @@ impl MemTableAccessor {
     }
 }
 
-/// Makes 128 slots without tables.
+/// Returns 128 slots without tables.
 ///
 /// # Errors
 ///
-/// `Memory`.
+/// `Memory` alone.
 fn empty_slots(alloc: Global) -> Result<Vec<RegionTables>>
     ensures ok { IfOk result (λ slots. slots.items ≡ replicate 128 finite.empty) }
     ensures memory { IfErr result (λ e. e ≡ Error.Memory) }

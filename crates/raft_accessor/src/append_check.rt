@@ -9,7 +9,7 @@ use raft_records::{Command, KeyValue, LogItem, LogItemContent, OpType, is_reserv
 use raft_table::{MemTable, hole_error};
 use std::alloc::Global;
 
-/// The first index of a region's entries, and the last one plus one. Both are 0 where there are none.
+/// The index of the first entry of a region, and the index after its last one. Both are 0 without entries.
 #[derive(Clone, Copy, Debug)]
 pub(crate) struct Extent {
     first: u64,
@@ -17,14 +17,14 @@ pub(crate) struct Extent {
 }
 
 impl Extent {
-    /// Returns the extent of no entries.
+    /// Returns the extent of no entries: both ends are 0.
     fn of_none() -> Extent
         ensures { IsExtentOf result [] }
     {
         Extent { first: 0, end: 0 }
     }
 
-    /// Returns the extent of a table's entries; without a table there are none.
+    /// Returns the extent of the entries of `table`, or that of no entries without a table.
     fn of_table(table: Option<&MemTable>) -> Extent
         ensures { (id : ℕ) → IsExtentOf result
             (table_of id (option_map (λ t. t.now) table.entry)).entries }
@@ -42,7 +42,7 @@ impl Extent {
         }
     }
 
-    /// Returns the extent that a compaction to an index leaves of this one.
+    /// Returns the extent of the entries that a compaction to `index` leaves: those at or above it.
     fn compacted(self, index: u64) -> Extent
         ensures { (es : List EntryIndex) → IsExtentOf self es → IsExtentOf result (from index es) }
     {
@@ -55,7 +55,7 @@ impl Extent {
         }
     }
 
-    /// Returns the extent that a truncation from an index on leaves of this one.
+    /// Returns the extent of the entries that a truncation at `index` leaves: those below it.
     fn truncated(self, index: u64) -> Extent
         ensures { (es : List EntryIndex) → IsExtentOf self es → IsExtentOf result (below index es) }
     {
@@ -68,7 +68,7 @@ impl Extent {
         }
     }
 
-    /// Returns the extent that a command leaves of this one.
+    /// Returns the extent of the entries that `command` leaves.
     fn commanded(self, command: &Command) -> Extent
         ensures { (es : List EntryIndex) → IsExtentOf self es
             → IsExtentOf result (commanded command.now es) }
@@ -80,12 +80,13 @@ impl Extent {
         }
     }
 
-    /// Returns the extent with a run behind, as [`MemTable::append`] would put it.
+    /// Returns the extent of the entries of the region `id` once `run` has been appended, as
+    /// [`MemTable::append`] would do it. A run without entries changes nothing.
     ///
     /// # Errors
     ///
-    /// `Corruption` where its indexes aren't consecutive, or where it begins in front of the first
-    /// entry or leaves a hole behind the last one; `Memory` for its text.
+    /// `Corruption` if its indexes aren't consecutive, or it begins below the first entry or leaves a hole
+    /// behind the last one; `Memory` if there is none for the text.
     fn with_run(self, alloc: Global, id: u64, run: &[EntryIndex]) -> Result<Extent>
         ensures ok { IfOk result (TakesRun self run.now) }
         ensures fault { IfErr result (IsRunCheckFault self run.now) }
@@ -116,8 +117,8 @@ impl Extent {
     }
 }
 
-/// Where the entries of regions begin and end after the items so far. A region that isn't there has the
-/// entries of its table.
+/// Where the entries of regions begin and end after the items so far. A region that no item named so far has
+/// the entries of its table.
 #[derive(Drop)]
 pub(crate) struct AppendCheck {
     extents: KnownExtents,
@@ -125,7 +126,7 @@ pub(crate) struct AppendCheck {
 }
 
 impl AppendCheck {
-    /// Makes one that no item was shown to.
+    /// Returns a check that has seen no item.
     pub(crate) fn new(alloc: Global) -> AppendCheck
         ensures { known_extents result.extents ≡ [] }
     {
@@ -135,12 +136,11 @@ impl AppendCheck {
         }
     }
 
-    /// Takes in the next item, whose region had this table in front of all items.
+    /// Takes in the next item. `table` is the table that its region had before all items, if there was one.
     ///
     /// # Errors
     ///
-    /// `Corruption` where the tables would refuse the item: the text names region and reason.
-    /// `Memory`.
+    /// `Corruption` if the tables would refuse the item, with the region and the reason; `Memory`.
     pub(crate) fn take(&mut self, item: &LogItem, table: Option<&MemTable>) -> Result<()>
         ensures ok { OnOk result (TakesNext (known_extents self.old.extents)
             (option_map (λ t. t.now) table.entry) (item_of item.now) (known_extents self.new.extents)) }
@@ -161,8 +161,8 @@ impl AppendCheck {
         }
     }
 
-    /// Returns the extent of a region's entries behind the items so far. `table` is the region's
-    /// table in front of them.
+    /// Returns the extent of the entries of the region `id` after the items so far. `table` is the table that
+    /// the region had before all items, if there was one.
     fn extent(&self, id: u64, table: Option<&MemTable>) -> Extent
         ensures { (before now : Tables)
             → AreBefore (known_extents self.now.extents) id (option_map (λ t. t.now) table.entry) before now
@@ -175,11 +175,12 @@ impl AppendCheck {
     }
 }
 
-/// Refuses a `Put` without a value, but for the key of the group markers.
+/// Checks that `kv`, a change of a key of the region `id`, can be taken in: all can but a put without a
+/// value, unless it is under the key of group markers.
 ///
 /// # Errors
 ///
-/// `Corruption`, and `Memory` for its text.
+/// `Corruption` if it can't; `Memory` if there is none for its text.
 fn check_pair(alloc: Global, id: u64, kv: &KeyValue) -> Result<()>
     ensures ok { OnOk result (IsPairAccepted (pair_of kv.now)) }
     ensures fault { IfErr result (IsPairCheckFault (pair_of kv.now)) }

@@ -8,7 +8,7 @@ use raft_table::MemTable;
 use std::alloc::Global;
 use std::marker::Model;
 
-/// A table in a place of its own, so that a map of many grows at little cost.
+/// A table in a box, so that a map of many tables is small, and moves little when it grows.
 #[derive(Drop)]
 pub struct BoxedTable {
     pub(crate) boxed: Box<MemTable>,
@@ -26,11 +26,11 @@ impl Model for BoxedTable {
 }
 
 impl BoxedTable {
-    /// Puts a table in a box.
+    /// Puts `table` in a box.
     ///
     /// # Errors
     ///
-    /// Where there is no memory for it. The table is then lost.
+    /// `AllocError` if there is no memory for it. The table is dropped then.
     pub(crate) fn new(alloc: Global, table: MemTable) -> AllocResult<BoxedTable>
         ensures { IfOk result (λ boxed. boxed ≡ table) }
     {
@@ -38,18 +38,18 @@ impl BoxedTable {
         Ok(BoxedTable { boxed })
     }
 
-    /// Makes an empty table of a region in a box.
+    /// Returns an empty table of the region `id`, in a box.
     ///
     /// # Errors
     ///
-    /// Where there is no memory for it.
+    /// `AllocError` if there is no memory for it.
     pub(crate) fn empty(alloc: Global, id: u64) -> AllocResult<BoxedTable>
         ensures { IfOk result (λ boxed. boxed ≡ empty_table id) }
     {
         BoxedTable::new(alloc, MemTable::new(alloc, id))
     }
 
-    /// Lends the table that stands in the box.
+    /// Returns the table in the box, to be read.
     #[doc(hidden)]
     pub fn get(&self) -> &MemTable
         ensures { result.now ≡ self.now }
@@ -65,7 +65,7 @@ impl BoxedTable {
     }
 }
 
-/// Takes the table out of its box, if there is one.
+/// Takes `table` out of its box, if there is one.
 pub(crate) fn unboxed(table: Option<BoxedTable>) -> Option<MemTable>
     ensures { result ≡ table }
 {

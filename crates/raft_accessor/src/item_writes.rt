@@ -24,8 +24,8 @@ pub enum Writing {
 }
 
 impl RegionTables {
-    /// Does what [`MemTableAccessor::check_append_writes`](crate::MemTableAccessor::check_append_writes) does, with
-    /// its errors.
+    /// Does what [`MemTableAccessor::check_append_writes`](crate::MemTableAccessor::check_append_writes) does
+    /// for `items` whose regions are all in this slot, with its errors.
     pub fn check_append_items(&self, items: &[LogItem]) -> Result<()>
         ensures ok { OnOk result (AreAcceptedOncePlaced self.now (map item_of items.now)) }
         ensures refused { IfErr result (λ e. e ≢ Error.Memory
@@ -39,13 +39,13 @@ impl RegionTables {
         Ok(())
     }
 
-    /// Writes an item to its region's table, as `how` says, and lists the region where it is
-    /// cleaned in the append queue.
+    /// Writes one item to the table of its region, as `how` says. In the append queue an item that cleans its
+    /// region appends it to `cleaned`.
     ///
     /// # Errors
     ///
     /// Those of [`RegionTables::append_item`], [`RegionTables::replay_item`] or
-    /// [`RegionTables::rewrite_item`]. Tables, counts and list are then as they were.
+    /// [`RegionTables::rewrite_item`]. Tables, counts and list are unchanged then.
     #[inline(always)]
     pub fn write_item(
         &mut self,
@@ -65,15 +65,14 @@ impl RegionTables {
         }
     }
 
-    /// Writes a new item of the append queue to its region's table, and lists the region where the
-    /// item cleans it.
+    /// Writes a new item of the append queue to the table of its region. An item that cleans its region
+    /// appends it to `cleaned`.
     ///
     /// # Errors
     ///
-    /// `Corruption` where the entries are no run of the append queue or the start rule of
-    /// [`MemTable::append`] refuses them, and where a `Put` has no value, no file or a file of the
-    /// rewrite queue; `Full` where more than 2^64 - 1 records would be live; `Memory`. Tables and
-    /// list are then as they were.
+    /// `Corruption` if the entries aren't a run of the append queue or the start rule of [`MemTable::append`]
+    /// refuses them, and if a put has no value, no file or a file of the rewrite queue; `Full` if more than
+    /// 2^64 - 1 records would be live; `Memory`. Tables, counts and list are unchanged then.
     pub fn append_item(
         &mut self,
         item: LogItem,
@@ -102,16 +101,16 @@ impl RegionTables {
         }
     }
 
-    /// Writes an item of `queue` that is read again to its region's table, by its step. In the append queue
-    /// it lists the region where the item cleans it. Recovery takes the same steps beside the region marks,
-    /// by `MarkedTables::take_step` of `raft_contexts`.
+    /// Writes an item that was read from `queue` to the table of its region, by its step. In the append queue
+    /// an item that cleans its region appends it to `cleaned`. Recovery takes the same steps beside the
+    /// region marks, by `MarkedTables::take_step` of `raft_contexts`.
     ///
     /// # Errors
     ///
-    /// `Corruption` where the entries are no run of `queue` or the start rule of its replay refuses
-    /// them, and where a `Put` has no value, no file or a file of the other queue; `InvalidArgument`
-    /// for entries where the table has records of the other queue; `Full` where more than 2^64 - 1
-    /// records would be live; `Memory`. Tables and list are then as they were.
+    /// `Corruption` if the entries aren't a run of `queue` or the start rule of its replay refuses them, and
+    /// if a put has no value, no file or a file of the other queue; `InvalidArgument` for entries if the
+    /// table has records of the other queue; `Full` if more than 2^64 - 1 records would be live; `Memory`.
+    /// Tables, counts and list are unchanged then.
     pub fn replay_item(
         &mut self,
         queue: LogQueue,
@@ -130,14 +129,14 @@ impl RegionTables {
         }
     }
 
-    /// Writes an item that was rewritten to the file of number `seq` of the rewrite queue to its
-    /// region's table: the places of its entries, or the file of its key. A `Clean` changes nothing.
+    /// Writes an item that was rewritten to the file numbered `seq` of the rewrite queue to the table of its
+    /// region: the places of its entries, or the file of its key. A `Clean` changes nothing.
     ///
     /// # Errors
     ///
-    /// `Corruption` for a `Compact`, a `Truncate`, a deletion and a `Put` without a value, where the
-    /// entries are no run of the rewrite queue, and where the call of the table refuses what it is asked; `Full`
-    /// where more than 2^64 - 1 records would be live; `Memory`. The tables are then as they were.
+    /// `Corruption` for a `Compact`, a `Truncate`, a deletion and a put without a value, if the entries
+    /// aren't a run of the rewrite queue, and if the table's call refuses what it is asked; `Full` if more
+    /// than 2^64 - 1 records would be live; `Memory`. Tables and counts are unchanged then.
     pub fn rewrite_item(
         &mut self,
         item: LogItem,
@@ -163,19 +162,19 @@ impl RegionTables {
         }
     }
 
-    /// Makes a `Corruption` with this text; `Memory` where there is none for it.
+    /// Returns a `Corruption` with `text`, or `Memory` if there is none for it.
     fn corruption(&self, text: &str) -> Error
         ensures { IsCorruption text.now result }
     {
         Error::corruption(self.alloc, text)
     }
 
-    /// Writes new entries of the append queue to a region's table.
+    /// Writes new entries of the append queue to the table of the region `id`.
     ///
     /// # Errors
     ///
-    /// `Corruption` where they are no run of the append queue or [`MemTable::append`] refuses them
-    /// so; `Full`; `Memory`. The tables are then as they were.
+    /// `Corruption` if they aren't a run of the append queue or [`MemTable::append`] refuses them so; `Full`;
+    /// `Memory`. Tables and counts are unchanged then.
     fn append_entries(
         &mut self,
         id: u64,
@@ -195,12 +194,12 @@ impl RegionTables {
         self.append_run(id, run, stats)
     }
 
-    /// Gives the entries of a region's table the places of rewritten ones.
+    /// Gives entries of the region `id` the places of `run`, which was rewritten.
     ///
     /// # Errors
     ///
-    /// `Corruption` where they are no run of the rewrite queue or [`MemTable::rewrite`] refuses
-    /// them so; `Full`; `Memory`. The tables are then as they were.
+    /// `Corruption` if it isn't a run of the rewrite queue or [`MemTable::rewrite`] refuses it so; `Full`;
+    /// `Memory`. Tables and counts are unchanged then.
     fn rewrite_entries(
         &mut self,
         id: u64,
@@ -222,11 +221,11 @@ impl RegionTables {
         self.rewrite_run(id, run, gate, stats)
     }
 
-    /// Refuses a command in the rewrite queue but for a `Clean`, which changes nothing there.
+    /// Accepts a `Clean` among rewritten items, which changes nothing there, and refuses any other command.
     ///
     /// # Errors
     ///
-    /// `Corruption`, and `Memory` for its text.
+    /// `Corruption` for a `Compact` or a `Truncate`; `Memory` if there is none for its text.
     fn rewrite_command(&self, id: u64, command: Command) -> Result<()>
         ensures { (gate : Option ℕ) (seq : ℕ) (counts : Counts) (list : List ℕ)
             → IsItemWritten (Rewriting gate seq) (command_item id command)
@@ -239,12 +238,12 @@ impl RegionTables {
         }
     }
 
-    /// Refuses an item that can't stand in this queue.
+    /// Checks that `item` may be in `queue`.
     ///
     /// # Errors
     ///
-    /// `Corruption` where its entries are no run of the queue, or a `Put`, but for the key of the
-    /// group markers, has no value, no file or a file of the other queue; `Memory` for its text.
+    /// `Corruption` if its entries aren't a run of the queue, or a put, other than one under the key of group
+    /// markers, has no value, no file or a file of the other queue; `Memory` if there is none for the text.
     fn check_replayed(&self, queue: LogQueue, item: &LogItem) -> Result<()>
         ensures ok { OnOk result (IsReplayed queue (content_of item.now.content)) }
         ensures fault { (id : ℕ) (o : Option Table) (live : ℕ) → IfErr result
@@ -262,12 +261,12 @@ impl RegionTables {
         }
     }
 
-    /// Refuses a `Put` without a value, without a file or with a file of the other queue, but for
-    /// the key of the group markers.
+    /// Checks that a change of a key may be in `queue`. Under the key of group markers any may.
     ///
     /// # Errors
     ///
-    /// `Corruption`, and `Memory` for its text.
+    /// `Corruption` for a put without a value, without a file or with a file of the other queue; `Memory` if
+    /// there is none for the text.
     fn check_replayed_pair(&self, queue: LogQueue, kv: &KeyValue) -> Result<()>
         ensures ok { OnOk result (IsReplayed queue (pair (pair_of kv.now))) }
         ensures fault { (id : ℕ) (o : Option Table) (live : ℕ) → IfErr result
@@ -289,13 +288,13 @@ impl RegionTables {
         }
     }
 
-    /// Moves a key that was rewritten to the file of number `seq`, if the gate lets it. A group marker
-    /// changes nothing.
+    /// Moves a key value of the region `id` that was rewritten to the file numbered `seq`, if the `gate` lets
+    /// it. A group marker changes nothing.
     ///
     /// # Errors
     ///
-    /// `Corruption` for a deletion or a `Put` without a value, and where [`MemTable::rewrite_key`]
-    /// refuses it; `Full`; `Memory`. The tables are then as they were.
+    /// `Corruption` for a deletion and a put without a value, and if [`MemTable::rewrite_key`] refuses it;
+    /// `Full`; `Memory`. Tables and counts are unchanged then.
     fn rewrite_pair(
         &mut self,
         id: u64,

@@ -8,8 +8,8 @@ use raft_base::{Error, Result};
 use std::alloc::Global;
 use std::collections::HashMap;
 
-/// Where the entries of regions begin and end. What is known of the first region stands beside the map of the others, so
-/// that items of one region need no map.
+/// Where the entries of some regions begin and end. What is known of the first region is kept beside the map
+/// of the others, so that items of one region need no map.
 #[derive(Drop)]
 pub(crate) struct KnownExtents {
     first: Option<(u64, Extent)>,
@@ -17,7 +17,7 @@ pub(crate) struct KnownExtents {
 }
 
 impl KnownExtents {
-    /// Makes one that knows of no region.
+    /// Returns the extents of no region. It allocates nothing yet.
     pub(crate) fn new(alloc: Global) -> KnownExtents
         ensures { known_extents result ≡ [] }
     {
@@ -27,7 +27,7 @@ impl KnownExtents {
         }
     }
 
-    /// Returns where the entries of a region begin and end, if that is known.
+    /// Returns where the entries of the region `id` begin and end, or `None` if that isn't known.
     pub(crate) fn get(&self, id: u64) -> Option<Extent>
         ensures { result ≡ lookup (nat_eq id) (known_extents self.now) }
     {
@@ -43,18 +43,18 @@ impl KnownExtents {
         }
     }
 
-    /// Returns what is known of a region that isn't the first one.
+    /// Returns what is known of the region `id`, which isn't the first one.
     fn of_other(&self, id: u64) -> Option<Extent>
         ensures { result ≡ lookup (nat_eq id) self.now.others.entries }
     {
         self.others.get(&id).copied()
     }
 
-    /// Notes where the entries of a region begin and end now.
+    /// Notes where the entries of the region `id` begin and end now, in place of what was known of it.
     ///
     /// # Errors
     ///
-    /// `Memory`.
+    /// `Memory` alone.
     pub(crate) fn insert(&mut self, id: u64, extent: Extent) -> Result<()>
         ensures ok { OnOk result ((q : ℕ) → lookup (nat_eq q) (known_extents self.new)
             ≡ cond (nat_eq id q) (Some extent) (lookup (nat_eq q) (known_extents self.old))) }
@@ -68,7 +68,7 @@ impl KnownExtents {
         Ok(())
     }
 
-    /// Tests whether a region is the first one, or may be.
+    /// Tests whether `id` is the first region, or becomes it, since nothing is known of any.
     fn is_first(&self, id: u64) -> bool
         ensures { IsTrue result ↔ IsFirst id self.now.first }
     {

@@ -20,7 +20,8 @@ use std::collections::HashMap;
 use std::collections::hash_map::IntoIter;
 use std::marker::Model;
 
-/// The tables of some regions, each under its region's id.
+/// The tables of the regions of one slot, each under its region's id. Calls that change their records also
+/// change the live counts `stats`, in which these records must be counted.
 #[doc(hidden)]
 #[derive(Drop)]
 pub struct RegionTables {
@@ -46,7 +47,7 @@ impl Model for RegionTables {
 }
 
 impl RegionTables {
-    /// Makes one without tables.
+    /// Returns a slot without tables. It allocates nothing yet.
     pub fn new(alloc: Global) -> RegionTables
         ensures { result ≡ finite.empty }
     {
@@ -56,14 +57,14 @@ impl RegionTables {
         }
     }
 
-    /// Tests whether there are no tables.
+    /// Tests whether no region of the slot has a table.
     pub fn is_empty(&self) -> bool
         ensures { IsTrue result ↔ (self.now ≡ finite.empty) }
     {
         self.tables.is_empty()
     }
 
-    /// Returns the table of a region, `None` where it has none.
+    /// Returns the table of the region `id`, or `None` if it has none.
     pub fn get(&self, id: u64) -> Option<&MemTable>
         ensures value { option_map (λ t. t.now) result ≡ finite.get self.now id }
         ensures own { IfSome result (λ t. t.now.region_id ≡ id) }
@@ -74,7 +75,12 @@ impl RegionTables {
         }
     }
 
-    /// Pushes the tables at which `f` returns true, in no set order; some of them on `Err`.
+    /// Appends the tables for which `f` returns true to `tables`, in no set order: the part of
+    /// [`MemTableAccessor::collect`](crate::MemTableAccessor::collect) for one slot.
+    ///
+    /// # Errors
+    ///
+    /// `Memory` alone. Some of the tables have been appended then.
     pub(crate) fn push_kept<'a, F: FnMut(&MemTable) -> bool>(
         &'a self,
         f: &mut F,
@@ -96,7 +102,7 @@ impl RegionTables {
         Ok(())
     }
 
-    /// Counts the entries of all tables.
+    /// Returns how many entries all tables have together.
     pub(crate) fn entries_count(&self) -> u128
         ensures entries { result ≡ total (λ (t : Table). length t.entries) self.now }
         ensures others { result + total (λ (t : Table). finite.len t.keys) self.now
@@ -111,7 +117,8 @@ impl RegionTables {
         count
     }
 
-    /// Returns what `f` makes of `init` and each table, in no set order.
+    /// Returns what `f` makes of `init` and all tables: it is called with what it returned before, and each
+    /// table once, in no set order.
     pub fn fold<B: Drop, F: FnMut(B, &MemTable) -> B>(&self, init: B, f: &mut F) -> B
         requires { (state : F) (x : _) (t : _) → F.pre state x t }
         ensures { (ts : List Table) × IsPermutation ts (finite.values self.now)
@@ -124,7 +131,11 @@ impl RegionTables {
         answer
     }
 
-    /// Pushes the ids of the tables at which `wanted` returns true, in no set order; some of them on `Memory`.
+    /// Appends the region ids of the tables for which `wanted` returns true to `ids`, in no set order.
+    ///
+    /// # Errors
+    ///
+    /// `Memory` alone. Some of the ids have been appended then.
     pub fn push_ids<F: FnMut(&MemTable) -> bool>(
         &self,
         wanted: &mut F,
@@ -145,14 +156,18 @@ impl RegionTables {
         Ok(())
     }
 
-    /// States that each table stands under its own region's id. This is a law: it computes nothing.
+    /// States that each table is kept under its own region's id. This is a law: it computes nothing.
     pub fn tables_are_own(&self)
         ensures { (id : ℕ) (t : Table) → finite.get self.now id ≡ Some t → t.region_id ≡ id }
     {
         let _ = &self.tables;
     }
 
-    /// Makes an empty table for a region that has none. All tables stay on `Memory`, the only error.
+    /// Makes an empty table for the region `id`, unless it has one.
+    ///
+    /// # Errors
+    ///
+    /// `Memory` alone. The tables are unchanged then.
     pub fn make(&mut self, id: u64, stats: &mut GlobalStats) -> Result<()>
         requires { IsCounted (table_in self.old id) stats.old }
         ensures outcome { BecomesOutcome (Some (table_in self.old id)) (λ e. ⊥) self.old id
@@ -170,9 +185,10 @@ impl RegionTables {
         self.update(id, stats, move |table, stats| table.change(change, stats))
     }
 
-    /// Puts a run that is read again into its region's table, which is made where there is none,
-    /// and returns where the entries of the table began and ended before. Nothing is returned, and
-    /// nothing has changed, where the table refuses the run or there is no memory.
+    /// Puts a run that was read from `queue` into the table of the region `id`, which is made if there is
+    /// none. Returns the index of the first entry that the table had before, and the index after the last
+    /// one; both are 0 without entries. Returns `None`, and changes nothing, if the table refuses the run or
+    /// there is no memory.
     #[inline(always)]
     pub(crate) fn try_replay(
         &mut self,
@@ -196,7 +212,7 @@ impl RegionTables {
         Some(ends)
     }
 
-    /// Does what `try_replay` does, for a region without a table.
+    /// Does what [`RegionTables::try_replay`] does for a region `id` without a table.
     #[inline(always)]
     fn try_replay_first(
         &mut self,
@@ -225,8 +241,12 @@ impl RegionTables {
         }
     }
 
-    /// Sets the files of a region's atomic group; its table is made where there is none. All tables stay on
-    /// `Memory`, the only error.
+    /// Sets the first and the last file of the atomic group of the region `id` to `start` and `end`, of
+    /// which `start` is the lesser or the same. Its table is made if there is none.
+    ///
+    /// # Errors
+    ///
+    /// `Memory` alone. The tables are unchanged then.
     pub fn apply_rewrite_atomic_group(
         &mut self,
         id: u64,
@@ -247,7 +267,7 @@ impl RegionTables {
         })
     }
 
-    /// Returns the tables, each with its region, in no set order.
+    /// Returns the tables, each with the id of its region, in no set order.
     pub fn into_entries(self) -> IntoIter<u64, BoxedTable>
         ensures entries { finite.from_entries result ≡ self }
         ensures once { IsDistinct nat_eq (keys_of result) }
@@ -256,12 +276,12 @@ impl RegionTables {
         self.tables.into_iter()
     }
 
-    /// Merges a table into the one of its region, which is made where there is none.
+    /// Merges `newer` into the table of the region `id`, which is made if there is none, as `kind` says.
     ///
     /// # Errors
     ///
-    /// Those of [`MemTable::merge_newer_neighbor`] or [`MemTable::merge_append_table`]. The
-    /// region's table is then as it was, but for want of memory.
+    /// Those of [`MemTable::merge_newer_neighbor`] or [`MemTable::merge_append_table`]. The table of the
+    /// region is unchanged then, unless memory was refused.
     pub(crate) fn merge_neighbor(
         &mut self,
         kind: Neighbor,
@@ -280,7 +300,12 @@ impl RegionTables {
         })
     }
 
-    /// Does what [`RegionTables::update`] does, and keeps what a refused change leaves.
+    /// Does what [`RegionTables::update`] does, but keeps what a refused change leaves, also in a table that
+    /// was made for it.
+    ///
+    /// # Errors
+    ///
+    /// Those of `change`, and `Memory`.
     #[inline(always)]
     fn alter<R: Drop, F: FnOnce(&mut MemTable, &mut GlobalStats) -> Result<R>>(
         &mut self,
@@ -307,11 +332,12 @@ impl RegionTables {
         }
     }
 
-    /// Changes a region's table, which is made where there is none. It is looked up once.
+    /// Applies `change` to the table of the region `id`, which is made if there is none. The table is looked
+    /// up once.
     ///
     /// # Errors
     ///
-    /// Those of the change, and `Memory`. A table that wasn't there is then not made.
+    /// Those of `change`, and `Memory`. No table has been made then.
     #[inline(always)]
     pub(crate) fn update<R: Drop, F: FnOnce(&mut MemTable, &mut GlobalStats) -> Result<R>>(
         &mut self,
@@ -338,11 +364,12 @@ impl RegionTables {
     }
 }
 
-/// Merges a table into an older one, or an appended one into a rewritten one.
+/// Merges `newer` into `table`, as its newer neighbor or as an appended table, as `kind` says.
 ///
 /// # Errors
 ///
-/// Those of [`MemTable::merge_newer_neighbor`] or [`MemTable::merge_append_table`].
+/// Those of [`MemTable::merge_newer_neighbor`] or [`MemTable::merge_append_table`]. `table` is unchanged
+/// then, unless memory was refused.
 fn merge(
     kind: Neighbor,
     table: &mut MemTable,

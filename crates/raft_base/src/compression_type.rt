@@ -14,11 +14,11 @@ pub enum CompressionType {
 }
 
 impl CompressionType {
-    /// Returns the compression type that a byte stands for.
+    /// Returns the compression type that `byte` stands for: only 0 stands for one.
     ///
     /// # Errors
     ///
-    /// `Corruption` for any other byte, and `Memory` for its text.
+    /// `Corruption` for any other byte; `Memory` if there is none for its text.
     pub fn from_u8(alloc: Global, byte: u8) -> Result<CompressionType>
         ensures ok { IfOk result (λ compression_type. byte ≡ compression_byte compression_type) }
         ensures fault { IfErr result (IsCompressionFault byte) }

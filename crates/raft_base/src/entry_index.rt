@@ -37,7 +37,8 @@ impl Default for EntryIndex {
     }
 }
 
-/// Tests whether the indexes rise by one from entry to entry and none is 2^64 - 1. It takes no memory.
+/// Tests whether the indexes of `entries` rise by one from entry to entry, and none is 2^64 - 1. True without
+/// entries. It allocates nothing.
 pub fn is_consecutive(entries: &[EntryIndex]) -> bool
     ensures { IsTrue result ↔ IsConsecutive entries.now }
 {

@@ -1,6 +1,6 @@
 //! Times log batches: their bytes are made and signed, and read again.
 
-use crate::timing::{Noise, best_of, print_line, time_work};
+use crate::timing::{Noise, best_times, print_time_and_speed, time_work};
 use raft_records::codec::BytesSlice;
 use raft_records::{
     Command, FileBlockHandle, FileId, LogBatch, LogFileContext, LogItemBatch, LogQueue, Message,
@@ -23,6 +23,11 @@ impl Message for Entry {
 
     ghost refuses = { λ entry code. ⊥ };
 
+    /// Appends the bytes of the entry.
+    ///
+    /// # Errors
+    ///
+    /// `Memory` alone. `buf` is unchanged then.
     fn write_to_vec(&self, buf: &mut Vec<u8>) -> std::result::Result<(), MessageError> {
         match buf.extend_from_slice(self.bytes.as_slice()) {
             Ok(()) => Ok(()),
@@ -39,6 +44,7 @@ impl MessageExt for Entries {
 
     ghost index_of = { λ entry. entry.index };
 
+    /// Returns the index of `entry` in its log.
     fn index(entry: &Entry) -> u64 {
         entry.index
     }
@@ -54,6 +60,10 @@ struct Shape {
 }
 
 /// Times batches as a store of many groups writes them, and larger ones.
+///
+/// # Errors
+///
+/// `Memory`; `Io` for the clock or the output; those of the batches.
 pub(crate) fn time_batches(rt: &HostRuntime) -> Result<()> {
     let shapes = [
         Shape {
@@ -79,16 +89,20 @@ pub(crate) fn time_batches(rt: &HostRuntime) -> Result<()> {
     Ok(())
 }
 
-/// Returns the context of the batches.
+/// Returns the context of the file that the batches are signed for.
 fn file_context() -> LogFileContext {
     LogFileContext::new(FileId::new(LogQueue::Append, 12), Version::V2)
 }
 
-/// Times how the bytes of batches are made and signed, and returns them.
+/// Times how the bytes of batches of this `shape` are made and signed, prints a line, and returns the bytes.
+///
+/// # Errors
+///
+/// `Memory`; `Io` for the clock or the output; those of the batches.
 fn time_writing(rt: &HostRuntime, shape: Shape) -> Result<Vec<Vec<u8>>> {
     let messages = messages_of_region(rt.alloc(), shape.entries)?;
-    let (best, encoded) = best_of(|| write_batches(rt, shape, messages.as_slice()))?;
-    print_line(
+    let (best, encoded) = best_times(|| write_batches(rt, shape, messages.as_slice()))?;
+    print_time_and_speed(
         rt,
         "finish_populate, prepare_write",
         best,
@@ -99,7 +113,12 @@ fn time_writing(rt: &HostRuntime, shape: Shape) -> Result<Vec<Vec<u8>>> {
     Ok(encoded)
 }
 
-/// Returns how long it takes to make and sign the bytes of batches, and these bytes.
+/// Returns how many nanoseconds it takes to make and sign the bytes of batches of this `shape`, whose entries
+/// are `messages`, and these bytes.
+///
+/// # Errors
+///
+/// `Memory`; `Io` for the clock; those of the batches.
 fn write_batches(
     rt: &HostRuntime,
     shape: Shape,
@@ -108,16 +127,20 @@ fn write_batches(
     let mut batches = fill_batches(rt.alloc(), shape, messages)?;
     let (taken, sealed) = time_work(rt, || seal_batches(&mut batches))?;
     sealed?;
-    Ok((taken, bytes_of(rt.alloc(), batches.as_slice())?))
+    Ok((taken, sealed_bytes(rt.alloc(), batches.as_slice())?))
 }
 
-/// Times how items are read of the bytes of batches.
+/// Times how the items of the batches `encoded` are read, and prints a line.
+///
+/// # Errors
+///
+/// `Memory`; `Io` for the clock or the output; those of [`decode_batches`].
 fn time_reading(rt: &HostRuntime, encoded: &[Vec<u8>]) -> Result<()> {
-    let (best, (items, bytes)) = best_of(|| -> Result<_> {
+    let (best, (items, bytes)) = best_times(|| -> Result<_> {
         let (taken, decoded) = time_work(rt, || decode_batches(rt.alloc(), encoded))?;
         Ok((taken, decoded?))
     })?;
-    print_line(
+    print_time_and_speed(
         rt,
         "decode_header, LogItemBatch::decode",
         best,
@@ -128,7 +151,11 @@ fn time_reading(rt: &HostRuntime, encoded: &[Vec<u8>]) -> Result<()> {
     Ok(())
 }
 
-/// Returns the entries that each region of a batch brings.
+/// Returns the entries that each region brings to a batch: `count` of 256 bytes, with the indexes from 0 on.
+///
+/// # Errors
+///
+/// `Memory` alone.
 fn messages_of_region(alloc: Global, count: u64) -> Result<Vec<Entry>> {
     let mut noise = Noise::new();
     let mut messages = Vec::new(alloc);
@@ -142,7 +169,11 @@ fn messages_of_region(alloc: Global, count: u64) -> Result<Vec<Entry>> {
     Ok(messages)
 }
 
-/// Makes open batches of this shape.
+/// Returns open batches of this `shape`, in which each region brings the entries `messages`.
+///
+/// # Errors
+///
+/// Those of [`add_region`]; `Memory`.
 fn fill_batches(alloc: Global, shape: Shape, messages: &[Entry]) -> Result<Vec<LogBatch>> {
     let mut batches = Vec::new(alloc);
     for _ in 0..shape.batches {
@@ -155,7 +186,12 @@ fn fill_batches(alloc: Global, shape: Shape, messages: &[Entry]) -> Result<Vec<L
     Ok(batches)
 }
 
-/// Adds what a region brings to a batch that is open.
+/// Adds what `region` brings to `batch`: the entries `messages`, and for some regions a key value and a
+/// command.
+///
+/// # Errors
+///
+/// Those of the batch's calls; `Memory`.
 fn add_region(alloc: Global, batch: &mut LogBatch, region: u64, messages: &[Entry]) -> Result<()> {
     if batch.is_open() {
         batch.add_entries::<Entries>(region % 1_000 + 1, messages)?;
@@ -169,7 +205,11 @@ fn add_region(alloc: Global, batch: &mut LogBatch, region: u64, messages: &[Entr
     Ok(())
 }
 
-/// Adds a key value to a batch that is open.
+/// Adds a key value of `region` to a batch, if it is open.
+///
+/// # Errors
+///
+/// Those of the batch's calls; `Memory`.
 fn add_key_value(alloc: Global, batch: &mut LogBatch, region: u64) -> Result<()> {
     let (key, value) = (vec![in alloc; 1, 2]?, vec![in alloc; 7; 32]?);
     if batch.is_open() {
@@ -178,7 +218,11 @@ fn add_key_value(alloc: Global, batch: &mut LogBatch, region: u64) -> Result<()>
     Ok(())
 }
 
-/// Makes the bytes of open batches, and signs them.
+/// Makes the bytes of `batches`, and signs them: the work that is timed.
+///
+/// # Errors
+///
+/// Those of [`LogBatch::finish_populate`].
 fn seal_batches(batches: &mut Vec<LogBatch>) -> Result<()> {
     let context = file_context();
     for batch in batches.iter_mut() {
@@ -192,8 +236,12 @@ fn seal_batches(batches: &mut Vec<LogBatch>) -> Result<()> {
     Ok(())
 }
 
-/// Returns the bytes of sealed batches.
-fn bytes_of(alloc: Global, batches: &[LogBatch]) -> Result<Vec<Vec<u8>>> {
+/// Returns copies of the bytes of those of `batches` that are sealed.
+///
+/// # Errors
+///
+/// `Memory` alone.
+fn sealed_bytes(alloc: Global, batches: &[LogBatch]) -> Result<Vec<Vec<u8>>> {
     let mut encoded = Vec::new(alloc);
     for batch in batches {
         if batch.is_sealed() {
@@ -203,7 +251,7 @@ fn bytes_of(alloc: Global, batches: &[LogBatch]) -> Result<Vec<Vec<u8>>> {
     Ok(encoded)
 }
 
-/// Returns how many bytes these are together.
+/// Returns how many bytes the batches `encoded` have together.
 fn total_length(encoded: &[Vec<u8>]) -> usize {
     let mut length = 0usize;
     for bytes in encoded {
@@ -212,7 +260,12 @@ fn total_length(encoded: &[Vec<u8>]) -> usize {
     length
 }
 
-/// Returns how many items are read of the batches, and how many bytes their item batches have.
+/// Reads the items of the batches `encoded`: the work that is timed. Returns how many items there are, and
+/// how many bytes the item batches have.
+///
+/// # Errors
+///
+/// Those of [`LogBatch::decode_header`] and [`LogItemBatch::decode`].
 fn decode_batches(alloc: Global, encoded: &[Vec<u8>]) -> Result<(usize, usize)> {
     let context = file_context();
     let (mut items, mut bytes) = (0usize, 0usize);

@@ -1,9 +1,10 @@
 //! Times tables by how many entries each of their blocks has, and counts the bytes of what is kept.
 
 use crate::tables::{
-    APPENDED, REGIONS, REWRITTEN, Region, append_all, count_found, empty_regions, run_from, runs,
+    APPENDED, REGIONS, REWRITTEN, Region, append_all_runs, count_found, empty_regions, run_from,
+    runs,
 };
-use crate::timing::{Noise, best_of, print_time_per_unit, time_work};
+use crate::timing::{Noise, best_times, print_time_per_unit, time_work};
 use raft_memtable::{AllocResult, Block, EntryIndex};
 use std::alloc::Global;
 use std::io;
@@ -27,7 +28,11 @@ const LOOKUPS: u64 = 1_000_000;
 /// How many entries a rewriting within a table moves.
 const STEP: u64 = 64;
 
-/// Times tables of long and of short blocks.
+/// Times tables of long blocks and of short ones.
+///
+/// # Errors
+///
+/// Those of the clock and of the output, and want of memory.
 pub(crate) fn time_blocks(rt: &HostRuntime) -> io::Result<()> {
     for &len in &[64, 8, 1] {
         time_appends(rt, len)?;
@@ -37,9 +42,8 @@ pub(crate) fn time_blocks(rt: &HostRuntime) -> io::Result<()> {
     time_merge(rt)
 }
 
-/// Returns how many bytes the room of a region's blocks, of their first indexes and of their spans
-/// has.
-fn kept_bytes(region: &Region) -> usize {
+/// Returns how many bytes are allocated for the blocks of `region`, their first indexes and their spans.
+fn allocated_bytes(region: &Region) -> usize {
     let blocks = region.blocks();
     let each = size_of::<Block>() + size_of::<u64>();
     let mut bytes = blocks.capacity().saturating_mul(each);
@@ -53,10 +57,13 @@ fn kept_bytes(region: &Region) -> usize {
     bytes
 }
 
-/// Times appends of runs of `len` entries, each a block, and prints the bytes that are kept for an
-/// entry.
+/// Times appends of runs of `len` entries, each a block, and prints how many bytes are kept for an entry.
+///
+/// # Errors
+///
+/// Those of the clock and of the output, and want of memory.
 fn time_appends(rt: &HostRuntime, len: u64) -> io::Result<()> {
-    let (best, bytes) = best_of(|| append_runs(rt, len))?;
+    let (best, bytes) = best_times(|| append_runs(rt, len))?;
     let entries = REGIONS * ENTRIES;
     println!(rt;
         "2,048,000 entries, {len} a call, {len} a block: {} bytes an entry",
@@ -65,20 +72,29 @@ fn time_appends(rt: &HostRuntime, len: u64) -> io::Result<()> {
     print_time_per_unit(rt, "append", best, "entry", entries)
 }
 
-/// Returns how long it takes to append all runs to regions without records, and how many bytes are
-/// kept then.
+/// Returns how many nanoseconds it takes to append runs of `len` entries to regions without records, and how
+/// many bytes are kept then.
+///
+/// # Errors
+///
+/// Those of the clock, and want of memory.
 fn append_runs(rt: &HostRuntime, len: u64) -> io::Result<(u64, usize)> {
     let mut regions = empty_regions(rt.alloc())?;
     let runs = runs(rt.alloc(), REGIONS, ENTRIES, len, APPENDED)?;
-    let (taken, _) = time_work(rt, || append_all(&mut regions, runs))?;
+    let (taken, _) = time_work(rt, || append_all_runs(&mut regions, runs))?;
     let mut bytes = 0usize;
     for region in &regions {
-        bytes = bytes.saturating_add(kept_bytes(region));
+        bytes = bytes.saturating_add(allocated_bytes(region));
     }
     Ok((taken, bytes))
 }
 
-/// Returns a table of many blocks, from an index on.
+/// Returns a table of 1,000 blocks of 8 entries, whose indexes rise from `first` on. If a run is refused, the
+/// table has those before it.
+///
+/// # Errors
+///
+/// `AllocError` if there is no memory for it.
 fn long_table(alloc: Global, first: u64) -> AllocResult<Region> {
     let mut region = Region::new(alloc, 1);
     let mut next = first;
@@ -93,6 +109,10 @@ fn long_table(alloc: Global, first: u64) -> AllocResult<Region> {
 }
 
 /// Times look-ups of entries in one table of many blocks.
+///
+/// # Errors
+///
+/// Those of the clock and of the output, and want of memory.
 fn time_get(rt: &HostRuntime) -> io::Result<()> {
     let mut regions = Vec::new(rt.alloc());
     regions.push(long_table(rt.alloc(), 1)?)?;
@@ -101,7 +121,7 @@ fn time_get(rt: &HostRuntime) -> io::Result<()> {
     for _ in 0..LOOKUPS {
         picks.push((0usize, 1 + noise.next_u64() % (BLOCKS * SPANS)))?;
     }
-    let (best, got) = best_of(|| time_work(
+    let (best, got) = best_times(|| time_work(
         rt,
         || count_found(regions.as_slice(), picks.as_slice()),
     ))?;
@@ -114,7 +134,7 @@ fn time_get(rt: &HostRuntime) -> io::Result<()> {
     )
 }
 
-/// Rewrites a table of many blocks from its first entry on, some entries a call.
+/// Rewrites a table of many blocks from its first entry on, one of `runs` a call: the work that is timed.
 fn rewrite_by_steps(region: &mut Region, runs: Vec<Vec<EntryIndex>>) {
     for run in runs {
         if region.rewrite(run).is_err() {
@@ -123,9 +143,13 @@ fn rewrite_by_steps(region: &mut Region, runs: Vec<Vec<EntryIndex>>) {
     }
 }
 
-/// Times rewritings of one table of many blocks, some entries a call.
+/// Times rewritings of one table of many blocks, 64 entries a call.
+///
+/// # Errors
+///
+/// Those of the clock and of the output, and want of memory.
 fn time_rewrite(rt: &HostRuntime) -> io::Result<()> {
-    let (best, ()) = best_of(|| {
+    let (best, ()) = best_times(|| {
         let mut region = long_table(rt.alloc(), 1)?;
         let runs = runs(rt.alloc(), 1, BLOCKS * SPANS, STEP, REWRITTEN)?;
         time_work(rt, || rewrite_by_steps(&mut region, runs))
@@ -139,7 +163,11 @@ fn time_rewrite(rt: &HostRuntime) -> io::Result<()> {
     )
 }
 
-/// Makes tables of many blocks, from an index on.
+/// Returns tables of 1,000 blocks each, whose indexes rise from `first` on.
+///
+/// # Errors
+///
+/// `AllocError` if there is no memory for them.
 fn long_tables(alloc: Global, first: u64) -> AllocResult<Vec<Region>> {
     let mut regions = Vec::new(alloc);
     for _ in 0..PAIRS {
@@ -148,8 +176,8 @@ fn long_tables(alloc: Global, first: u64) -> AllocResult<Vec<Region>> {
     Ok(regions)
 }
 
-/// Merges each newer table into its older neighbor.
-fn merge_all(older: &mut Vec<Region>, newer: Vec<Region>) {
+/// Merges each of the `newer` tables into its `older` neighbor: the work that is timed.
+fn merge_all_regions(older: &mut Vec<Region>, newer: Vec<Region>) {
     for (older, newer) in older.iter_mut().zip(newer) {
         if older.merge(newer).is_err() {
             return;
@@ -158,11 +186,15 @@ fn merge_all(older: &mut Vec<Region>, newer: Vec<Region>) {
 }
 
 /// Times merges of tables of many blocks with their newer neighbors.
+///
+/// # Errors
+///
+/// Those of the clock and of the output, and want of memory.
 fn time_merge(rt: &HostRuntime) -> io::Result<()> {
-    let (best, ()) = best_of(|| {
+    let (best, ()) = best_times(|| {
         let mut older = long_tables(rt.alloc(), 1)?;
         let newer = long_tables(rt.alloc(), 1 + BLOCKS * SPANS)?;
-        time_work(rt, || merge_all(&mut older, newer))
+        time_work(rt, || merge_all_regions(&mut older, newer))
     })?;
     print_time_per_unit(
         rt,

@@ -1,6 +1,6 @@
 //! The logs that words name, and lines of two times of a log.
 
-use crate::timing::in_tenths;
+use crate::timing::quotient_in_tenths;
 use raft_records::{LogQueue, Result};
 use raft_recover::Segment;
 use raft_recover::files::file_segments;
@@ -24,7 +24,11 @@ pub(crate) struct LogTimes {
     pub(crate) second: (&'static str, u64),
 }
 
-/// Reads the log that the words of `raftlog recover` name. Returns nothing where they are others.
+/// Reads the log that the words of `raftlog recover` name. Returns `None` for other words.
+///
+/// # Errors
+///
+/// Those of reading the files; `Memory`.
 pub(crate) fn read_log<R: Files + AllocGlobal>(rt: &R, words: &[String]) -> Result<Option<Log>> {
     let Some(Request::Recover(asked)) = Request::parse(rt.alloc(), words)? else {
         return Ok(None);
@@ -37,8 +41,12 @@ pub(crate) fn read_log<R: Files + AllocGlobal>(rt: &R, words: &[String]) -> Resu
     }))
 }
 
-/// Prints the times in milliseconds, or what the words have to be, which are those of `raftlog recover` behind
-/// `before`.
+/// Prints both times in milliseconds or, without `times`, which words the program takes: those of `raftlog
+/// recover` behind `before`.
+///
+/// # Errors
+///
+/// Those of the output.
 pub(crate) fn print_times(
     rt: &HostRuntime,
     before: &str,
@@ -50,8 +58,8 @@ pub(crate) fn print_times(
         );
     };
     let ((first, time), (second, other)) = (times.first, times.second);
-    let (time, time_tenths) = in_tenths(time, 1_000_000);
-    let (other, other_tenths) = in_tenths(other, 1_000_000);
+    let (time, time_tenths) = quotient_in_tenths(time, 1_000_000);
+    let (other, other_tenths) = quotient_in_tenths(other, 1_000_000);
     println!(rt;
         "{}: {first} ms {time}.{time_tenths}, {second} ms {other}.{other_tenths}",
         times.name.as_str()

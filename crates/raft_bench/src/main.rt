@@ -20,21 +20,25 @@ use raft_recover::command_words;
 use std::io;
 
 /// Times what the words name, and prints the times.
+///
+/// # Errors
+///
+/// Those of the words and of the output.
 fn main(rt: HostRuntime) -> io::Result<()> {
     let words = command_words(&rt)?;
     match words.as_slice().split_first() {
         Some((word, _)) if word.as_str() == "recover" => {
-            print_timed(&rt, "", recovery::time_recovery(&rt, words.as_slice()))
+            print_times_or_error(&rt, "", recovery::time_recovery(&rt, words.as_slice()))
         }
         Some((word, behind)) if word.as_str() == "merge" => {
-            print_timed(&rt, "merge ", merges::time_merges(&rt, behind))
+            print_times_or_error(&rt, "merge ", merges::time_merges(&rt, behind))
         }
         _ => {
             for word in &words {
                 let timed = if word.as_str() == "shared" {
                     shared::time_shared_tables(&rt, rt.alloc())
                 } else {
-                    time_word(&rt, word.as_str())
+                    time_named_work(&rt, word.as_str())
                 };
                 print_error(&rt, timed)?;
             }
@@ -43,15 +47,27 @@ fn main(rt: HostRuntime) -> io::Result<()> {
     }
 }
 
-/// Prints what was timed of a log, or why nothing was.
-fn print_timed(rt: &HostRuntime, before: &str, times: Result<Option<LogTimes>>) -> io::Result<()> {
+/// Prints `times`, what was timed of a log, or why nothing was.
+///
+/// # Errors
+///
+/// Those of the output.
+fn print_times_or_error(
+    rt: &HostRuntime,
+    before: &str,
+    times: Result<Option<LogTimes>>,
+) -> io::Result<()> {
     match times {
         Ok(times) => print_times(rt, before, times),
         Err(e) => print_error(rt, Err(e)),
     }
 }
 
-/// Prints why nothing was timed, if it wasn't.
+/// Prints the error of `timed`, if it is one.
+///
+/// # Errors
+///
+/// Those of the output.
 fn print_error(rt: &HostRuntime, timed: Result<()>) -> io::Result<()> {
     match timed {
         Ok(()) => Ok(()),
@@ -59,8 +75,12 @@ fn print_error(rt: &HostRuntime, timed: Result<()>) -> io::Result<()> {
     }
 }
 
-/// Times what a word names, and prints a line for each work.
-fn time_word(rt: &HostRuntime, word: &str) -> Result<()> {
+/// Times what `word` names, and prints a line for each work. Prints the usage for other words.
+///
+/// # Errors
+///
+/// Those of what is timed, and of the output.
+fn time_named_work(rt: &HostRuntime, word: &str) -> Result<()> {
     match word {
         "crc32" => checksum::time_checksums(rt),
         "varint" => numbers::time_numbers(rt),

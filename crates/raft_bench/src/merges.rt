@@ -1,7 +1,7 @@
 //! Times the merging of contexts beside the reading of their batches, all on one thread.
 
 use crate::logs::{LogTimes, read_log};
-use crate::timing::{best_of, time_work};
+use crate::timing::{best_times, time_work};
 use raft_memtable::{LogQueue, MemTableRecoverContext};
 use raft_records::Result;
 use raft_recover::shares::equal_shares;
@@ -13,9 +13,13 @@ use std::time::Clock;
 /// How many contexts are merged, by halves.
 const CONTEXTS: usize = 4;
 
-/// Times how long four contexts take to read a quarter of the files each, and to be merged by halves. The words
-/// are those of `raftlog recover`; nothing is timed where they are others, or where the files have fewer than
+/// Times how long four contexts take to read a quarter of the files each, and to be merged by halves. The
+/// words are those of `raftlog recover`. Returns `None` for other words, and if the files have fewer than
 /// four batches.
+///
+/// # Errors
+///
+/// Those of reading the files, of [`time_run`], and `Memory`.
 pub(crate) fn time_merges<R: Files + AllocGlobal + Clock>(
     rt: &R,
     words: &[String],
@@ -27,7 +31,7 @@ pub(crate) fn time_merges<R: Files + AllocGlobal + Clock>(
     let Ok(quarters) = <&[Segment; CONTEXTS]>::try_from(quarters.as_slice()) else {
         return Ok(None);
     };
-    let ([reading, merging], ()) = best_of(|| time_run(rt, quarters, log.queue))?;
+    let ([reading, merging], ()) = best_times(|| time_run(rt, quarters, log.queue))?;
     Ok(Some(LogTimes {
         name: format!(in rt.alloc(); "four contexts on one thread")?,
         first: ("reading best", reading),
@@ -35,7 +39,11 @@ pub(crate) fn time_merges<R: Files + AllocGlobal + Clock>(
     }))
 }
 
-/// Returns how long one reading takes, and one merging.
+/// Returns how many nanoseconds it takes to read `quarters`, and to merge what was read.
+///
+/// # Errors
+///
+/// Those of the readings and the merges; `Io` for the clock.
 fn time_run<R: AllocGlobal + Clock>(
     rt: &R,
     quarters: &[Segment; CONTEXTS],
@@ -51,7 +59,11 @@ fn time_run<R: AllocGlobal + Clock>(
 /// The contexts of two quarters of the files, one behind the other.
 type Half = (MemTableRecoverContext, MemTableRecoverContext);
 
-/// Returns a context for each quarter of the files.
+/// Returns a context for each of `quarters`, which has read it.
+///
+/// # Errors
+///
+/// Those of [`read_segment`].
 fn read_quarters(alloc: Global, quarters: &[Segment; CONTEXTS]) -> Result<(Half, Half)> {
     let older = (
         read_segment(alloc, &quarters[0])?,
@@ -64,20 +76,32 @@ fn read_quarters(alloc: Global, quarters: &[Segment; CONTEXTS]) -> Result<(Half,
     Ok((older, newer))
 }
 
-/// Returns a context of this segment.
+/// Returns a context that has read `segment`.
+///
+/// # Errors
+///
+/// Those of [`replay_segment`]; `Memory`.
 fn read_segment(alloc: Global, segment: &Segment) -> Result<MemTableRecoverContext> {
     let mut context = MemTableRecoverContext::new(alloc)?;
     replay_segment(&mut context, segment)?;
     Ok(context)
 }
 
-/// Merges the contexts of each half, and then both of these.
+/// Merges the contexts of the halves `older` and `newer`, and then both of these: the work that is timed.
+///
+/// # Errors
+///
+/// Those of [`MemTableRecoverContext::merge`].
 fn merge_by_halves(older: Half, newer: Half, queue: LogQueue) -> Result<()> {
     let mut older = merge_half(older, queue)?;
     older.merge(merge_half(newer, queue)?, queue)
 }
 
-/// Merges the contexts of a half.
+/// Merges the two contexts of `half`, and returns the result.
+///
+/// # Errors
+///
+/// Those of [`MemTableRecoverContext::merge`].
 fn merge_half(half: Half, queue: LogQueue) -> Result<MemTableRecoverContext> {
     let (mut older, newer) = half;
     older.merge(newer, queue)?;

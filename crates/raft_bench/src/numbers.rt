@@ -1,6 +1,6 @@
 //! Times numbers in base 128.
 
-use crate::timing::{Noise, best_of, print_line, time_work};
+use crate::timing::{Noise, best_times, print_time_and_speed, time_work};
 use raft_records::Result;
 use raft_records::codec::{BytesSlice, NumberEncoder, decode_var_u64};
 use std::io;
@@ -9,6 +9,10 @@ use std::io;
 const COUNT: usize = 1_000_000;
 
 /// Times the writing and reading of numbers of several lengths.
+///
+/// # Errors
+///
+/// `Memory`; `Io` for the clock or the output.
 pub(crate) fn time_numbers(rt: &HostRuntime) -> Result<()> {
     for &bits in &[7u32, 14, 28, 56, 64] {
         let mut noise = Noise::new();
@@ -21,10 +25,14 @@ pub(crate) fn time_numbers(rt: &HostRuntime) -> Result<()> {
     Ok(())
 }
 
-/// Times the writing and reading of numbers of `bits` bits.
+/// Times the writing and reading of numbers of `bits` bits, and prints a line for each.
+///
+/// # Errors
+///
+/// `Memory`; `Io` for the clock or the output.
 fn time_length(rt: &HostRuntime, bits: u32, numbers: &[u64]) -> Result<()> {
     let mut bytes = Vec::with_capacity(rt.alloc(), 10 * COUNT)?;
-    let ([writing, reading], sum) = best_of(|| -> io::Result<_> {
+    let ([writing, reading], sum) = best_times(|| -> io::Result<_> {
         bytes.clear();
         let (writing, ()) = time_work(rt, || write_numbers(&mut bytes, numbers))?;
         let (reading, sum) = time_work(rt, || sum_numbers(bytes.as_slice()))?;
@@ -32,13 +40,14 @@ fn time_length(rt: &HostRuntime, bits: u32, numbers: &[u64]) -> Result<()> {
     })?;
     let len = bytes.len();
     let name = format!(in rt.alloc(); "encode_var_u64, {bits} bits")?;
-    print_line(rt, name.as_str(), writing, "number", COUNT, len)?;
+    print_time_and_speed(rt, name.as_str(), writing, "number", COUNT, len)?;
     let name = format!(in rt.alloc(); "decode_var_u64, {bits} bits (sum {sum})")?;
-    print_line(rt, name.as_str(), reading, "number", COUNT, len)?;
+    print_time_and_speed(rt, name.as_str(), reading, "number", COUNT, len)?;
     Ok(())
 }
 
-/// Appends the bytes of the numbers, up to the first one that can't be written.
+/// Appends the bytes of `numbers` to `bytes`, up to the first one that can't be written: the work that is
+/// timed.
 fn write_numbers(bytes: &mut Vec<u8>, numbers: &[u64]) {
     for number in numbers {
         if bytes.encode_var_u64(*number).is_err() {
@@ -47,7 +56,7 @@ fn write_numbers(bytes: &mut Vec<u8>, numbers: &[u64]) {
     }
 }
 
-/// Returns the sum of the numbers, held in 64 bits.
+/// Returns the sum of the numbers that `bytes` have, modulo 2^64: the work that is timed.
 fn sum_numbers(bytes: BytesSlice<'_>) -> u64 {
     let mut rest = bytes;
     let mut sum = 0u64;

@@ -11,8 +11,12 @@ use std::time::Clock;
 /// How often a recovery is timed.
 const RUNS: usize = 15;
 
-/// Times how long it takes from the bytes of files in memory to the tables of all regions. The words are those of
-/// `raftlog recover`; nothing is timed where they are others.
+/// Times how long it takes from the bytes of files in memory to the tables of all regions. The words are
+/// those of `raftlog recover`. Returns `None` for other words.
+///
+/// # Errors
+///
+/// Those of reading the files and of [`time_run`]; `Memory`.
 pub(crate) fn time_recovery<R: Threads + Files + AllocGlobal + Clock + Sync>(
     rt: &R,
     words: &[String],
@@ -34,7 +38,11 @@ pub(crate) fn time_recovery<R: Threads + Files + AllocGlobal + Clock + Sync>(
     }))
 }
 
-/// Returns how long a recovery takes, and how many regions have a table then.
+/// Returns how many nanoseconds one recovery of `log` takes, and how many regions have a table then.
+///
+/// # Errors
+///
+/// Those of [`recover`]; `Io` for the clock; `Memory`.
 fn time_run<R: Threads + AllocGlobal + Clock + Sync>(rt: &R, log: &Log) -> Result<(u64, usize)> {
     let (alloc, segments) = (rt.alloc(), log.segments.as_slice());
     let (taken, tables) = time_work(rt, || recover(rt, alloc, segments, log.queue, log.workers))?;

@@ -1,7 +1,7 @@
 //! Times tables that threads share.
 
 use crate::tables::{APPENDED, run_from};
-use crate::timing::{Noise, best_of, print_time_per_unit, time_work};
+use crate::timing::{Noise, best_times, print_time_per_unit, time_work};
 use raft_memtable::{AllocResult, MemTable, MemTableAccessor, Result, TableChange};
 use raft_recover::SharedAccessor;
 use std::alloc::Global;
@@ -22,23 +22,32 @@ const RUN: u64 = 8;
 /// How many tables are looked up.
 const LOOKUPS: u64 = 1_000_000;
 
-/// Times appends of some threads, and look-ups beside those of an accessor.
+/// Times appends to shared tables by several threads, and look-ups beside those of an accessor.
+///
+/// # Errors
+///
+/// `Memory`; `Io` for the clock or the output; those of the tables.
 pub(crate) fn time_shared_tables<R: Threads + Wait + Clock + Print + Sync>(
     rt: &R,
     alloc: Global,
 ) -> Result<()> {
     for &threads in &[1, 2, 4] {
-        let (best, ()) = best_of(|| append_once(rt, alloc, threads))?;
+        let (best, ()) = best_times(|| time_append_by_threads(rt, alloc, threads))?;
         let name = format!(in alloc;
             "append to shared tables by {threads} threads, 8 entries a call"
         )?;
         print_time_per_unit(rt, name.as_str(), best, "entry", REGIONS * ROUNDS * RUN)?;
     }
-    time_looks(rt, alloc)
+    time_table_lookups(rt, alloc)
 }
 
-/// Returns how long some threads take to append to all regions, each to its share of them.
-fn append_once<R: Threads + Wait + Clock + Sync>(
+/// Returns how many nanoseconds `threads` threads take to append to all regions, each thread to its share of
+/// them.
+///
+/// # Errors
+///
+/// `Memory`; `Io` for the clock; those of [`append_share`].
+fn time_append_by_threads<R: Threads + Wait + Clock + Sync>(
     rt: &R,
     alloc: Global,
     threads: u64,
@@ -55,7 +64,11 @@ fn append_once<R: Threads + Wait + Clock + Sync>(
     Ok((taken, ()))
 }
 
-/// Appends to every region whose number leaves this thread's when it is divided by how many there are.
+/// Appends all runs of the regions of one thread: those whose number, divided by `threads`, leaves `thread`.
+///
+/// # Errors
+///
+/// Those of [`SharedAccessor::change`]; `Memory`.
 fn append_share<R: Wait>(
     rt: &R,
     alloc: Global,
@@ -73,7 +86,11 @@ fn append_share<R: Wait>(
     Ok(())
 }
 
-/// Picks regions without a pattern.
+/// Returns the regions to look up, picked without a pattern.
+///
+/// # Errors
+///
+/// `AllocError` if there is no memory for them.
 fn picked_regions(alloc: Global) -> AllocResult<Vec<u64>> {
     let mut noise = Noise::new();
     let mut picks = Vec::with_capacity(alloc, LOOKUPS as usize)?;
@@ -83,7 +100,11 @@ fn picked_regions(alloc: Global) -> AllocResult<Vec<u64>> {
     Ok(picks)
 }
 
-/// Returns an accessor in which each region has a run.
+/// Returns an accessor in which each region has one run.
+///
+/// # Errors
+///
+/// Those of [`MemTableAccessor::change`]; `Memory`.
 fn full_accessor(alloc: Global) -> Result<MemTableAccessor> {
     let mut core = MemTableAccessor::new(alloc)?;
     for region in 0..REGIONS {
@@ -93,13 +114,17 @@ fn full_accessor(alloc: Global) -> Result<MemTableAccessor> {
     Ok(core)
 }
 
-/// Returns the same tables, shared.
+/// Returns shared tables in which each region has one run.
+///
+/// # Errors
+///
+/// Those of [`full_accessor`]; `Memory`.
 fn full_shared(alloc: Global) -> Result<SharedAccessor> {
     SharedAccessor::from_core(alloc, full_accessor(alloc)?)
 }
 
-/// Returns the last indexes of regions, added up.
-fn last_of_all(core: &MemTableAccessor, picks: &[u64]) -> u64 {
+/// Returns the sum of the last indexes of the regions `picks` in `core`, modulo 2^64: the work that is timed.
+fn sum_last_indexes(core: &MemTableAccessor, picks: &[u64]) -> u64 {
     let mut sum = 0u64;
     for region in picks {
         if let Some(last) = core.get(*region).and_then(|table| table.last_index()) {
@@ -109,8 +134,8 @@ fn last_of_all(core: &MemTableAccessor, picks: &[u64]) -> u64 {
     sum
 }
 
-/// Returns the last indexes of regions in shared tables, added up.
-fn shared_last_of_all<R: Wait>(rt: &R, shared: &SharedAccessor, picks: &[u64]) -> u64 {
+/// Does what [`sum_last_indexes`] does with the tables of `shared`.
+fn sum_shared_last_indexes<R: Wait>(rt: &R, shared: &SharedAccessor, picks: &[u64]) -> u64 {
     let mut sum = 0u64;
     for region in picks {
         let last = shared.with_table(rt, *region, |table: &MemTable| table.last_index());
@@ -121,10 +146,14 @@ fn shared_last_of_all<R: Wait>(rt: &R, shared: &SharedAccessor, picks: &[u64]) -
     sum
 }
 
-/// Times look-ups of tables.
-fn time_looks<R: Wait + Clock + Print>(rt: &R, alloc: Global) -> Result<()> {
+/// Times look-ups of tables in an accessor and in shared tables.
+///
+/// # Errors
+///
+/// `Memory`; `Io` for the clock or the output; those of the tables.
+fn time_table_lookups<R: Wait + Clock + Print>(rt: &R, alloc: Global) -> Result<()> {
     let picks = picked_regions(alloc)?;
-    time_looks_in_turn(
+    time_table_lookups_in_turn(
         rt,
         &full_accessor(alloc)?,
         &full_shared(alloc)?,
@@ -132,16 +161,21 @@ fn time_looks<R: Wait + Clock + Print>(rt: &R, alloc: Global) -> Result<()> {
     )
 }
 
-/// Times look-ups of these tables in turn.
-fn time_looks_in_turn<R: Wait + Clock + Print>(
+/// Times look-ups of the tables of the regions `picks` in `core` and in `shared`, in turn, and prints a line
+/// for each.
+///
+/// # Errors
+///
+/// `Io` for the clock or the output.
+fn time_table_lookups_in_turn<R: Wait + Clock + Print>(
     rt: &R,
     core: &MemTableAccessor,
     shared: &SharedAccessor,
     picks: &[u64],
 ) -> Result<()> {
-    let ([get, with_table], (got, seen)) = best_of(|| -> Result<_> {
-        let (get, got) = time_work(rt, || last_of_all(core, picks))?;
-        let (with_table, seen) = time_work(rt, || shared_last_of_all(rt, shared, picks))?;
+    let ([get, with_table], (got, seen)) = best_times(|| -> Result<_> {
+        let (get, got) = time_work(rt, || sum_last_indexes(core, picks))?;
+        let (with_table, seen) = time_work(rt, || sum_shared_last_indexes(rt, shared, picks))?;
         Ok(([get, with_table], (got, seen)))
     })?;
     let looked = LOOKUPS.min(got).min(seen);

@@ -2,7 +2,7 @@
 
 ghost use Rattle.raft_memtable.specs.Table.{IsCounted};
 
-use crate::timing::{Noise, best_of, print_time_per_unit, time_work};
+use crate::timing::{Noise, best_times, print_time_per_unit, time_work};
 use raft_memtable::{
     AllocResult, Block, EntryIndex, FileBlockHandle, FileId, GlobalStats, LogQueue, MemTable,
     Result, is_run,
@@ -53,7 +53,7 @@ pub(crate) struct Region {
 type Pair = (Vec<u8>, Vec<u8>);
 
 impl Region {
-    /// Makes a region without records.
+    /// Returns the region `region_id`, without records.
     pub(crate) fn new(alloc: Global, region_id: u64) -> Region {
         Region {
             table: MemTable::new(alloc, region_id),
@@ -61,7 +61,11 @@ impl Region {
         }
     }
 
-    /// Appends a list, if it is a run.
+    /// Appends the list `run`, if it is a run of the append queue.
+    ///
+    /// # Errors
+    ///
+    /// Those of [`MemTable::append`].
     pub(crate) fn append(&mut self, run: Vec<EntryIndex>) -> Result<()> {
         if is_run(&run, LogQueue::Append) {
             self.table.append(run, &mut self.stats)?;
@@ -69,7 +73,11 @@ impl Region {
         Ok(())
     }
 
-    /// Rewrites the places in files up to the first to those of a list, if it is a run.
+    /// Gives the entries of append file 1 the places of the list `run`, if it is a run of the rewrite queue.
+    ///
+    /// # Errors
+    ///
+    /// Those of [`MemTable::rewrite`].
     pub(crate) fn rewrite(&mut self, run: Vec<EntryIndex>) -> Result<()> {
         if is_run(&run, LogQueue::Rewrite) {
             self.table.rewrite(run, Some(1), &mut self.stats)?;
@@ -77,7 +85,11 @@ impl Region {
         Ok(())
     }
 
-    /// Moves the records of a newer table of the same region into this one.
+    /// Moves the records of `newer` into this table, if both are of one region.
+    ///
+    /// # Errors
+    ///
+    /// Those of [`MemTable::merge_newer_neighbor`].
     pub(crate) fn merge(&mut self, newer: Region) -> Result<()> {
         let mut table = newer.table;
         if self.table.region_id() == table.region_id() {
@@ -92,23 +104,31 @@ impl Region {
         self.table.blocks()
     }
 
-    /// Drops the entries below an index, and returns how many they are.
+    /// Drops the entries below `index`, and returns how many they were.
     fn compact_to(&mut self, index: u64) -> u64 {
         self.table.compact_to(index, &mut self.stats)
     }
 
-    /// Puts a pair as one of the append file 1.
+    /// Puts the key and the value of `pair`, as those of append file 1.
+    ///
+    /// # Errors
+    ///
+    /// Those of [`MemTable::put`].
     fn put(&mut self, pair: Pair) -> Result<()> {
         self.table.put(pair.0, pair.1, APPENDED, &mut self.stats)
     }
 
-    /// Deletes a key.
+    /// Deletes `key`, with its value.
     fn delete(&mut self, key: &[u8]) {
         self.table.delete(key, &mut self.stats);
     }
 }
 
 /// Times each call of a table that a log store makes often.
+///
+/// # Errors
+///
+/// Those of the clock and of the output, and want of memory.
 pub(crate) fn time_tables(rt: &HostRuntime) -> io::Result<()> {
     time_append(rt)?;
     time_compact_to(rt)?;
@@ -118,7 +138,11 @@ pub(crate) fn time_tables(rt: &HostRuntime) -> io::Result<()> {
     time_key_reads(rt)
 }
 
-/// Returns the entries from `first` on, in one block of a file.
+/// Returns `len` entries, whose indexes rise from `first` on, in one block of the file `id`.
+///
+/// # Errors
+///
+/// `AllocError` if there is no memory for them.
 pub(crate) fn run_from(
     alloc: Global,
     first: u64,
@@ -141,7 +165,11 @@ pub(crate) fn run_from(
     Ok(run)
 }
 
-/// Makes regions without records.
+/// Returns regions without records.
+///
+/// # Errors
+///
+/// `AllocError` if there is no memory for them.
 pub(crate) fn empty_regions(alloc: Global) -> AllocResult<Vec<Region>> {
     let mut regions = Vec::new(alloc);
     for id in 0..REGIONS {
@@ -150,7 +178,12 @@ pub(crate) fn empty_regions(alloc: Global) -> AllocResult<Vec<Region>> {
     Ok(regions)
 }
 
-/// Returns runs of `len` entries of a file for so many regions in turn, one after the other in each.
+/// Returns runs of `len` entries of `file` for `regions` regions in turn, one behind the other in each
+/// region, up to `entries` entries.
+///
+/// # Errors
+///
+/// `AllocError` if there is no memory for them.
 pub(crate) fn runs(
     alloc: Global,
     regions: u64,
@@ -169,8 +202,9 @@ pub(crate) fn runs(
     Ok(runs)
 }
 
-/// Appends each run to the region whose turn it is. Returns how many were accepted.
-pub(crate) fn append_all(regions: &mut Vec<Region>, runs: Vec<Vec<EntryIndex>>) -> u64 {
+/// Appends each of `runs` to the one of `regions` whose turn it is: the work that is timed. Returns how many
+/// were accepted.
+pub(crate) fn append_all_runs(regions: &mut Vec<Region>, runs: Vec<Vec<EntryIndex>>) -> u64 {
     let mut turn = 0;
     let mut accepted = 0u64;
     for run in runs {
@@ -187,24 +221,36 @@ pub(crate) fn append_all(regions: &mut Vec<Region>, runs: Vec<Vec<EntryIndex>>) 
     accepted
 }
 
-/// Returns runs for all regions.
+/// Returns runs of 8 entries for all regions in turn.
+///
+/// # Errors
+///
+/// `AllocError` if there is no memory for them.
 fn all_runs(alloc: Global) -> AllocResult<Vec<Vec<EntryIndex>>> {
     runs(alloc, REGIONS, ENTRIES, RUN, APPENDED)
 }
 
-/// Makes regions with all their entries.
+/// Returns regions with all their entries.
+///
+/// # Errors
+///
+/// `AllocError` if there is no memory for them.
 fn full_regions(alloc: Global) -> AllocResult<Vec<Region>> {
     let mut regions = empty_regions(alloc)?;
-    append_all(&mut regions, all_runs(alloc)?);
+    append_all_runs(&mut regions, all_runs(alloc)?);
     Ok(regions)
 }
 
 /// Times appends of runs to all regions in turn.
+///
+/// # Errors
+///
+/// Those of the clock and of the output, and want of memory.
 fn time_append(rt: &HostRuntime) -> io::Result<()> {
-    let (best, _) = best_of(|| {
+    let (best, _) = best_times(|| {
         let mut regions = empty_regions(rt.alloc())?;
         let runs = all_runs(rt.alloc())?;
-        time_work(rt, || append_all(&mut regions, runs))
+        time_work(rt, || append_all_runs(&mut regions, runs))
     })?;
     print_time_per_unit(
         rt,
@@ -215,8 +261,8 @@ fn time_append(rt: &HostRuntime) -> io::Result<()> {
     )
 }
 
-/// Compacts all regions to an index. Returns how many entries were dropped.
-fn compact_each(regions: &mut Vec<Region>, index: u64) -> u64 {
+/// Compacts all regions to `index`. Returns how many entries were dropped.
+fn compact_each_region(regions: &mut Vec<Region>, index: u64) -> u64 {
     let mut dropped = 0u64;
     for region in regions.iter_mut() {
         dropped = dropped.saturating_add(region.compact_to(index));
@@ -224,20 +270,24 @@ fn compact_each(regions: &mut Vec<Region>, index: u64) -> u64 {
     dropped
 }
 
-/// Compacts all regions step by step. Returns how many entries were dropped.
-fn compact_all(regions: &mut Vec<Region>) -> u64 {
+/// Compacts all `regions` step by step: the work that is timed. Returns how many entries were dropped.
+fn compact_regions_by_steps(regions: &mut Vec<Region>) -> u64 {
     let mut dropped = 0u64;
     for step in 1..=ENTRIES / STEP {
-        dropped = dropped.saturating_add(compact_each(regions, 1 + step * STEP));
+        dropped = dropped.saturating_add(compact_each_region(regions, 1 + step * STEP));
     }
     dropped
 }
 
 /// Times compactions of all regions, step by step.
+///
+/// # Errors
+///
+/// Those of the clock and of the output, and want of memory.
 fn time_compact_to(rt: &HostRuntime) -> io::Result<()> {
-    let (best, dropped) = best_of(|| {
+    let (best, dropped) = best_times(|| {
         let mut regions = full_regions(rt.alloc())?;
-        time_work(rt, || compact_all(&mut regions))
+        time_work(rt, || compact_regions_by_steps(&mut regions))
     })?;
     print_time_per_unit(
         rt,
@@ -248,8 +298,12 @@ fn time_compact_to(rt: &HostRuntime) -> io::Result<()> {
     )
 }
 
-/// Picks places in regions without a pattern: a region's place, and an index with so many entries
-/// after it.
+/// Returns `count` places in regions, picked without a pattern: the number of a region, and an index behind
+/// which it has `behind` entries.
+///
+/// # Errors
+///
+/// `AllocError` if there is no memory for them.
 fn picked_places(
     alloc: Global,
     noise: &mut Noise,
@@ -265,7 +319,7 @@ fn picked_places(
     Ok(picks)
 }
 
-/// Returns how many of these entries there are.
+/// Looks up the entries at the places `picks`, and returns how many there are: the work that is timed.
 pub(crate) fn count_found(regions: &[Region], picks: &[(usize, u64)]) -> u64 {
     let mut count = 0u64;
     for (region, index) in picks {
@@ -278,7 +332,8 @@ pub(crate) fn count_found(regions: &[Region], picks: &[(usize, u64)]) -> u64 {
     count
 }
 
-/// Returns how many entries fetches from these places on give.
+/// Fetches 64 entries from each of the places `picks` on into `entries`, and returns how many come: the work
+/// that is timed.
 fn count_fetched(regions: &[Region], picks: &[(usize, u64)], entries: &mut Vec<EntryIndex>) -> u64 {
     let mut count = 0u64;
     for (region, index) in picks {
@@ -298,6 +353,10 @@ fn count_fetched(regions: &[Region], picks: &[(usize, u64)], entries: &mut Vec<E
 }
 
 /// Times look-ups and fetches of entries at places without a pattern.
+///
+/// # Errors
+///
+/// Those of the clock and of the output, and want of memory.
 fn time_reads(rt: &HostRuntime) -> io::Result<()> {
     let regions = full_regions(rt.alloc())?;
     let mut noise = Noise::new();
@@ -311,7 +370,12 @@ fn time_reads(rt: &HostRuntime) -> io::Result<()> {
     )
 }
 
-/// Times look-ups and fetches of entries in turn.
+/// Times look-ups of the entries at the places `entries` and fetches from the places `fetches` on, in turn,
+/// and prints a line for each.
+///
+/// # Errors
+///
+/// Those of the clock and of the output, and want of memory.
 fn time_lookups(
     rt: &HostRuntime,
     regions: &[Region],
@@ -319,7 +383,7 @@ fn time_lookups(
     fetches: &[(usize, u64)],
 ) -> io::Result<()> {
     let mut out = Vec::with_capacity(rt.alloc(), FETCH as usize)?;
-    let ([get, fetch], (got, given)) = best_of(|| -> io::Result<_> {
+    let ([get, fetch], (got, given)) = best_times(|| -> io::Result<_> {
         let (get, got) = time_work(rt, || count_found(regions, entries))?;
         let (fetch, given) = time_work(rt, || count_fetched(regions, fetches, &mut out))?;
         Ok(([get, fetch], (got, given)))
@@ -328,8 +392,8 @@ fn time_lookups(
     print_time_per_unit(rt, "fetch_entries_to, 64 a call", fetch, "entry", given)
 }
 
-/// Rewrites each region whole.
-fn rewrite_all(regions: &mut Vec<Region>, runs: Vec<Vec<EntryIndex>>) {
+/// Rewrites each of `regions` as a whole, to the places of its run: the work that is timed.
+fn rewrite_all_regions(regions: &mut Vec<Region>, runs: Vec<Vec<EntryIndex>>) {
     for (region, run) in regions.iter_mut().zip(runs) {
         if region.rewrite(run).is_err() {
             return;
@@ -338,11 +402,15 @@ fn rewrite_all(regions: &mut Vec<Region>, runs: Vec<Vec<EntryIndex>>) {
 }
 
 /// Times rewritings of whole tables.
+///
+/// # Errors
+///
+/// Those of the clock and of the output, and want of memory.
 fn time_rewrite(rt: &HostRuntime) -> io::Result<()> {
-    let (best, ()) = best_of(|| {
+    let (best, ()) = best_times(|| {
         let mut regions = full_regions(rt.alloc())?;
         let runs = runs(rt.alloc(), REGIONS, ENTRIES, ENTRIES, REWRITTEN)?;
-        time_work(rt, || rewrite_all(&mut regions, runs))
+        time_work(rt, || rewrite_all_regions(&mut regions, runs))
     })?;
     print_time_per_unit(
         rt,
@@ -353,7 +421,11 @@ fn time_rewrite(rt: &HostRuntime) -> io::Result<()> {
     )
 }
 
-/// Makes keys of 8 bytes with values of 32.
+/// Returns keys of 8 bytes, with values of 32.
+///
+/// # Errors
+///
+/// `AllocError` if there is no memory for them.
 fn pairs(alloc: Global) -> AllocResult<Vec<Pair>> {
     let mut noise = Noise::new();
     let mut pairs = Vec::new(alloc);
@@ -364,8 +436,9 @@ fn pairs(alloc: Global) -> AllocResult<Vec<Pair>> {
     Ok(pairs)
 }
 
-/// Puts each pair into the region's table, as far as none is refused.
-fn put_all(region: &mut Region, pairs: Vec<Pair>) {
+/// Puts each of `pairs` into the table of `region`, up to the first one that is refused: the work that is
+/// timed.
+fn put_all_pairs(region: &mut Region, pairs: Vec<Pair>) {
     for pair in pairs {
         if region.put(pair).is_err() {
             return;
@@ -373,45 +446,62 @@ fn put_all(region: &mut Region, pairs: Vec<Pair>) {
     }
 }
 
-/// Deletes the key of each pair from the region's table.
-fn delete_all(region: &mut Region, pairs: &[Pair]) {
+/// Deletes the key of each of `pairs` from the table of `region`: the work that is timed.
+fn delete_all_pairs(region: &mut Region, pairs: &[Pair]) {
     for (key, _) in pairs {
         region.delete(key);
     }
 }
 
-/// Returns how long it takes to put all pairs into a table, to put them once more, and to delete
+/// Returns how many nanoseconds it takes to put all pairs into a table, to put them once more, and to delete
 /// them.
-fn change_keys(rt: &HostRuntime) -> io::Result<([u64; 3], ())> {
+///
+/// # Errors
+///
+/// Those of the clock, and want of memory.
+fn time_key_changes(rt: &HostRuntime) -> io::Result<([u64; 3], ())> {
     let mut region = Region::new(rt.alloc(), 1);
-    let new = put_pairs(rt, &mut region)?;
-    let old = put_pairs(rt, &mut region)?;
-    Ok(([new, old, delete_pairs(rt, &mut region)?], ()))
+    let new = time_pair_puts(rt, &mut region)?;
+    let old = time_pair_puts(rt, &mut region)?;
+    Ok(([new, old, time_pair_deletes(rt, &mut region)?], ()))
 }
 
-/// Returns how many nanoseconds it takes to put all pairs.
-fn put_pairs(rt: &HostRuntime, region: &mut Region) -> io::Result<u64> {
+/// Returns how many nanoseconds it takes to put all pairs into `region`.
+///
+/// # Errors
+///
+/// Those of the clock, and want of memory.
+fn time_pair_puts(rt: &HostRuntime, region: &mut Region) -> io::Result<u64> {
     let pairs = pairs(rt.alloc())?;
-    let (taken, ()) = time_work(rt, || put_all(region, pairs))?;
+    let (taken, ()) = time_work(rt, || put_all_pairs(region, pairs))?;
     Ok(taken)
 }
 
-/// Returns how many nanoseconds it takes to delete all keys.
-fn delete_pairs(rt: &HostRuntime, region: &mut Region) -> io::Result<u64> {
+/// Returns how many nanoseconds it takes to delete all keys of `region`.
+///
+/// # Errors
+///
+/// Those of the clock, and want of memory.
+fn time_pair_deletes(rt: &HostRuntime, region: &mut Region) -> io::Result<u64> {
     let pairs = pairs(rt.alloc())?;
-    let (taken, ()) = time_work(rt, || delete_all(region, pairs.as_slice()))?;
+    let (taken, ()) = time_work(rt, || delete_all_pairs(region, pairs.as_slice()))?;
     Ok(taken)
 }
 
-/// Times puts of new keys, puts of keys that stand, and deletions.
+/// Times puts of new keys, puts of keys that are there, and deletions.
+///
+/// # Errors
+///
+/// Those of the clock and of the output, and want of memory.
 fn time_puts(rt: &HostRuntime) -> io::Result<()> {
-    let ([new, old, delete], ()) = best_of(|| change_keys(rt))?;
+    let ([new, old, delete], ()) = best_times(|| time_key_changes(rt))?;
     print_time_per_unit(rt, "put, new keys, one table", new, "call", KEYS as u64)?;
     print_time_per_unit(rt, "put, keys that stand", old, "call", KEYS as u64)?;
     print_time_per_unit(rt, "delete", delete, "call", KEYS as u64)
 }
 
-/// Returns how many bytes the values of these keys have.
+/// Looks up the values of the keys of `pairs` in `table`, and returns how many bytes they have: the work that
+/// is timed.
 fn value_bytes(table: &MemTable, pairs: &[Pair]) -> usize {
     let mut bytes = 0usize;
     for (key, _) in pairs {
@@ -420,7 +510,7 @@ fn value_bytes(table: &MemTable, pairs: &[Pair]) -> usize {
     bytes
 }
 
-/// Returns how many bytes the keys and values of a table have.
+/// Scans `table`, and returns how many bytes its keys and values have: the work that is timed.
 fn scanned_bytes(table: &MemTable) -> usize {
     let mut bytes = 0usize;
     let scanned = table.scan(None, None, false, |key, value| {
@@ -433,23 +523,35 @@ fn scanned_bytes(table: &MemTable) -> usize {
     }
 }
 
-/// Times look-ups of keys and scans in one table.
+/// Times look-ups of keys and scans, in one table.
+///
+/// # Errors
+///
+/// Those of the clock and of the output, and want of memory.
 fn time_key_reads(rt: &HostRuntime) -> io::Result<()> {
     let mut region = Region::new(rt.alloc(), 1);
-    put_all(&mut region, pairs(rt.alloc())?);
+    put_all_pairs(&mut region, pairs(rt.alloc())?);
     time_gets(rt, &region.table)?;
     time_scans(rt, &region.table)
 }
 
-/// Times look-ups of keys.
+/// Times look-ups of all keys of `table`, and prints a line.
+///
+/// # Errors
+///
+/// Those of the clock and of the output, and want of memory.
 fn time_gets(rt: &HostRuntime, table: &MemTable) -> io::Result<()> {
     let keys = pairs(rt.alloc())?;
-    let (best, got) = best_of(|| time_work(rt, || value_bytes(table, keys.as_slice())))?;
+    let (best, got) = best_times(|| time_work(rt, || value_bytes(table, keys.as_slice())))?;
     print_time_per_unit(rt, "get", best, "call", (got / 32) as u64)
 }
 
-/// Times a scan of all pairs.
+/// Times a scan of all key values of `table`, and prints a line.
+///
+/// # Errors
+///
+/// Those of the clock and of the output.
 fn time_scans(rt: &HostRuntime, table: &MemTable) -> io::Result<()> {
-    let (best, scanned) = best_of(|| time_work(rt, || scanned_bytes(table)))?;
+    let (best, scanned) = best_times(|| time_work(rt, || scanned_bytes(table)))?;
     print_time_per_unit(rt, "scan", best, "pair", (scanned / 40) as u64)
 }

@@ -54,6 +54,7 @@ impl From<io::Error> for Error {
 
     ghost from_gives = { λ e r. r ≡ Io e };
 
+    /// Returns `Io` with this error, so that `?` passes on what a writer returned.
     fn from(e: io::Error) -> Error {
         Error::Io(e)
     }
@@ -63,7 +64,7 @@ impl Error {
     ghost use Rattle.std.specs.declared.io.ErrorKind.TheVariants.{UnexpectedEof};
     ghost use Rattle.raft_codec.specs.Errors.{IsIoOf};
 
-    /// Returns the error of bytes that end too early.
+    /// Returns the error for bytes that end too early: `Io` of the kind `UnexpectedEof`.
     pub fn unexpected_eof() -> Error
         ensures { IsIoOf result UnexpectedEof }
     {
@@ -77,7 +78,11 @@ pub type Result<T> = std::result::Result<T, Error>;
 /// Writes numbers to any writer. The error is the writer's, as `Error::Io`. The writer may have taken a part of
 /// the number's bytes before it.
 pub trait NumberEncoder: Write {
-    /// Writes `v` in eight bytes, the highest first: they order as the numbers do.
+    /// Writes `v` in eight bytes, the highest first, so that bytes order as the numbers do.
+    ///
+    /// # Errors
+    ///
+    /// `Io` if the writer fails. It may have taken a part of the bytes then.
     final fn encode_u64(&mut self, v: u64) -> Result<()>
     where
         Self: Sized,
@@ -89,7 +94,11 @@ pub trait NumberEncoder: Write {
         Ok(())
     }
 
-    /// Writes `v` in four bytes, the highest first.
+    /// Writes `v` in four bytes, the highest first, so that bytes order as the numbers do.
+    ///
+    /// # Errors
+    ///
+    /// `Io` if the writer fails. It may have taken a part of the bytes then.
     final fn encode_u32(&mut self, v: u32) -> Result<()>
     where
         Self: Sized,
@@ -101,7 +110,11 @@ pub trait NumberEncoder: Write {
         Ok(())
     }
 
-    /// Writes `v` in two bytes, the highest first.
+    /// Writes `v` in two bytes, the highest first, so that bytes order as the numbers do.
+    ///
+    /// # Errors
+    ///
+    /// `Io` if the writer fails. It may have taken a part of the bytes then.
     final fn encode_u16(&mut self, v: u16) -> Result<()>
     where
         Self: Sized,
@@ -113,8 +126,12 @@ pub trait NumberEncoder: Write {
         Ok(())
     }
 
-    /// Writes `v` in eight bytes that order in reverse of the numbers: every bit complemented, the
-    /// highest byte first.
+    /// Writes `v` in eight bytes that order in reverse of the numbers: every bit complemented, the highest
+    /// byte first.
+    ///
+    /// # Errors
+    ///
+    /// `Io` if the writer fails. It may have taken a part of the bytes then.
     final fn encode_u64_desc(&mut self, v: u64) -> Result<()>
     where
         Self: Sized,
@@ -126,8 +143,12 @@ pub trait NumberEncoder: Write {
         Ok(())
     }
 
-    /// Writes `v` in eight bytes that order as the numbers do: two's complement with the sign bit
-    /// flipped, the highest byte first.
+    /// Writes `v` in eight bytes that order as the numbers do: two's complement with the sign bit flipped,
+    /// the highest byte first.
+    ///
+    /// # Errors
+    ///
+    /// `Io` if the writer fails. It may have taken a part of the bytes then.
     final fn encode_i64(&mut self, v: i64) -> Result<()>
     where
         Self: Sized,
@@ -139,7 +160,12 @@ pub trait NumberEncoder: Write {
         Ok(())
     }
 
-    /// Writes the bytes of `encode_i64` with every bit complemented: they order in reverse of the numbers.
+    /// Writes `v` in the bytes of [`NumberEncoder::encode_i64`] with every bit complemented, so that they
+    /// order in reverse of the numbers.
+    ///
+    /// # Errors
+    ///
+    /// `Io` if the writer fails. It may have taken a part of the bytes then.
     final fn encode_i64_desc(&mut self, v: i64) -> Result<()>
     where
         Self: Sized,
@@ -152,6 +178,10 @@ pub trait NumberEncoder: Write {
     }
 
     /// Writes `v` in two bytes, the lowest first.
+    ///
+    /// # Errors
+    ///
+    /// `Io` if the writer fails. It may have taken a part of the bytes then.
     final fn encode_u16_le(&mut self, v: u16) -> Result<()>
     where
         Self: Sized,
@@ -164,6 +194,10 @@ pub trait NumberEncoder: Write {
     }
 
     /// Writes `v` in four bytes, the lowest first.
+    ///
+    /// # Errors
+    ///
+    /// `Io` if the writer fails. It may have taken a part of the bytes then.
     final fn encode_u32_le(&mut self, v: u32) -> Result<()>
     where
         Self: Sized,
@@ -176,6 +210,10 @@ pub trait NumberEncoder: Write {
     }
 
     /// Writes `v` in eight bytes, the lowest first.
+    ///
+    /// # Errors
+    ///
+    /// `Io` if the writer fails. It may have taken a part of the bytes then.
     final fn encode_u64_le(&mut self, v: u64) -> Result<()>
     where
         Self: Sized,
@@ -187,7 +225,11 @@ pub trait NumberEncoder: Write {
         Ok(())
     }
 
-    /// Writes `v` as two's complement in four bytes, the lowest first.
+    /// Writes `v` in two's complement in four bytes, the lowest first.
+    ///
+    /// # Errors
+    ///
+    /// `Io` if the writer fails. It may have taken a part of the bytes then.
     final fn encode_i32_le(&mut self, v: i32) -> Result<()>
     where
         Self: Sized,
@@ -199,7 +241,11 @@ pub trait NumberEncoder: Write {
         Ok(())
     }
 
-    /// Writes `v` as two's complement in eight bytes, the lowest first.
+    /// Writes `v` in two's complement in eight bytes, the lowest first.
+    ///
+    /// # Errors
+    ///
+    /// `Io` if the writer fails. It may have taken a part of the bytes then.
     final fn encode_i64_le(&mut self, v: i64) -> Result<()>
     where
         Self: Sized,
@@ -211,7 +257,11 @@ pub trait NumberEncoder: Write {
         Ok(())
     }
 
-    /// Writes `v` in base 128, in its shortest spelling.
+    /// Writes `v` in base 128, in its shortest form of one to ten bytes: 300 is `ac 02`.
+    ///
+    /// # Errors
+    ///
+    /// `Io` if the writer fails. It may have taken a part of the bytes then.
     final fn encode_var_u64(&mut self, v: u64) -> Result<()>
     where
         Self: Sized,
@@ -229,8 +279,12 @@ pub trait NumberEncoder: Write {
         Ok(())
     }
 
-    /// Writes `v` in base 128 by its code, which is small where `v` is near 0: twice `v` from 0 on, and below 0
-    /// the complement of that.
+    /// Writes `v` in base 128 by a code that is small if `v` is near 0: `2v` for `v` from 0 on, and `-2v - 1`
+    /// below 0.
+    ///
+    /// # Errors
+    ///
+    /// `Io` if the writer fails. It may have taken a part of the bytes then.
     final fn encode_var_i64(&mut self, v: i64) -> Result<()>
     where
         Self: Sized,

@@ -11,14 +11,13 @@ use raft_records::{
 };
 use std::alloc::Global;
 
-/// Refuses a batch that can't stand in its file, and returns the group and the status of its first
-/// group marker. In the append queue, which ignores group markers, it returns none.
+/// Checks that a batch may be in the file `file`. Returns the group and the status of its first group marker,
+/// or `None` if it has none; in the append queue, which ignores markers, always `None`.
 ///
 /// # Errors
 ///
-/// `Corruption` where entries aren't consecutive, a place or the file of a `Put` is missing or
-/// another, a `Put` lacks its value, or in the rewrite queue the status of a group marker is
-/// unknown; `Memory`.
+/// `Corruption` if entries aren't consecutive, a place or the file of a put is missing or another file's, a
+/// put lacks its value, or in the rewrite queue the status of a group marker is unknown; `Memory`.
 pub(crate) fn check_batch(
     alloc: Global,
     batch: &LogItemBatch,
@@ -41,7 +40,8 @@ pub(crate) fn check_batch(
     }
 }
 
-/// Tests whether a batch as it was read may take effect at once. `false` says nothing of it.
+/// Tests whether a batch as it was read plainly may be in the file `file` and has no group marker that
+/// counts, so that it takes effect at once. `false` says nothing of it.
 pub(crate) fn is_lone_read(batch: &ReadBatch<'_>, file: FileId) -> bool
     ensures items { IsTrue result → AreInFile file batch.now }
     ensures markers { IsTrue result → HaveStatus file.queue batch.now }
@@ -57,8 +57,7 @@ pub(crate) fn is_lone_read(batch: &ReadBatch<'_>, file: FileId) -> bool
     }
 }
 
-/// Tests whether no item puts a value under the key of the group markers. `false` says nothing of
-/// them.
+/// Tests whether none of `items` is a group marker. `false` says nothing of them.
 fn have_no_marker(items: &[ReadItem<'_>]) -> bool
     ensures { IsTrue result → (place : FileBlockHandle) (spans : List (ℕ × ℕ))
         → HaveNoMarker (items_shown place items.now spans) }
@@ -66,8 +65,7 @@ fn have_no_marker(items: &[ReadItem<'_>]) -> bool
     items.iter().all(|item| is_no_marker(item))
 }
 
-/// Tests whether an item puts no value under the key of the group markers. `false` says nothing of
-/// it.
+/// Tests whether `item` puts no value under the key of group markers. `false` says nothing of it.
 fn is_no_marker(item: &ReadItem<'_>) -> bool
     ensures { IsTrue result → (place : FileBlockHandle) (spans : List (ℕ × ℕ))
         → marker_byte (content_shown place item.now.content spans) ≡ None }
@@ -78,8 +76,8 @@ fn is_no_marker(item: &ReadItem<'_>) -> bool
     }
 }
 
-/// Tests whether the batch was decoded in this file, so that its items may stand there. `false`
-/// says nothing of them.
+/// Tests whether the batch was decoded in the file `file`, so that its items need no test. `false` says
+/// nothing of them.
 fn knows_file(batch: &LogItemBatch, file: FileId) -> bool
     ensures { IsTrue result → AreInFile file batch.now }
 {
@@ -89,12 +87,12 @@ fn knows_file(batch: &LogItemBatch, file: FileId) -> bool
     }
 }
 
-/// Returns the group and the status of the first group marker, if there is one. All of them are
-/// read.
+/// Returns the group and the status of the first group marker among `items`, or `None` without one. All
+/// markers are parsed.
 ///
 /// # Errors
 ///
-/// `Corruption` where the status of one is unknown, `Memory`.
+/// `Corruption` if the status of one is unknown; `Memory`.
 fn group_marker(alloc: Global, items: &[LogItem]) -> Result<Option<(u64, AtomicGroupStatus)>>
     ensures markers { OnOk result (HaveStatus Rewrite (map item_of items.now)) }
     ensures marker { IfOk result (λ marker. marker ≡ first_marker (map item_of items.now)) }
@@ -110,7 +108,7 @@ fn group_marker(alloc: Global, items: &[LogItem]) -> Result<Option<(u64, AtomicG
     Ok(marker)
 }
 
-/// Tests whether all items may stand in a batch of this file.
+/// Tests whether all items may be in a batch of the file `file` ([`is_in_file`]).
 fn are_in_file(items: &[LogItem], file: FileId) -> bool
     ensures { MatchBool result (AreInFile file (map item_of items.now))
         (AreInFile file (map item_of items.now) → ⊥) }
@@ -118,8 +116,8 @@ fn are_in_file(items: &[LogItem], file: FileId) -> bool
     items.iter().all(|item| is_in_file(item, file))
 }
 
-/// Tests whether an item may stand in a batch of this file: entries are consecutive and have their
-/// places there, and a `Put`, but for a group marker's key, has its value and this file.
+/// Tests whether `item` may be in a batch of the file `file`: entries are consecutive and have their places
+/// in that file, and a put has a value and that file. A put under the key of group markers needs neither.
 fn is_in_file(item: &LogItem, file: FileId) -> bool
     ensures { MatchBool result (IsInFile file (content_of item.now.content))
         (IsInFile file (content_of item.now.content) → ⊥) }
@@ -136,7 +134,7 @@ fn is_in_file(item: &LogItem, file: FileId) -> bool
     }
 }
 
-/// Tests whether entries are consecutive and all have their places in this file.
+/// Tests whether entries are consecutive, and all have their places in the file `file`.
 fn is_run_in_file(entries: &[EntryIndex], file: FileId) -> bool
     ensures { MatchBool result (IsInFile file (entries_of entries.now))
         (IsInFile file (entries_of entries.now) → ⊥) }
@@ -144,7 +142,7 @@ fn is_run_in_file(entries: &[EntryIndex], file: FileId) -> bool
     is_consecutive(entries) && entries.iter().all(|entry| is_place_in_file(entry, file))
 }
 
-/// Tests whether an entry has its place in this file.
+/// Tests whether `entry` has its place in the file `file`.
 fn is_place_in_file(entry: &EntryIndex, file: FileId) -> bool
     ensures { MatchBool result (IsPlaceInFile file entry.now.entries)
         (IsPlaceInFile file entry.now.entries → ⊥) }

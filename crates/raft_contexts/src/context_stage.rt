@@ -16,7 +16,12 @@ pub enum ContextStage {
 }
 
 impl ContextStage {
-    /// Begins a call on a context that reads on: until the call has succeeded, the context is failed.
+    /// Begins a call on a context that reads on: the context is failed until the call succeeds and sets it
+    /// back.
+    ///
+    /// # Errors
+    ///
+    /// `Failed` if the context doesn't read on. The stage is unchanged then.
     pub(crate) fn begin(&mut self) -> Result<()>
         ensures ok { OnOk result ((self.old ≡ ContextStage.Reading) × (self.new ≡ ContextStage.Failed)) }
         ensures err { IfErr result (λ e. (e ≡ Error.Failed) × (self.old ≢ ContextStage.Reading)

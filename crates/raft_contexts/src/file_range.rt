@@ -14,7 +14,7 @@ pub(crate) struct FileRange {
 }
 
 impl FileRange {
-    /// Returns the range of one file.
+    /// Returns the range of the one file `file`.
     pub(crate) fn of(file: FileId) -> FileRange
         ensures { range_shown result
             ≡ record { queue = file.queue; first_seq = file.seq; last_seq = file.seq } }
@@ -26,7 +26,7 @@ impl FileRange {
         }
     }
 
-    /// Tests whether the files are of this queue; where there are none it is true.
+    /// Tests whether the files are of `queue`. True without files.
     pub(crate) fn suits(files: Option<FileRange>, queue: LogQueue) -> bool
         ensures { IsTrue result ↔ Suits queue (ranges_shown files) }
     {
@@ -36,8 +36,8 @@ impl FileRange {
         }
     }
 
-    /// Tests whether the newer files begin at or above the last of the older ones; where there are
-    /// no older or no newer ones it is true.
+    /// Tests whether the `newer` files begin at or above the last of the `older` ones. True if there are no
+    /// older or no newer ones. Two segments may share a file, so the same number is allowed.
     pub(crate) fn follows(older: Option<FileRange>, newer: Option<FileRange>) -> bool
         ensures { result ≡ follows (ranges_shown older) (ranges_shown newer) }
     {
@@ -47,7 +47,8 @@ impl FileRange {
         }
     }
 
-    /// Returns the range of older files and of newer ones that follow them.
+    /// Returns the range of the `older` files and of the `newer` ones, which follow them, or `None` if there
+    /// are neither.
     pub(crate) fn joined(older: Option<FileRange>, newer: Option<FileRange>) -> Option<FileRange>
         ensures { ranges_shown result ≡ joined_files (ranges_shown older) (ranges_shown newer) }
     {

@@ -29,11 +29,11 @@ pub(crate) struct MarkedTables {
 }
 
 impl MarkedTables {
-    /// Makes one without tables.
+    /// Returns no tables, no region marks, and no live records.
     ///
     /// # Errors
     ///
-    /// `Memory`.
+    /// `Memory` alone.
     pub(crate) fn new(alloc: Global) -> Result<MarkedTables>
         ensures regions { IfOk result (λ tables. regions_in tables ≡ no_regions) }
         ensures cleaned { IfOk result (λ tables. tables.accessor.cleaned ≡ []) }
@@ -46,13 +46,14 @@ impl MarkedTables {
         })
     }
 
-    /// Takes in the items of a batch of this file, in order.
+    /// Takes in the items of a batch of the file `file`, in order: each changes the table and the region mark
+    /// of its region.
     ///
     /// # Errors
     ///
-    /// `Corruption` where entries leave a hole in the append queue; `InvalidArgument` where a table
-    /// has records of the other queue; `Full` where the live records and those that the items name
-    /// are more than 2^64 - 1; `Memory`. Some items may then be taken in.
+    /// `Corruption` if entries leave a hole in the append queue; `InvalidArgument` if a table has records of
+    /// the other queue; `Full` if the live records and those that the items name are more than 2^64 - 1;
+    /// `Memory`. Some of the items may have been taken in then.
     pub(crate) fn take_items(&mut self, file: FileId, items: LogItemBatch) -> Result<()>
         requires { AreInFile file items }
         ensures ok { OnOk result
@@ -71,12 +72,12 @@ impl MarkedTables {
         self.take_each(file.queue, items.into_items())
     }
 
-    /// Takes in the steps of a group that became whole, and then the numbers of its first and its
-    /// last file for each of its regions.
+    /// Takes in the steps of `whole`, an atomic group of the rewrite queue that became whole, and then sets for each of its
+    /// regions the numbers of the group's first and last file.
     ///
     /// # Errors
     ///
-    /// Those of [`take_items`](MarkedTables::take_items). Some steps are then taken in.
+    /// Those of [`take_items`](MarkedTables::take_items). Some of the steps may have been taken in then.
     pub(crate) fn take_group(&mut self, whole: WholeGroup) -> Result<()>
         requires steps { AreStepsOfQueue Rewrite (whole_shown whole).steps }
         requires seqs { (whole_shown whole).first_seq ≤ (whole_shown whole).last_seq }
@@ -102,7 +103,7 @@ impl MarkedTables {
         self.take_seqs(&regions, first_seq, last_seq)
     }
 
-    /// Counts the regions that have a region mark, kept or implied by their table.
+    /// Returns the number of regions that have a region mark, kept or implied by their table.
     pub(crate) fn marks_count(&self) -> u128
         ensures value { result ≡ finite.len (regions_in self.now).marks }
         ensures few { result < 2 ^ 73 }
@@ -110,18 +111,19 @@ impl MarkedTables {
         self.accessor.tables_count() + self.marks.count_absent(&self.accessor) as u128
     }
 
-    /// Counts the deleted keys of all region marks.
+    /// Returns the number of deleted keys that all region marks have together.
     pub(crate) fn deleted_keys(&self) -> u128
         ensures { result ≡ total (λ (m : Mark). finset.len m.deleted) (regions_in self.now).marks }
     {
         self.marks.deleted_keys()
     }
 
-    /// Takes in items, one after another.
+    /// Takes in `items` one after another: the loop of [`MarkedTables::take_items`].
     ///
     /// # Errors
     ///
-    /// Those of [`take_items`](MarkedTables::take_items). Some items are then taken in.
+    /// Those of [`take_items`](MarkedTables::take_items). The items before the refused one have been taken in
+    /// then.
     fn take_each(&mut self, queue: LogQueue, items: Vec<LogItem>) -> Result<()>
         requires { AreStepsOfQueue queue (steps_of_items (map item_of items.items)) }
         ensures { AreStepsTaken queue (steps_of_items (map item_of items.items)) result self.old
@@ -135,13 +137,13 @@ impl MarkedTables {
         Ok(())
     }
 
-    /// Takes in an item that is a run of entries, and returns whether it did. `false` comes for
-    /// another item, for a run without entries, and for one that the table refuses, as for want of
-    /// memory; nothing has then changed.
+    /// Takes in `item` if it is a run of entries, and returns whether it did. Returns `false`, and changes
+    /// nothing, for any other item, for a run without entries, and for one that the table refuses, as for
+    /// want of memory: the slower [`take_item`](MarkedTables::take_item) then does it, or makes the error.
     ///
     /// # Errors
     ///
-    /// Where there is no memory for the region mark. The run is then in its table, and not in the
+    /// `AllocError` if there is no memory for the region mark. The run is then in its table, and not in the
     /// mark.
     fn try_run(&mut self, queue: LogQueue, item: &LogItem) -> AllocResult<bool>
         requires { AreStepsOfQueue queue (steps_of_items (item_of item.now ∷ [])) }
@@ -164,11 +166,11 @@ impl MarkedTables {
         Ok(true)
     }
 
-    /// Sets the numbers of the first and the last file of a group for each of its regions.
+    /// Sets the numbers of the first and the last file of a group for each of `regions`, which it names.
     ///
     /// # Errors
     ///
-    /// `Memory`. Some regions then have them.
+    /// `Memory`. Some of the regions have them then.
     fn take_seqs(&mut self, regions: &[u64], first_seq: FileSeq, last_seq: FileSeq) -> Result<()>
         ensures { AreStepsTaken Rewrite (on_each regions.now (AtomicGroup first_seq last_seq))
             result self.old self.new }
@@ -183,12 +185,12 @@ impl MarkedTables {
         Ok(())
     }
 
-    /// Takes in an item, if it has a step.
+    /// Takes in `item`, if it has a step: a group marker, for one, has none.
     ///
     /// # Errors
     ///
-    /// Those of [`take_items`](MarkedTables::take_items). The step may then be in the region mark
-    /// alone.
+    /// Those of [`take_items`](MarkedTables::take_items). The step may then be in the region mark, and not in
+    /// the table.
     fn take_item(&mut self, queue: LogQueue, item: LogItem) -> Result<()>
         requires { AreStepsOfQueue queue (steps_of_items (item_of item ∷ [])) }
         ensures { AreStepsTaken queue (steps_of_items (item_of item ∷ [])) result self.old
@@ -200,11 +202,12 @@ impl MarkedTables {
         }
     }
 
-    /// Takes in steps, one after another.
+    /// Takes in `steps` one after another.
     ///
     /// # Errors
     ///
-    /// Those of [`take_items`](MarkedTables::take_items). Some steps are then taken in.
+    /// Those of [`take_items`](MarkedTables::take_items). The steps before the refused one have been taken in
+    /// then.
     fn take_steps(&mut self, queue: LogQueue, steps: Vec<RegionStep>) -> Result<()>
         requires { AreStepsOfQueue queue (map region_step_shown steps.items) }
         ensures { AreStepsTaken queue (map region_step_shown steps.items) result self.old self.new }
@@ -215,13 +218,13 @@ impl MarkedTables {
         Ok(())
     }
 
-    /// Takes a step into the region mark of its region, but for a put, and then into the table, which
-    /// keeps what the step owns without a copy.
+    /// Takes in one step of the region `id`: into its region mark, unless it is a put, which no mark tells
+    /// of, and then into its table, which keeps the bytes of the step without a copy.
     ///
     /// # Errors
     ///
-    /// Those of [`take_items`](MarkedTables::take_items). The step may then be in the region mark
-    /// alone.
+    /// Those of [`take_items`](MarkedTables::take_items). The step may then be in the region mark, and not in
+    /// the table.
     fn take_step(&mut self, queue: LogQueue, id: u64, step: Step) -> Result<()>
         requires { IsStepOfQueue queue (step_shown step) }
         ensures { AreStepsTaken queue (one_step id (step_shown step)) result self.old self.new }
@@ -235,7 +238,8 @@ impl MarkedTables {
         self.accessor.take_step(queue, id, step)
     }
 
-    /// Returns where the entries of a region end in front of a run. No other step asks for it.
+    /// Returns the end of the entries of the region `id` if `step` is a run, whose region mark depends on it,
+    /// else 0.
     fn end_before(&self, id: u64, step: &Step) -> u64
         ensures { (queue : LogQueue) (m : Mark)
             → joined_at queue result m (mark_of (step_shown step.now))
@@ -248,8 +252,8 @@ impl MarkedTables {
         }
     }
 
-    /// Returns the first index of a region's entries, and the last one plus one; both are 0 without
-    /// entries.
+    /// Returns the index of the first entry of the region `id`, and the index after the last one; both are 0
+    /// without entries.
     fn ends_of(&self, id: u64) -> (u64, u64)
         ensures ends { result ≡ (
           start_of (table_in self.now.accessor.tables id).entries,
@@ -267,7 +271,7 @@ impl MarkedTables {
     }
 }
 
-/// Tests whether a step puts a value under a key.
+/// Tests whether `step` puts a value under a key. Region marks don't tell of such steps.
 fn is_put(step: &Step) -> bool
     ensures { result ≡ is_put (step_shown step.now) }
 {

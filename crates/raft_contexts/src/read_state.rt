@@ -28,11 +28,11 @@ pub(crate) struct ReadState {
 }
 
 impl ReadState {
-    /// Makes one that has read nothing.
+    /// Returns a state in which nothing was read.
     ///
     /// # Errors
     ///
-    /// `Memory`.
+    /// `Memory` alone.
     pub(crate) fn new(alloc: Global) -> Result<ReadState>
         ensures ok { IfOk result (λ state. context_in state ≡ new_context) }
         ensures counts { IfOk result (λ state. state.regions.accessor.counts ≡ no_counts) }
@@ -46,12 +46,12 @@ impl ReadState {
         })
     }
 
-    /// Replays one more batch, which was written to this file.
+    /// Takes in one more batch, which was written to the file `file`.
     ///
     /// # Errors
     ///
-    /// Those of [`MemTableRecoverContext::replay`](crate::MemTableRecoverContext::replay) but for
-    /// `Failed`. A part of the batch may then be taken in.
+    /// Those of [`MemTableRecoverContext::replay`](crate::MemTableRecoverContext::replay) other than
+    /// `Failed`. A part of the batch may have been taken in then: the context above is failed.
     pub(crate) fn replay(&mut self, batch: LogItemBatch, file: FileId) -> Result<()>
         requires { IsOfHistory (context_in self.old) }
         ensures { IsTakenIn (event batch file) result self.old self.new }
@@ -63,11 +63,12 @@ impl ReadState {
         }
     }
 
-    /// Does what `replay` does, with a batch as it was read.
+    /// Does what [`ReadState::replay`] does, with a batch as it was read. A batch of which [`is_lone_read`]
+    /// doesn't know that it may take effect at once is copied first.
     ///
     /// # Errors
     ///
-    /// Those of `replay`.
+    /// Those of [`ReadState::replay`].
     pub(crate) fn replay_read(&mut self, batch: &ReadBatch<'_>, file: FileId) -> Result<()>
         requires { IsOfHistory (context_in self.old) }
         ensures { IsTakenIn (event batch.now file) result self.old self.new }
@@ -82,11 +83,12 @@ impl ReadState {
         Ok(())
     }
 
-    /// Refuses a batch of the other queue, or of a file below the last one.
+    /// Checks that the next batch may be in the file `file`: it is of the queue of the files before, and not
+    /// below the last of them.
     ///
     /// # Errors
     ///
-    /// `Corruption`, or `Memory` where its text finds none.
+    /// `Corruption` if it may not, or `Memory` if there is none for its text.
     fn check_file(&self, file: FileId) -> Result<()>
         ensures queue { OnOk result (Suits file.queue (context_in self.now).files) }
         ensures files { OnOk result ((items : List Item)
@@ -103,11 +105,11 @@ impl ReadState {
         Ok(())
     }
 
-    /// Takes in a batch without a group marker, which takes effect at once.
+    /// Takes in `batch` of the file `file`, which has no group marker and takes effect at once.
     ///
     /// # Errors
     ///
-    /// Those of `replay`.
+    /// Those of [`ReadState::replay`].
     fn take_lone_batch(&mut self, batch: LogItemBatch, file: FileId) -> Result<()>
         requires history { IsOfHistory (context_in self.old) }
         requires next { MayFollow (context_in self.old) (event batch file) }
@@ -119,12 +121,12 @@ impl ReadState {
         Ok(())
     }
 
-    /// Takes in a batch with a group marker. Where the group becomes whole by it, that takes
-    /// effect.
+    /// Takes in a batch with a marker of the group `id`: its items wait. If the batch makes the group whole,
+    /// the group takes effect.
     ///
     /// # Errors
     ///
-    /// Those of `replay`. The group may then be forgotten.
+    /// Those of [`ReadState::replay`]. What is known of the group may be lost then.
     fn take_group_batch(
         &mut self,
         id: u64,
@@ -144,13 +146,13 @@ impl ReadState {
         Ok(())
     }
 
-    /// Takes in what was read of the batches that follow. Groups that become whole between the two
-    /// take effect first.
+    /// Takes in `newer`, what was read of the batches that follow in `queue`. Groups that become whole
+    /// between the two take effect first.
     ///
     /// # Errors
     ///
-    /// Those of [`MemTableRecoverContext::merge`](crate::MemTableRecoverContext::merge) but for
-    /// `Failed`. Some of it may then be taken in.
+    /// Those of [`MemTableRecoverContext::merge`](crate::MemTableRecoverContext::merge) other than `Failed`.
+    /// A part of `newer` may have been taken in then.
     pub(crate) fn merge(&mut self, newer: ReadState, queue: LogQueue) -> Result<()>
         requires older { IsOfHistory (context_in self.old) }
         requires newer { IsOfHistory (context_in newer) }
@@ -178,8 +180,8 @@ impl ReadState {
         Ok(())
     }
 
-    /// Counts the records, region marks and groups, deleted keys, cleaned regions and waiting items
-    /// that are held.
+    /// Returns how much is held: records, region marks and groups, deleted keys, cleaned regions and waiting
+    /// items.
     pub(crate) fn kept(&self) -> Kept
         ensures { kept_shown result ≡ kept_of (context_in self.now) }
     {
@@ -195,7 +197,7 @@ impl ReadState {
         }
     }
 
-    /// Counts what is held once the append queue was put over it: tables imply no region mark then.
+    /// Returns how much is held once the append queue was put over it: then tables imply no region marks.
     pub(crate) fn kept_overlaid(&self) -> Kept
         ensures { kept_shown result ≡ kept_of (shown_with self.now.regions.marks self.now) }
     {
@@ -207,12 +209,13 @@ impl ReadState {
         }
     }
 
-    /// Refuses a newer neighbor of another queue, or one that begins in a file below the last one.
+    /// Checks that `newer` may follow: both are of `queue`, and its files begin at or above the last one
+    /// here.
     ///
     /// # Errors
     ///
-    /// `InvalidArgument` for another queue, `Corruption` for the file, `Memory` where the text
-    /// finds none.
+    /// `InvalidArgument` for another queue, `Corruption` for a lower file, `Memory` if there is none for the
+    /// text.
     fn check_neighbor(&self, newer: &ReadState, queue: LogQueue) -> Result<()>
         ensures ok { OnOk result (AreNeighbors queue (context_in self.now)
             (context_in newer.now)) }
@@ -232,7 +235,7 @@ impl ReadState {
     }
 }
 
-/// Takes in a group, if one became whole.
+/// Takes in `whole`, if a group became whole.
 ///
 /// # Errors
 ///
@@ -251,11 +254,11 @@ fn take_whole(regions: &mut MarkedTables, whole: Option<WholeGroup>) -> Result<(
     }
 }
 
-/// Takes in groups that became whole, one after another.
+/// Takes in `wholes`, groups that became whole, one after another.
 ///
 /// # Errors
 ///
-/// Those of [`MarkedTables::take_group`]. Some groups are then taken in.
+/// Those of [`MarkedTables::take_group`]. The groups before the refused one have been taken in then.
 fn take_wholes(regions: &mut MarkedTables, wholes: Vec<WholeGroup>) -> Result<()>
     requires { AllByRecursion CanTakeEffect (map whole_shown wholes.items) }
     ensures wholes { AreWholesTaken (region_steps_of_wholes (map whole_shown wholes.items)) result

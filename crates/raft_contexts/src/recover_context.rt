@@ -40,11 +40,11 @@ impl Model for MemTableRecoverContext {
 }
 
 impl MemTableRecoverContext {
-    /// Makes a context that has read nothing.
+    /// Returns a context that has read nothing.
     ///
     /// # Errors
     ///
-    /// `Memory`.
+    /// `Memory` alone.
     pub fn new(alloc: Global) -> Result<MemTableRecoverContext>
         ensures ok { IfOk result (λ context. context ≡ blank_context) }
         ensures exact { IfOk result (λ context. HasReadExactly context []) }
@@ -56,25 +56,27 @@ impl MemTableRecoverContext {
         })
     }
 
-    /// Tests whether the context reads on: no call was refused, and it hasn't taken in the context of the append queue.
+    /// Tests whether the context reads on: no call was refused, and it hasn't taken in the context of the
+    /// append queue.
     pub fn reads_on(&self) -> bool
         ensures { IsTrue result ↔ (self.now.stage ≡ Reading) }
     {
         self.stage == ContextStage::Reading
     }
 
-    /// Replays one more batch, that was written to this file. In the rewrite queue the batch's first
-    /// group marker decides: a batch without one takes effect at once, the others as their group
-    /// becomes whole.
+    /// Takes in the next batch of a queue, which was written to the file `file_id`. In the rewrite queue the
+    /// first group marker of the batch decides: a batch without one takes effect at once, the others once
+    /// their group is whole. In the append queue markers are ignored, and each batch takes effect at once.
     ///
     /// # Errors
     ///
-    /// `Failed` where the context doesn't read on, and then it stays as it is. After any other refusal
-    /// it is failed. `Corruption` where a place isn't in the file, a `Put` that isn't skipped lacks its
-    /// value or has another file, entries are not consecutive, the file is of another queue than the
-    /// files before or below the last of them, a group marker's status is unknown, or entries leave a
-    /// hole; `Full` where the live records and those that the batch, or the group that it ends, names are more
-    /// than 2^64 - 1; `Memory`.
+    /// `Failed` if the context doesn't read on; it stays as it is then. After any other refusal it is failed:
+    /// - `Corruption` if a place isn't in the file, a put that isn't skipped lacks its value or has another
+    ///   file, entries aren't consecutive, the file is of another queue than those before or below the last
+    ///   of them, the status of a group marker is unknown, or entries leave a hole;
+    /// - `Full` if the live records, and those that the batch, or the group that it ends, names are more than
+    ///   2^64 - 1;
+    /// - `Memory`.
     pub fn replay(&mut self, batch: LogItemBatch, file_id: FileId) -> Result<()>
         ensures ok { OnOk result (IsBatchTaken (event batch file_id) self.old self.new) }
         ensures counts { OnOk result (IsBatchCounted (event batch file_id) self.old.context
@@ -90,11 +92,12 @@ impl MemTableRecoverContext {
         Ok(())
     }
 
-    /// Does what [`MemTableRecoverContext::replay`] does, with a batch as it was read.
+    /// Does what [`MemTableRecoverContext::replay`] does, with a batch as it was read, and makes no `LogItem`
+    /// of most of its items.
     ///
     /// # Errors
     ///
-    /// Those of [`MemTableRecoverContext::replay`].
+    /// Those of [`MemTableRecoverContext::replay`], which leave the same.
     pub fn replay_read(&mut self, batch: &ReadBatch<'_>, file_id: FileId) -> Result<()>
         ensures ok { OnOk result (IsBatchTaken (event batch.now file_id) self.old self.new) }
         ensures counts { OnOk result (IsBatchCounted (event batch.now file_id) self.old.context
@@ -110,15 +113,18 @@ impl MemTableRecoverContext {
         Ok(())
     }
 
-    /// Takes in the context of the batches that follow, all of this queue. Groups that become whole
+    /// Takes in `rhs`, the context of the batches that follow, all of `queue`. Groups that become whole
     /// between the two take effect first.
     ///
     /// # Errors
     ///
-    /// `Failed` where the context doesn't read on, and then it stays as it is. After any other refusal
-    /// it is failed. `Failed` also where `rhs` doesn't read on; `InvalidArgument` for another queue
-    /// than that of either; `Corruption` where the first file of `rhs` is below the last one, or
-    /// entries leave a hole; `Full` where both hold more than 2^64 - 1 records; `Memory`.
+    /// `Failed` if the context doesn't read on; it stays as it is then. After any other refusal it is failed:
+    /// - `Failed` if `rhs` doesn't read on;
+    /// - `InvalidArgument` if either context is of another queue;
+    /// - `Corruption` if the first file of `rhs` is below the last one of this context, or entries leave a
+    ///   hole;
+    /// - `Full` if both together have more than 2^64 - 1 records;
+    /// - `Memory`.
     pub fn merge(&mut self, rhs: MemTableRecoverContext, queue: LogQueue) -> Result<()>
         ensures ok { OnOk result (IsMergedWith queue rhs self.old self.new) }
         ensures fault { IfErr result (IsNeighborFault queue self.old rhs) }
@@ -136,20 +142,23 @@ impl MemTableRecoverContext {
     }
 
     /// Takes in the context of the append queue; this one is that of the rewrite queue. A region that the
-    /// append queue names has then its table there over the rewritten one. The *cut* is the least of the starts
-    /// of its runs there and of the indexes of its truncations. Of the rewritten table the entries stay from
-    /// the region's greatest compaction on and below the cut, if there is one; but none where the append queue
-    /// has entries and these don't begin at the cut, or the rewritten ones don't reach it. Key values stay that
-    /// the append queue neither puts nor deletes. Nothing stays where the append queue cleaned the region. The
-    /// other regions keep their rewritten tables, and the cleaned regions are those of the append queue. Groups
-    /// that are not whole are dropped. Only `kept` and `finish` can then be called.
+    /// append queue names then has its table there over the rewritten one. Its *cut* is the least of the
+    /// starts of its runs there and of the indexes of its truncations. Of the rewritten table these stay:
+    /// - the entries from the region's greatest compaction on and below the cut, if there is one; but none if
+    ///   the append queue has entries that don't begin at the cut, or the rewritten ones don't reach it;
+    /// - the key values that the append queue neither puts nor deletes;
+    /// - nothing, if the append queue cleaned the region.
+    ///
+    /// The other regions keep their rewritten tables, and the cleaned regions are those of the append queue.
+    /// Groups that aren't whole are dropped. Only `kept` and `finish` can be called then.
     ///
     /// # Errors
     ///
-    /// `Failed` where the context doesn't read on, and then it stays as it is. After any other refusal
-    /// it is failed. `Failed` also where `append` doesn't read on; `InvalidArgument` where this context
-    /// is of the append queue, or `append` of the rewrite queue; `Full` where both hold more than 2^64 - 1
-    /// records; `Memory`.
+    /// `Failed` if the context doesn't read on; it stays as it is then. After any other refusal it is failed:
+    /// - `Failed` if `append` doesn't read on;
+    /// - `InvalidArgument` if this context is of the append queue, or `append` is of the rewrite queue;
+    /// - `Full` if both together have more than 2^64 - 1 records;
+    /// - `Memory`.
     pub fn merge_append_context(&mut self, append: MemTableRecoverContext) -> Result<()>
         ensures ok { OnOk result (IsOverlaidWith append self.old self.new) }
         ensures exact { (rewrite appended : List Event) → HasReadExactly self.old rewrite
@@ -172,16 +181,19 @@ impl MemTableRecoverContext {
         Ok(())
     }
 
-    /// Returns what this context, that of the append queue, takes away of the tables of `rewritten`, the context of the rewrite
-    /// queue, as open batches that tell it: of each region with a rewritten table a Clean, if the append queue cleaned it, or else
-    /// its greatest compaction, the truncation at its cut, and the deletion of each key; and of these what takes something away of
-    /// the rewritten table. So nothing is told of a region that lacks one. Where rewritten entries that stay are dropped, since the
-    /// append queue's ones don't join them, it stands in the batch that is told at once, with a compaction to the first of the
-    /// latter; else in the one that may be told later.
+    /// Returns what this context, that of the append queue, takes away from the tables of `rewritten`, the
+    /// context of the rewrite queue, as open batches that tell the rewrite queue so. For each region with a
+    /// rewritten table they have a Clean, if the append queue cleaned it, or else its greatest compaction,
+    /// the truncation at its cut, and the deletion of each key; but only what takes something away from that
+    /// table.
+    ///
+    /// If rewritten entries below the cut are dropped because the append queue's entries don't join them, the
+    /// region's items are in the batch to write at once, with a compaction to the first of the append queue's
+    /// entries; otherwise in the one that may be written later.
     ///
     /// # Errors
     ///
-    /// `Failed` where either context doesn't read on, `Memory`.
+    /// `Failed` if either context doesn't read on; `Memory`. Neither context changes.
     #[doc(hidden)]
     pub fn taken_away(&self, alloc: Global, rewritten: &MemTableRecoverContext) -> Result<TakenAway>
         ensures ok { IfOk result (IsTakenAway self.now.context.regions rewritten.now.context.regions.tables) }
@@ -197,12 +209,12 @@ impl MemTableRecoverContext {
             .taken_away(alloc, &rewritten.state.regions.accessor)
     }
 
-    /// Counts what the context holds. Where it stands for a history exactly, that is no more than
-    /// one reading of the history has, its groups that are not whole, and the keys that it deletes.
+    /// Returns how much the context holds, in numbers. If it stands for a history exactly, that is no more
+    /// than one reading of the history has, with its groups that aren't whole and the keys that it deletes.
     ///
     /// # Errors
     ///
-    /// `Failed` after a refusal.
+    /// `Failed` if a call was refused before.
     pub fn kept(&self) -> Result<Kept>
         ensures ok { IfOk result (λ kept. kept_shown kept ≡ kept_of self.now.context) }
         ensures little { (queue : LogQueue) (h : List Event) (tables : Tables) (cleaned : List ℕ)
@@ -223,11 +235,11 @@ impl MemTableRecoverContext {
         }
     }
 
-    /// Returns the tables of all regions, with their counts and the regions that were cleaned.
+    /// Returns the tables of all regions, with the live counts and the regions that were cleaned.
     ///
     /// # Errors
     ///
-    /// `Failed` after a refusal.
+    /// `Failed` if a call was refused before.
     pub fn finish(self) -> Result<MemTableAccessor>
         ensures tables { IfOk result (λ accessor. accessor.tables ≡ self.context.regions.tables) }
         ensures cleaned { IfOk result (λ accessor. accessor.cleaned ≡ self.context.cleaned) }
@@ -260,14 +272,29 @@ impl ReplayMachine for MemTableRecoverContext {
 
     ghost stands_exactly = { HasReadExactly };
 
+    /// Does what [`MemTableRecoverContext::replay`] does.
+    ///
+    /// # Errors
+    ///
+    /// Those of [`MemTableRecoverContext::replay`].
     fn replay(&mut self, batch: LogItemBatch, file_id: FileId) -> Result<()> {
         self.replay(batch, file_id)
     }
 
+    /// Does what [`MemTableRecoverContext::replay_read`] does.
+    ///
+    /// # Errors
+    ///
+    /// Those of [`MemTableRecoverContext::replay_read`].
     fn replay_read(&mut self, batch: &ReadBatch<'_>, file_id: FileId) -> Result<()> {
         self.replay_read(batch, file_id)
     }
 
+    /// Does what [`MemTableRecoverContext::merge`] does.
+    ///
+    /// # Errors
+    ///
+    /// Those of [`MemTableRecoverContext::merge`].
     fn merge(&mut self, rhs: MemTableRecoverContext, queue: LogQueue) -> Result<()> {
         self.merge(rhs, queue)
     }
@@ -280,7 +307,7 @@ impl ReplayMachine for MemTableRecoverContext {
 pub struct MemTableRecoverContextFactory;
 
 impl MemTableRecoverContextFactory {
-    /// Makes a factory.
+    /// Returns a factory, which needs nothing.
     pub fn new() -> MemTableRecoverContextFactory {
         MemTableRecoverContextFactory
     }
@@ -294,6 +321,11 @@ impl Factory<MemTableRecoverContext> for MemTableRecoverContextFactory {
 
     ghost may_refuse = { λ _ e. ⊥ };
 
+    /// Returns a context that has read nothing.
+    ///
+    /// # Errors
+    ///
+    /// `Memory` alone.
     fn new_target(&self, alloc: Global) -> Result<MemTableRecoverContext> {
         MemTableRecoverContext::new(alloc)
     }

@@ -43,7 +43,7 @@ impl Model for RegionMarks {
 }
 
 impl RegionMarks {
-    /// Makes one without region marks.
+    /// Returns no region marks. It allocates nothing yet.
     pub fn new(alloc: Global) -> RegionMarks
         ensures { result ≡ finite.empty }
     {
@@ -53,7 +53,7 @@ impl RegionMarks {
         }
     }
 
-    /// Returns how many regions have a region mark.
+    /// Returns the number of regions whose region mark is kept.
     pub fn len(&self) -> usize
         ensures { result ≡ finite.len self.now }
     {
@@ -64,7 +64,7 @@ impl RegionMarks {
         count
     }
 
-    /// Returns how many deleted keys all region marks hold together.
+    /// Returns the number of deleted keys that all region marks have together.
     pub fn deleted_keys(&self) -> u128
         ensures { result ≡ total (λ (m : Mark). finset.len m.deleted) self.now }
     {
@@ -75,7 +75,7 @@ impl RegionMarks {
         count
     }
 
-    /// Counts the regions whose region mark is kept and that have no table.
+    /// Returns the number of regions whose region mark is kept here and that have no table in `tables`.
     pub(crate) fn count_absent(&self, tables: &MemTableAccessor) -> u64
         ensures { result ≡ count_absent tables.now.tables (keys_of (finite.entries self.now)) }
     {
@@ -86,12 +86,12 @@ impl RegionMarks {
         count
     }
 
-    /// Joins the region mark of a run that starts at `start` to the region mark of a region, where the region's
-    /// own entries end at `end`.
+    /// Joins the region mark of a run that starts at index `start` to that of the region `id`. `end` is the
+    /// end of the region's own entries before the run, 0 if there are none.
     ///
     /// # Errors
     ///
-    /// `AllocError`. The region marks are then as they were.
+    /// `AllocError` if there is no memory for it. The region marks are unchanged then.
     pub fn add_run(&mut self, id: u64, queue: LogQueue, end: u64, start: u64) -> AllocResult<()>
         ensures ok { OnOk result (self.new
             ≡ finite.insert self.old id (joined_at queue end (mark_in self.old id)
@@ -102,12 +102,12 @@ impl RegionMarks {
         self.slots[slot_of(id)].add_run(id, queue, end, start)
     }
 
-    /// Joins the region mark of a step to the region mark of a region. Where the step is a run, the region's own
-    /// entries in front of it end at `end`. A deleted key is copied.
+    /// Joins the region mark of a step to that of the region `id`. If the step is a run, `end` is the end of
+    /// the region's own entries before it, 0 if there are none. The key of a deletion is copied.
     ///
     /// # Errors
     ///
-    /// `AllocError`. The region marks are then as they were.
+    /// `AllocError` if there is no memory for it. The region marks are unchanged then.
     pub fn add_step(&mut self, id: u64, queue: LogQueue, end: u64, step: &Step) -> AllocResult<()>
         ensures ok { OnOk result (self.new
             ≡ finite.insert self.old id
@@ -118,12 +118,14 @@ impl RegionMarks {
         self.slots[slot_of(id)].add_step(id, queue, end, step)
     }
 
-    /// Joins the region mark of newer steps to the region mark of a region, whose first run meets own
-    /// entries of the region that end at `end_at_reach`.
+    /// Joins `newer`, the region mark of newer steps, to that of the region `id`. `end_at_reach` is the end
+    /// of the region's own entries that the first newer run meets
+    /// ([`MemTable::end_at_reach`](raft_table::MemTable::end_at_reach)).
     ///
     /// # Errors
     ///
-    /// `AllocError`. The region mark of the region may then lack deleted keys, and serves no more.
+    /// `AllocError` if there is no memory for it. The mark of the region may lack deleted keys then, and must
+    /// not be used.
     pub fn join(
         &mut self,
         id: u64,
@@ -139,7 +141,7 @@ impl RegionMarks {
         self.slots[slot_of(id)].join(id, queue, end_at_reach, newer)
     }
 
-    /// Tests whether the region mark of a region is kept.
+    /// Tests whether a region mark is kept for the region `id`.
     fn has(&self, id: u64) -> bool
         ensures { result ≡ is_some (finite.get self.now id) }
     {
@@ -149,7 +151,7 @@ impl RegionMarks {
         self.slots[slot_of(id)].has(id)
     }
 
-    /// Returns the region mark that is kept of a region.
+    /// Returns the region mark that is kept for the region `id`, or `None` if there is none.
     pub(crate) fn get(&self, id: u64) -> Option<&SmallMark>
         ensures { option_map (λ m. m.now) result ≡ finite.get self.now id }
     {
@@ -159,11 +161,11 @@ impl RegionMarks {
         self.slots[slot_of(id)].get(id)
     }
 
-    /// Keeps the region mark of a run from `start` on as that of a region.
+    /// Sets the region mark of the region `id` to that of a run that starts at index `start`.
     ///
     /// # Errors
     ///
-    /// Where there is no memory for it. The region marks are then as they were.
+    /// `AllocError` if there is no memory for it. The region marks are unchanged then.
     fn put_run(&mut self, id: u64, start: u64) -> AllocResult<()>
         ensures ok { OnOk result (self.new ≡ finite.insert self.old id (run_at start)) }
         ensures err { OnErr result (self.new ≡ self.old) }
@@ -172,11 +174,13 @@ impl RegionMarks {
         self.slots[slot_of(id)].put_run(id, start)
     }
 
-    /// Keeps the region mark of a region, if its table has implied it so far.
+    /// Keeps the region mark of the region `id` if its table has implied it so far: the table is about to
+    /// change, and would then imply another one. The mark of no step, which a table without entries implies,
+    /// needn't be kept.
     ///
     /// # Errors
     ///
-    /// Where there is no memory for it. It is then implied still.
+    /// `AllocError` if there is no memory for it. The table still implies the mark then.
     pub(crate) fn keep(&mut self, id: u64, tables: &MemTableAccessor) -> AllocResult<()>
         ensures same { all_marks tables.now.tables self.new ≡ all_marks tables.now.tables self.old }
         ensures kept { OnOk result (mark_in self.new id ≡ mark_in (all_marks tables.now.tables self.old) id) }
@@ -193,12 +197,13 @@ impl RegionMarks {
         }
     }
 
-    /// Joins the region mark of a run from `first` on to that of its region, whose entries went
-    /// from `start` to `end` in front of the run, where the table doesn't imply it still.
+    /// Joins the region mark of a run that starts at index `first` to that of the region `id`, whose entries
+    /// were at the indexes `start..end` before the run; both are 0 if there were none. Nothing is kept if the
+    /// table implies the mark still, as after a run that begins among the entries or right after them.
     ///
     /// # Errors
     ///
-    /// Where there is no memory for it. The region mark then lacks the run.
+    /// `AllocError` if there is no memory for it. The region mark lacks the run then.
     #[inline(always)]
     pub(crate) fn mark_run(
         &mut self,
@@ -223,7 +228,8 @@ impl RegionMarks {
         self.add_run(id, queue, end, first)
     }
 
-    /// Returns the region mark that a table implies: that of one run of all its entries.
+    /// Returns the region mark that `table` implies, that is one whose region has no mark of its own here:
+    /// the mark of one run of all its entries, or that of no step if it has none.
     pub(crate) fn implied_by(&self, table: &MemTable) -> Mark
         ensures { result ≡ implied_mark table.now }
     {
@@ -233,18 +239,18 @@ impl RegionMarks {
         }
     }
 
-    /// Makes the region mark of no step.
+    /// Returns the region mark of no step, which leaves older tables as they are.
     pub(crate) fn of_no_step(&self) -> Mark
         ensures { result ≡ fresh }
     {
         Mark::new(self.alloc)
     }
 
-    /// Makes room in a slot, up to `count` region marks.
+    /// Makes room for at least `count` region marks in the slot numbered `slot`, below 128.
     ///
     /// # Errors
     ///
-    /// Where there is no memory for it. No region mark changes in either case.
+    /// `AllocError` if there is no memory for it. No region mark changes in either case.
     pub(crate) fn make_room(&mut self, slot: usize, count: usize) -> AllocResult<()>
         requires { slot < 128 }
         ensures { self.new ≡ self.old }
@@ -253,7 +259,7 @@ impl RegionMarks {
         self.slots[slot].make_room(count)
     }
 
-    /// Returns the region marks by slots, 128 of them or none.
+    /// Returns the region marks by slots: 128 of them, or none if none was needed so far.
     pub(crate) fn into_slots(self) -> Vec<SlotMarks>
         ensures marks { together result.items ≡ self }
         ensures slots { AreSlots 0 result.items }
@@ -263,11 +269,11 @@ impl RegionMarks {
     }
 }
 
-/// Makes empty slots where there are none.
+/// Makes the 128 slots, without region marks, if `slots` has none yet.
 ///
 /// # Errors
 ///
-/// Where there is no memory for them. There are none then.
+/// `AllocError` if there is no memory for them. There are none then.
 fn make_slots(slots: &mut Vec<SlotMarks>, alloc: Global) -> AllocResult<()>
     ensures ok { OnOk result (slots.new.items ≡ with_slots slots.old.items) }
     ensures err { OnErr result (slots.new.items ≡ slots.old.items) }
@@ -278,11 +284,11 @@ fn make_slots(slots: &mut Vec<SlotMarks>, alloc: Global) -> AllocResult<()>
     Ok(())
 }
 
-/// Makes 128 slots without region marks.
+/// Returns 128 slots without region marks.
 ///
 /// # Errors
 ///
-/// Where there is no memory for them.
+/// `AllocError` if there is no memory for them.
 fn empty_slots(alloc: Global) -> AllocResult<Vec<SlotMarks>>
     ensures { IfOk result (λ slots. slots.items ≡ replicate 128 finite.empty) }
 {

@@ -1,4 +1,4 @@
-//! What the append queue takes away of rewritten tables, as batches that tell it.
+//! What the append queue takes away from rewritten tables, as batches that tell the rewrite queue so.
 
 ghost use Rattle.std.specs.Prelude.{◌≡◌, ◌∷◌, [], ◌++◌, ◌&&◌, true, false, filter, map, nat_le, nat_lt, IfErr, IfOk, MatchOption, None, OnOk, Some, if◌then◌else◌};
 ghost use Rattle.std.specs.FinMap as finite;
@@ -18,23 +18,24 @@ use raft_records::{Command, LogBatch};
 use raft_table::{Mark, MemTable};
 use std::alloc::Global;
 
-/// What the append queue takes away of rewritten tables, as open batches that tell it. What is told of a region stands in one of
-/// them.
+/// What the append queue takes away from rewritten tables, as open batches of commands and deletions that take the same
+/// away. All items of a region are in one of the two batches.
 #[derive(Drop)]
 pub struct TakenAway {
-    /// What is told at once: of the regions whose rewritten entries, those that stay under the region mark, lie in front of the
-    /// appended ones and don't join them.
+    /// What has to be written at once: the items of regions whose rewritten entries are dropped though their region mark lets
+    /// them stay, since the appended entries don't join them.
     pub at_once: LogBatch,
-    /// What may be told later.
+    /// What may be written later: the items of the other regions.
     pub later: LogBatch,
 }
 
 impl MarkedTables {
-    /// Returns what the region marks take away of rewritten tables, as batches that tell it.
+    /// Returns what the region marks of these appended tables take away from the tables `rewritten`, as open
+    /// batches that tell the rewrite queue so.
     ///
     /// # Errors
     ///
-    /// `Memory`.
+    /// `Memory` alone.
     pub(crate) fn taken_away(
         &self,
         alloc: Global,
@@ -54,11 +55,11 @@ impl MarkedTables {
         Ok(taken)
     }
 
-    /// Adds what the append queue takes away of a rewritten table.
+    /// Adds what the append queue takes away from the rewritten table `table` to `taken`.
     ///
     /// # Errors
     ///
-    /// `Memory`. Some of it may then be added.
+    /// `Memory` alone. Some of it may have been added then.
     fn tell_table(&self, table: &MemTable, taken: &mut TakenAway) -> Result<()>
         requires { AreOpen taken.old }
         ensures ok { OnOk result (taken.new ≡ with_table_told (regions_in self.now) table.now taken.old) }
@@ -71,12 +72,13 @@ impl MarkedTables {
         }
     }
 
-    /// Adds what the append queue takes away of a rewritten table whose region has no kept region
-    /// mark: it is that which the appended table implies, if there is one.
+    /// Adds what the append queue takes away from the rewritten table `table`, whose region has no kept
+    /// region mark: what the mark takes away that the appended table implies, or nothing if there is no such
+    /// table.
     ///
     /// # Errors
     ///
-    /// `Memory`. Some of it may then be added.
+    /// `Memory` alone. Some of it may have been added then.
     fn tell_unmarked(&self, table: &MemTable, taken: &mut TakenAway) -> Result<()>
         requires none_kept { finite.get self.now.marks table.now.region_id ≡ None }
         requires open { AreOpen taken.old }
@@ -91,7 +93,7 @@ impl MarkedTables {
         }
     }
 
-    /// Returns the first index of a region's entries in the append queue.
+    /// Returns the index of the first entry that `region` has in the append queue, or `None` if it has none.
     fn first_appended(&self, region: u64) -> Option<u64>
         ensures { result ≡ first_of (table_in self.now.accessor.tables region).entries }
     {
@@ -102,12 +104,12 @@ impl MarkedTables {
     }
 }
 
-/// Adds what a region mark takes away of the region's rewritten table, where the appended entries begin at this index, if there are
-/// some.
+/// Adds what a region mark takes away from the region's rewritten table `table` to `taken`. `first` is the
+/// index of the region's first entry in the append queue, if there is one.
 ///
 /// # Errors
 ///
-/// `Memory`.
+/// `Memory` alone. Some of it may have been added then.
 pub(crate) fn tell_mark(
     mark: &Mark,
     first: Option<u64>,
@@ -124,12 +126,13 @@ pub(crate) fn tell_mark(
     }
 }
 
-/// Adds what is told at once of a region whose rewritten entries, those that stay under its mark, are dropped in front of appended
-/// ones that begin at this index.
+/// Adds what has to be told at once of a region whose rewritten entries are dropped though they lie below the
+/// mark's cut, because the appended ones, which begin at `index`, don't join them: what the mark takes away,
+/// and a compaction to `index` if the table begins below it.
 ///
 /// # Errors
 ///
-/// `Memory`.
+/// `Memory` alone. Some of it may have been added then.
 fn tell_front(mark: &Mark, index: u64, table: &MemTable, taken: &mut TakenAway) -> Result<()>
     requires dropped { is_front_dropped mark.now (Some index) table.now ≡ true }
     requires open { AreOpen taken.old }
@@ -146,8 +149,8 @@ fn tell_front(mark: &Mark, index: u64, table: &MemTable, taken: &mut TakenAway) 
     )
 }
 
-/// Returns the index at which the appended entries begin, if the rewritten ones that stay under a region mark are dropped in front of
-/// them.
+/// Returns `first`, the index at which the appended entries begin, if rewritten entries that stay under the
+/// region mark are dropped because the appended ones don't join them ([`drops_front`]); else `None`.
 fn dropped_before(mark: &Mark, first: Option<u64>, table: &MemTable) -> Option<u64>
     ensures { MatchOption result (is_front_dropped mark.now first table.now ≡ false)
         (λ index. (first ≡ Some index) × (is_front_dropped mark.now (Some index) table.now ≡ true)) }
@@ -159,8 +162,9 @@ fn dropped_before(mark: &Mark, first: Option<u64>, table: &MemTable) -> Option<u
     None
 }
 
-/// Tests whether the rewritten entries that stay under a region mark are dropped, since they lie in front of appended ones that begin
-/// at this index, and these don't join them.
+/// Tests whether rewritten entries that stay under a region mark, those from its floor on and below its cut,
+/// are dropped because the appended entries, which begin at `first`, don't join them: they don't begin at the
+/// cut, or the table ends below it.
 fn drops_front(mark: &Mark, first: u64, table: &MemTable) -> bool
     ensures { result ≡ is_front_dropped mark.now (Some first) table.now }
 {
@@ -173,7 +177,7 @@ fn drops_front(mark: &Mark, first: u64, table: &MemTable) -> bool
     }
 }
 
-/// Tests whether a table has an entry from an index on and below another one.
+/// Tests whether `table` has an entry at or above index `from` and below index `below`.
 fn has_between(table: &MemTable, from: u64, below: u64) -> bool
     ensures { result ≡ list_any (λ (e : EntryIndex). nat_le from e.index && nat_lt e.index below) table.now.entries }
 {
@@ -184,11 +188,12 @@ fn has_between(table: &MemTable, from: u64, below: u64) -> bool
     }
 }
 
-/// Adds what a region mark takes away of the region's rewritten table to a batch.
+/// Adds what a region mark takes away from the region's rewritten table to the batch `told`: its clean, or
+/// its compaction, truncation and deletions.
 ///
 /// # Errors
 ///
-/// `Memory`.
+/// `Memory` alone. Some of it may have been added then.
 fn tell_steps(mark: &Mark, table: &MemTable, told: &mut LogBatch) -> Result<()>
     requires { told.old.stage ≡ is_open }
     ensures ok { OnOk result (told.new ≡ record told.old {
@@ -201,11 +206,12 @@ fn tell_steps(mark: &Mark, table: &MemTable, told: &mut LogBatch) -> Result<()>
     tell_deletions(table.region_id(), keys, told)
 }
 
-/// Adds what a region mark's clean, floor and cut take away of a rewritten table to a batch.
+/// Adds the commands by which a region mark takes something away from a rewritten table to the batch `told`:
+/// a Clean, or a compaction to its floor and a truncation at its cut.
 ///
 /// # Errors
 ///
-/// `Memory`. Some of it may then be added.
+/// `Memory` alone. Some of it may have been added then.
 fn tell_bounds(mark: &Mark, table: &MemTable, told: &mut LogBatch) -> Result<()>
     requires { told.old.stage ≡ is_open }
     ensures ok { OnOk result (told.new ≡ record told.old {
@@ -230,11 +236,11 @@ fn tell_bounds(mark: &Mark, table: &MemTable, told: &mut LogBatch) -> Result<()>
     }
 }
 
-/// Adds a command to a batch, where it takes something away.
+/// Adds `command` for `region` to the batch `told`, if `takes`: if it takes something away.
 ///
 /// # Errors
 ///
-/// `Memory`. The batch is then as it was.
+/// `Memory` alone. The batch is unchanged then.
 fn tell_if(takes: bool, region: u64, command: Command, told: &mut LogBatch) -> Result<()>
     requires { told.old.stage ≡ is_open }
     ensures ok { OnOk result (told.new ≡ record told.old {
@@ -248,11 +254,11 @@ fn tell_if(takes: bool, region: u64, command: Command, told: &mut LogBatch) -> R
     Ok(())
 }
 
-/// Adds the deletions of a region's keys to a batch.
+/// Adds a deletion of each of `keys` in `region` to the batch `told`.
 ///
 /// # Errors
 ///
-/// `Memory`. Some of them may then be added.
+/// `Memory` alone. Some of them may have been added then.
 fn tell_deletions(region: u64, keys: Vec<Vec<u8>>, told: &mut LogBatch) -> Result<()>
     requires { told.old.stage ≡ is_open }
     ensures ok { OnOk result (told.new ≡ record told.old {
@@ -266,14 +272,14 @@ fn tell_deletions(region: u64, keys: Vec<Vec<u8>>, told: &mut LogBatch) -> Resul
     Ok(())
 }
 
-/// Tests whether a table has an entry or a key value.
+/// Tests whether `table` has an entry or a key value.
 fn has_records(table: &MemTable) -> bool
     ensures { result ≡ takes_of table.now Clean }
 {
     table.entries_count() > 0 || table.key_count() > 0
 }
 
-/// Tests whether a table has an entry below an index.
+/// Tests whether `table` has an entry below `index`, which a compaction would drop.
 fn begins_below(table: &MemTable, index: u64) -> bool
     ensures { result ≡ takes_of table.now (Compact index) }
 {
@@ -284,7 +290,7 @@ fn begins_below(table: &MemTable, index: u64) -> bool
     }
 }
 
-/// Tests whether a table has an entry at or above an index.
+/// Tests whether `table` has an entry at or above `index`, which a truncation would drop.
 fn ends_behind(table: &MemTable, index: u64) -> bool
     ensures { result ≡ takes_of table.now (Truncate index) }
 {

@@ -8,13 +8,13 @@ use raft_base::{AllocResult, FileSeq};
 use raft_records::AtomicGroupStatus;
 use std::alloc::Global;
 
-/// What stands before the first `Begin` of a group: what ends a stretch that began earlier.
+/// What a history has of a group before its first `Begin`: items that may end a stretch that began in an older history.
 #[doc(hidden)]
 #[derive(Debug, Drop)]
 pub enum GroupFront {
-    /// No `Begin` and no `End` has come; the items so far.
+    /// Neither a `Begin` nor an `End` has come yet. Has the items so far.
     Open(WaitingItems),
-    /// An `End` came first; the items up to it, and the number of its file.
+    /// An `End` came first. Has the items up to it, and the number of its file.
     Ended(WaitingItems, FileSeq),
     /// A `Begin` came first.
     Begun,
@@ -46,7 +46,7 @@ pub struct WholeGroup {
 }
 
 impl GroupFront {
-    /// Returns how many items wait in front of the first `Begin`.
+    /// Returns the number of items that came before the first `Begin`.
     fn len(&self) -> usize
         ensures { result ≡ length (front_steps (front_shown self.now)) }
     {
@@ -57,11 +57,12 @@ impl GroupFront {
         }
     }
 
-    /// Puts older items in front of these. Where a `Begin` came first they are dropped.
+    /// Puts the older `items` before these. If a `Begin` came first, they are dropped: it ends what began
+    /// before.
     ///
     /// # Errors
     ///
-    /// Where there is no memory for them.
+    /// `AllocError` if there is no memory for them. All are lost then.
     fn led_by(self, mut items: WaitingItems) -> AllocResult<GroupFront>
         ensures { IfOk result (λ r. front_shown r ≡ led_by items (front_shown self)) }
     {
@@ -80,7 +81,7 @@ impl GroupFront {
 }
 
 impl WaitingGroup {
-    /// Returns what is known of a group without a group marker.
+    /// Returns what is known of a group of which no group marker was read: nothing.
     pub fn without_marker(alloc: Global) -> WaitingGroup
         ensures { group_shown result ≡ without_marker }
     {
@@ -90,7 +91,8 @@ impl WaitingGroup {
         }
     }
 
-    /// Returns what is known of a group from one batch with its group marker.
+    /// Returns what one batch tells of a group: it has a group marker with this `status` and these `items`,
+    /// and is in the file numbered `seq`.
     pub fn one_marker(status: AtomicGroupStatus, items: WaitingItems, seq: FileSeq) -> WaitingGroup
         ensures { group_shown result ≡ one_marker status items seq }
     {
@@ -105,7 +107,7 @@ impl WaitingGroup {
         WaitingGroup { front, stretch }
     }
 
-    /// Returns how many items wait, in front of the first `Begin` and in the open stretch.
+    /// Returns the number of items that wait, before the first `Begin` and in the stretch that is open.
     pub fn len(&self) -> u128
         ensures items { result ≡ length (held_steps (group_shown self.now)) }
         ensures bound { result < 2 ^ 65 }
@@ -117,12 +119,13 @@ impl WaitingGroup {
         self.front.len() as u128 + behind as u128
     }
 
-    /// Returns what is known of the group from this history and a newer one after it, and the
-    /// group, if the two make it whole.
+    /// Joins what a newer history, which follows, tells of the group. Returns what is known from both and, if
+    /// an `End` in the newer one ends a stretch that the older one began, the group that is whole by that.
     ///
     /// # Errors
     ///
-    /// Where there is no memory to put the newer items after the older ones.
+    /// `AllocError` if there is no memory to put the newer items behind the older ones. What is known of the
+    /// group is lost then.
     pub fn join(self, newer: WaitingGroup) -> AllocResult<(WaitingGroup, Option<WholeGroup>)>
         ensures known { IfOk result (λ r. group_shown r.0 ≡ joined_group (group_shown self)
             (group_shown newer)) }
@@ -142,11 +145,12 @@ impl WaitingGroup {
     }
 }
 
-/// Puts items behind those of a stretch, if one is open.
+/// Puts items behind those of `stretch`, if one is open. Returns `None` otherwise, and drops the items: no
+/// `Begin` came before them.
 ///
 /// # Errors
 ///
-/// Where there is no memory for them.
+/// `AllocError` if there is no memory for them.
 fn going_on(stretch: Option<OpenStretch>, items: WaitingItems) -> AllocResult<Option<OpenStretch>>
     ensures { IfOk result (λ r. stretch_shown r ≡ carried_stretch (stretch_shown stretch) items) }
 {
@@ -157,12 +161,12 @@ fn going_on(stretch: Option<OpenStretch>, items: WaitingItems) -> AllocResult<Op
     Ok(Some(open))
 }
 
-/// Ends a stretch, if one is open, with these items, and returns the whole group. `last_seq` is the
-/// number of the file of its `End`.
+/// Ends `stretch`, if one is open, with these items, and returns the whole group, whose `End` is in the file
+/// numbered `last_seq`. Returns `None` if no stretch is open.
 ///
 /// # Errors
 ///
-/// Where there is no memory for the items.
+/// `AllocError` if there is no memory for the items.
 fn ended(
     stretch: Option<OpenStretch>,
     items: WaitingItems,

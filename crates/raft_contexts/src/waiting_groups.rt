@@ -37,7 +37,7 @@ impl Model for WaitingGroups {
 }
 
 impl WaitingGroups {
-    /// Makes one in which no group has a group marker.
+    /// Returns groups of which no group marker was read.
     pub fn new(alloc: Global) -> WaitingGroups
         ensures { result ≡ finite.empty }
     {
@@ -47,14 +47,14 @@ impl WaitingGroups {
         }
     }
 
-    /// Returns how many groups have a group marker.
+    /// Returns the number of groups of which a group marker was read.
     pub fn len(&self) -> usize
         ensures { result ≡ finite.len self.now }
     {
         self.groups.len()
     }
 
-    /// Returns how many items wait.
+    /// Returns the number of items that wait, of all groups.
     pub fn waiting_items(&self) -> u128
         ensures { result ≡ waiting_steps self.now }
     {
@@ -65,12 +65,12 @@ impl WaitingGroups {
         count
     }
 
-    /// Takes in one more batch, in the file of number `seq`, with a group marker of the group `id`.
-    /// Returns the group if the batch makes it whole.
+    /// Takes in one more batch, in the file numbered `seq`, whose group marker is of the group `id` and has
+    /// this `status`. Returns the group if the batch makes it whole, else `None`.
     ///
     /// # Errors
     ///
-    /// Where there is no memory. The group may then be forgotten.
+    /// `AllocError` if there is no memory for it. What is known of the group may be lost then.
     pub fn take_in(
         &mut self,
         id: u64,
@@ -92,12 +92,12 @@ impl WaitingGroups {
         self.join_one(id, WaitingGroup::one_marker(status, items, seq))
     }
 
-    /// Joins what is known of the groups of a newer history. Returns the groups that the two make
-    /// whole.
+    /// Joins `newer`, what is known of the groups of a newer history, which follows. Returns the groups that
+    /// the two histories make whole, by rising ids.
     ///
     /// # Errors
     ///
-    /// Where there is no memory. Groups may then be forgotten.
+    /// `AllocError` if there is no memory for it. What is known of groups may be lost then.
     pub fn join(&mut self, newer: WaitingGroups) -> AllocResult<Vec<WholeGroup>>
         ensures known { OnOk result (self.new ≡ joined_groups self.old newer) }
         ensures wholes { IfOk result (λ w. map whole_shown w.items ≡ whole_groups self.old newer) }
@@ -117,11 +117,12 @@ impl WaitingGroups {
         Ok(wholes)
     }
 
-    /// Joins what a newer history says of a group. Returns the group if the two make it whole.
+    /// Joins what a newer history tells of the group `id`. Returns the group if the two histories make it
+    /// whole, else `None`.
     ///
     /// # Errors
     ///
-    /// Where there is no memory. The group may then be forgotten.
+    /// `AllocError` if there is no memory for it. What is known of the group may be lost then.
     fn join_one(&mut self, id: u64, newer: WaitingGroup) -> AllocResult<Option<WholeGroup>>
         ensures known { OnOk result (self.new
             ≡ finite.insert self.old id (joined_group (known_of self.old id) (group_shown newer))) }
@@ -134,7 +135,7 @@ impl WaitingGroups {
         Ok(whole)
     }
 
-    /// Takes the group of the least id out, `None` where there is none.
+    /// Removes the group with the least id and returns both, or `None` if there is none.
     fn take_first(&mut self) -> Option<(u64, WaitingGroup)>
         ensures first { IfSome result (λ p. finite.entries self.old
             ≡ (p.0, group_shown p.1) ∷ finite.entries self.new) }
@@ -146,7 +147,8 @@ impl WaitingGroups {
     }
 }
 
-/// Takes what is known of a group out. Of one that isn't there it is nothing.
+/// Removes the group `id` from `groups` and returns it, or a group of which nothing is known, allocated by
+/// `alloc`, if `groups` doesn't have it.
 fn take_out(groups: &mut BTreeMap<u64, WaitingGroup>, alloc: Global, id: u64) -> WaitingGroup
     requires { IsOrdered nat_cmp groups.old }
     ensures known { group_shown result ≡ known_of (seen_entries groups.old.entries) id }
@@ -159,11 +161,11 @@ fn take_out(groups: &mut BTreeMap<u64, WaitingGroup>, alloc: Global, id: u64) ->
     }
 }
 
-/// Pushes a group, if there is one.
+/// Appends a group to `wholes`, if there is one.
 ///
 /// # Errors
 ///
-/// Where there is no memory for it.
+/// `AllocError` if there is no memory for it.
 fn push_some(wholes: &mut Vec<WholeGroup>, whole: Option<WholeGroup>) -> AllocResult<()>
     ensures { OnOk result (map whole_shown wholes.new.items
         ≡ map whole_shown wholes.old.items ++ option_to_list (option_map whole_shown whole)) }

@@ -29,7 +29,7 @@ impl Model for WaitingItems {
 }
 
 impl WaitingItems {
-    /// Makes one without items.
+    /// Returns a list without steps. It allocates nothing yet.
     pub fn new(alloc: Global) -> WaitingItems
         ensures { result ≡ [] }
     {
@@ -38,11 +38,11 @@ impl WaitingItems {
         }
     }
 
-    /// Returns the steps of items, in order.
+    /// Returns the steps of `items`, in order. Items without a step, as group markers, are left out.
     ///
     /// # Errors
     ///
-    /// Where there is no memory for them.
+    /// `AllocError` if there is no memory for them.
     pub fn of_items(items: Vec<LogItem>) -> AllocResult<WaitingItems>
         ensures { IfOk result (λ waiting. waiting ≡ steps_of_items (map item_of items.items)) }
     {
@@ -55,18 +55,18 @@ impl WaitingItems {
         Ok(WaitingItems { steps })
     }
 
-    /// Returns how many steps there are.
+    /// Returns the number of steps that wait.
     pub fn len(&self) -> usize
         ensures { result ≡ length self.now }
     {
         self.steps.len()
     }
 
-    /// Moves the steps of `more` after these.
+    /// Moves the steps of `more` behind these.
     ///
     /// # Errors
     ///
-    /// Where there is no memory for them.
+    /// `AllocError` if there is no memory for them. The steps of `more` are lost then.
     pub fn append(&mut self, more: WaitingItems) -> AllocResult<()>
         ensures { OnOk result (self.new ≡ self.old ++ more) }
     {
@@ -75,11 +75,12 @@ impl WaitingItems {
         Ok(())
     }
 
-    /// Returns the regions that the steps change, in order; one may stand there twice.
+    /// Returns the regions that the steps change, in the order of the steps; neighboring steps of one region
+    /// count once, but a region may be there twice.
     ///
     /// # Errors
     ///
-    /// Where there is no memory for them.
+    /// `AllocError` if there is no memory for them.
     pub fn regions(&self) -> AllocResult<Vec<u64>>
         ensures { IfOk result
             (λ ids. (r : ℕ) → list_any (λ id. r == id) ids.items ≡ names r self.now) }
@@ -94,7 +95,7 @@ impl WaitingItems {
         Ok(ids)
     }
 
-    /// Returns the steps, in order.
+    /// Takes the steps out of the list, in order.
     pub fn into_steps(self) -> Vec<RegionStep>
         ensures { map region_step_shown result.items ≡ self }
     {
@@ -102,7 +103,7 @@ impl WaitingItems {
     }
 }
 
-/// Tests whether an id is the last one of a list.
+/// Tests whether `id` is the last one of `ids`.
 fn is_last(ids: &[u64], id: u64) -> bool
     ensures { (r : ℕ) → IsTrue result → list_any (λ i. r == i) (ids.now ++ id ∷ []) ≡ list_any
         (λ i. r == i) ids.now }

@@ -12,11 +12,11 @@ pub(crate) enum Choice {
     Any,
     /// Entries in place of all of the region or all but the first, and a compaction to their end.
     Replacement,
-    /// An entry of so many bytes at the region's end, or where it has four or more a compaction.
+    /// An entry of this many bytes behind the region's last one or, if it has four or more, a compaction.
     Long(usize),
-    /// Entries from an index on and below another one.
+    /// Entries from the first index on, below the second.
     Entries(u64, u64),
-    /// An entry at an index whose bytes are a sound batch of that version.
+    /// An entry at this index, whose bytes are those of a sound batch in this version.
     SoundBatch(u64, Version),
     /// A value of the key `k`.
     Put(&'static str),
@@ -27,12 +27,17 @@ pub(crate) enum Choice {
 }
 
 impl Choice {
-    /// Draws a change that a region with these records may have.
+    /// Returns the change to write to a region that has `records`. What this choice leaves open, as the
+    /// entries' bytes, is drawn by `dice`.
+    ///
+    /// # Errors
+    ///
+    /// `Memory` alone.
     pub(crate) fn draw(self, alloc: Global, dice: &mut Dice, records: &Records) -> Result<Change> {
         Ok(match self {
             Choice::Any => Change::draw(alloc, dice, records)?,
             Choice::Replacement => Change::draw_replacement(alloc, dice, records)?,
-            Choice::Long(len) => draw_long(alloc, dice, records, len)?,
+            Choice::Long(len) => draw_long_change(alloc, dice, records, len)?,
             Choice::Entries(first, end) => {
                 Change::Append(draw_entries(alloc, dice, first, end)?)
             }
@@ -49,8 +54,18 @@ impl Choice {
     }
 }
 
-/// Draws an entry of so many bytes behind the last one, or returns the compaction to the last of four or more.
-fn draw_long(alloc: Global, dice: &mut Dice, records: &Records, len: usize) -> Result<Change> {
+/// Returns an entry of `len` bytes behind the last one or, if there are four entries or more, the compaction
+/// to the last one, so that few long entries are kept.
+///
+/// # Errors
+///
+/// `Memory` alone.
+fn draw_long_change(
+    alloc: Global,
+    dice: &mut Dice,
+    records: &Records,
+    len: usize,
+) -> Result<Change> {
     let end = records.end();
     if records.entries.len() > 3 {
         return Ok(Change::Compact(end.saturating_sub(1)));
@@ -58,13 +73,22 @@ fn draw_long(alloc: Global, dice: &mut Dice, records: &Records, len: usize) -> R
     one_entry(end, vec![in alloc; dice.letter(); len]?)
 }
 
-/// Returns the change that appends one entry of this text.
+/// Returns the change that appends one entry at `index`, with the bytes `text`.
+///
+/// # Errors
+///
+/// `Memory` alone.
 fn one_entry(index: u64, text: Vec<u8>) -> Result<Change> {
     let alloc = *text.allocator();
     Ok(Change::Append(vec![in alloc; Proposal { index, text }]?))
 }
 
-/// Returns the bytes of a batch of one value of the key `k` of region 1, as the first append file has it.
+/// Returns the bytes of a batch that puts one value under the key `k` of region 1, signed for append file 1.
+/// An entry with these bytes must not be taken for a batch.
+///
+/// # Errors
+///
+/// `Memory` alone.
 fn sound_batch(alloc: Global, version: Version) -> Result<Vec<u8>> {
     let mut batch = LogBatch::default(alloc);
     batch.put(

@@ -28,12 +28,17 @@ pub(crate) struct Crashes<'a, R: Host> {
 }
 
 impl<'a, R: Host> Crashes<'a, R> {
-    /// Returns the allocator of the machine.
+    /// Returns the allocator that the machine gives.
     fn alloc(&self) -> Global {
         self.rt.alloc()
     }
 
-    /// Tries the crashes in what a queue was asked last, if each byte is to be tried; and one that is drawn.
+    /// Tries a crash of `disk` that is drawn and, if `by_bytes` names a queue, before it each one that
+    /// [`Disk::crashes_of_queue`] lists.
+    ///
+    /// # Errors
+    ///
+    /// `Io` for the output; `Memory`.
     pub(crate) fn try_crashes(
         &mut self,
         way: Way,
@@ -42,7 +47,7 @@ impl<'a, R: Host> Crashes<'a, R> {
         dice: &mut Dice,
     ) -> Result<()> {
         if let Some(queue) = by_bytes {
-            for crash in disk.crashes_in(queue)? {
+            for crash in disk.crashes_of_queue(queue)? {
                 self.try_crash(way, disk, crash, dice)?;
             }
         }
@@ -50,7 +55,12 @@ impl<'a, R: Host> Crashes<'a, R> {
         self.try_crash(way, disk, crash, dice)
     }
 
-    /// Tries a crash: recovers what is left without its torn batches, then opens what is left, and what crashes of these openings leave.
+    /// Tries one crash of `disk`: recovers the whole batches that it leaves, then opens all that it leaves,
+    /// and what crashes of these openings leave, at most `RESTARTS` openings in all.
+    ///
+    /// # Errors
+    ///
+    /// `Io` for the output; `Memory`.
     fn try_crash(&mut self, way: Way, disk: &Disk, crash: Crash, dice: &mut Dice) -> Result<()> {
         self.tried = self.tried.saturating_add(1);
         let mut left = disk.disk_after(crash)?;
@@ -64,7 +74,12 @@ impl<'a, R: Host> Crashes<'a, R> {
         Ok(())
     }
 
-    /// Recovers what a disk has without its torn batches.
+    /// Recovers the whole batches that `disk` has, and counts a difference if the records aren't those that
+    /// the disk must have.
+    ///
+    /// # Errors
+    ///
+    /// `Io` for the output; `Memory`. A refusal of the recovery counts as a difference.
     fn recover(&mut self, way: Way, disk: &Disk) -> Result<()> {
         self.recoveries = self.recoveries.saturating_add(1);
         let (append, rewrite) = disk.untorn_files()?;
@@ -74,7 +89,13 @@ impl<'a, R: Host> Crashes<'a, R> {
         }
     }
 
-    /// Opens what a disk has, and returns what a crash of that leaves, if it asked anything, in half of the cases.
+    /// Opens an engine over the files of `disk`, and compares its records with those that the disk must have.
+    /// In half of the cases, and if the opening asked anything of the files, returns the disk that a crash in
+    /// the midst of it leaves; else `None`.
+    ///
+    /// # Errors
+    ///
+    /// `Io` for the output; `Memory`. A refusal of the opening counts as a difference.
     fn open(&mut self, way: Way, disk: &mut Disk, dice: &mut Dice) -> Result<Option<Disk>> {
         self.recoveries = self.recoveries.saturating_add(1);
         let (append, rewrite) = disk.files()?;
@@ -87,7 +108,13 @@ impl<'a, R: Host> Crashes<'a, R> {
         }
     }
 
-    /// Reads what an engine has that was opened over a disk, and returns what a crash of the opening leaves.
+    /// Compares the records of `engine`, which was opened over `disk`, with those that the disk must have. In
+    /// half of the cases, and if the opening asked anything of the files, returns the disk that a crash
+    /// behind one of these asks leaves; else `None`.
+    ///
+    /// # Errors
+    ///
+    /// `Io` for the output; `Memory`. A refusal of a reading counts as a difference.
     fn crash_again(
         &mut self,
         engine: &mut Engine<NotedFiles>,
@@ -104,25 +131,40 @@ impl<'a, R: Host> Crashes<'a, R> {
         }
         let count = dice.below(asks.len() as u64) as usize;
         for ask in asks.iter().take(count.saturating_add(1)) {
-            disk.take_ask(ask, "")?;
+            disk.apply_ask(ask, "")?;
         }
         let crash = disk.draw(dice);
         Ok(Some(disk.disk_after(crash)?))
     }
 
-    /// Counts and prints contents that aren't those that there have to be.
+    /// Counts a difference, and prints both, if `contents`, as text, aren't `wanted`. `how` says in the print
+    /// how they were read.
+    ///
+    /// # Errors
+    ///
+    /// `Io` for the output; `Memory`.
     fn compare_contents(&mut self, contents: &Contents, wanted: &str, how: &str) -> Result<()> {
         let found = text_of(self.alloc(), contents)?;
         self.compare(found.as_str(), wanted, how)
     }
 
-    /// Counts and prints a refusal.
+    /// Counts a difference, and prints `how`, which says what was refused, and `error`: something that had to
+    /// succeed didn't.
+    ///
+    /// # Errors
+    ///
+    /// `Io` for the output; `Memory`.
     fn count_refusal(&mut self, how: &str, error: &Error) -> Result<()> {
         let text = format!(in self.alloc(); "{how}: {error}")?;
         self.count_difference(text.as_str())
     }
 
-    /// Counts and prints records that aren't those that there have to be.
+    /// Counts a difference, and prints both texts, if `found` isn't `wanted`. `how` says in the print how it
+    /// was read.
+    ///
+    /// # Errors
+    ///
+    /// `Io` for the output; `Memory`.
     pub(crate) fn compare(&mut self, found: &str, wanted: &str, how: &str) -> Result<()> {
         if found == wanted {
             return Ok(());
@@ -131,7 +173,12 @@ impl<'a, R: Host> Crashes<'a, R> {
         self.count_difference(text.as_str())
     }
 
-    /// Counts and prints a refusal of a step that has to succeed.
+    /// Counts a difference, and prints the error, if `taken`, the result of a step that had to succeed, is
+    /// one.
+    ///
+    /// # Errors
+    ///
+    /// `Io` for the output; `Memory`.
     pub(crate) fn check_success(&mut self, taken: Result<()>) -> Result<()> {
         match taken {
             Ok(()) => Ok(()),
@@ -139,12 +186,20 @@ impl<'a, R: Host> Crashes<'a, R> {
         }
     }
 
-    /// Prints in which history something was different.
-    pub(crate) fn print_where(&self, kind: &str, number: u64, step: u64) -> Result<()> {
+    /// Prints where something was different: the `kind` and the `number` of the history, and its step.
+    ///
+    /// # Errors
+    ///
+    /// `Io` for the output.
+    pub(crate) fn print_place(&self, kind: &str, number: u64, step: u64) -> Result<()> {
         Ok(println!(self.rt; "so in the history of {kind} {number}, step {step}")?)
     }
 
-    /// Counts and prints what is different.
+    /// Counts a difference, and prints `text`, which says what is different.
+    ///
+    /// # Errors
+    ///
+    /// `Io` for the output.
     pub(crate) fn count_difference(&mut self, text: &str) -> Result<()> {
         self.different = self.different.saturating_add(1);
         Ok(println!(self.rt; "{text}")?)

@@ -26,7 +26,11 @@ pub(crate) struct Disk {
 }
 
 impl Disk {
-    /// Makes a disk without files.
+    /// Returns a disk without files and records.
+    ///
+    /// # Errors
+    ///
+    /// `Memory` alone.
     pub(crate) fn new(alloc: Global) -> Result<Disk> {
         Ok(Disk {
             append: QueueDisk::new(alloc),
@@ -35,12 +39,17 @@ impl Disk {
         })
     }
 
-    /// Returns the disk that a crash leaves.
+    /// Returns the disk that `crash` leaves: its files, and the records that the batches give which are left
+    /// of the append queue.
+    ///
+    /// # Errors
+    ///
+    /// `Memory` alone.
     pub(crate) fn disk_after(&self, crash: Crash) -> Result<Disk> {
         let alloc = self.append.alloc();
         let records = match self
             .prefix_records
-            .get(self.append.batches_in(crash.append))
+            .get(self.append.count_whole_batches(crash.append))
         {
             Some(records) => String::from_str(alloc, records)?,
             None => String::new(alloc),
@@ -52,7 +61,7 @@ impl Disk {
         })
     }
 
-    /// Returns the disk of a queue.
+    /// Returns what the disk has of `queue`.
     fn queue(&self, queue: LogQueue) -> &QueueDisk {
         match queue {
             LogQueue::Append => &self.append,
@@ -60,11 +69,16 @@ impl Disk {
         }
     }
 
-    /// Takes in an ask. Where it puts a batch in the append queue the records are these from then on.
-    pub(crate) fn take_ask(&mut self, ask: &Ask, records: &str) -> Result<()> {
+    /// Brings the disk up to date with one ask of an engine, which changes the files of a queue. If it puts a batch in the append
+    /// queue, `records` is the text of all records with that batch; else it isn't used.
+    ///
+    /// # Errors
+    ///
+    /// `Memory` alone. The files may have been changed then.
+    pub(crate) fn apply_ask(&mut self, ask: &Ask, records: &str) -> Result<()> {
         match ask.queue {
-            LogQueue::Append => self.append.take_act(&ask.act)?,
-            LogQueue::Rewrite => self.rewrite.take_act(&ask.act)?,
+            LogQueue::Append => self.append.apply_act(&ask.act)?,
+            LogQueue::Rewrite => self.rewrite.apply_act(&ask.act)?,
         }
         if ask.queue == LogQueue::Append {
             self.note_records(&ask.act, records)?;
@@ -72,8 +86,12 @@ impl Disk {
         Ok(())
     }
 
-    /// Notes which records stand by the batches of the append queue, after an act on its files: one
-    /// more where a batch is put, the last ones alone after a sync.
+    /// Notes, after an act on the append files, which records each number of batches gives: `records` for one
+    /// more batch that is put; after a sync or a new file, the last ones alone.
+    ///
+    /// # Errors
+    ///
+    /// `Memory` alone.
     fn note_records(&mut self, act: &Act, records: &str) -> Result<()> {
         let alloc = self.append.alloc();
         match act {
@@ -88,7 +106,7 @@ impl Disk {
         Ok(())
     }
 
-    /// Returns the crash that loses nothing.
+    /// Returns the crash that loses nothing of either queue.
     pub(crate) fn lossless_crash(&self) -> Crash {
         Crash {
             append: self.append.whole(),
@@ -96,7 +114,7 @@ impl Disk {
         }
     }
 
-    /// Draws a crash.
+    /// Draws a crash: what it leaves of one queue says nothing of the other.
     pub(crate) fn draw(&self, dice: &mut Dice) -> Crash {
         Crash {
             append: self.append.draw(dice),
@@ -104,9 +122,14 @@ impl Disk {
         }
     }
 
-    /// Returns the crashes that leave more and more of what a queue was asked last: each byte of the last batch, while the other
-    /// queue loses all that it may, and while it loses nothing.
-    pub(crate) fn crashes_in(&self, queue: LogQueue) -> Result<Vec<Crash>> {
+    /// Returns the crashes that leave what [`QueueDisk::possible_rests`] lists of `queue`, as each number of
+    /// bytes of its last batch. Each comes twice: once the other queue loses all bytes that it may, once
+    /// nothing.
+    ///
+    /// # Errors
+    ///
+    /// `Memory` alone.
+    pub(crate) fn crashes_of_queue(&self, queue: LogQueue) -> Result<Vec<Crash>> {
         let mut crashes = Vec::new(self.append.alloc());
         for left in self.queue(queue).possible_rests()? {
             let other = self.queue(queue.other());
@@ -126,7 +149,7 @@ impl Disk {
         Ok(crashes)
     }
 
-    /// Returns the records by the batches that are synced.
+    /// Returns the text of the records that the synced batches of the append queue give.
     pub(crate) fn records(&self) -> &str {
         match self.prefix_records.first() {
             Some(records) => records.as_str(),
@@ -134,19 +157,33 @@ impl Disk {
         }
     }
 
-    /// Returns the files of each queue.
+    /// Returns the files of the append queue and those of the rewrite queue, with all bytes that were put.
+    ///
+    /// # Errors
+    ///
+    /// `Memory` alone.
     pub(crate) fn files(&self) -> Result<(LogFiles, LogFiles)> {
-        let append = self.append.files_in(self.append.whole())?;
-        Ok((append, self.rewrite.files_in(self.rewrite.whole())?))
+        let append = self.append.files_left(self.append.whole())?;
+        Ok((append, self.rewrite.files_left(self.rewrite.whole())?))
     }
 
-    /// Returns the files of each queue, with whole batches alone.
+    /// Returns the files of the append queue and those of the rewrite queue, the last one of each cut behind
+    /// the synced batches that are whole.
+    ///
+    /// # Errors
+    ///
+    /// `Memory` alone.
     pub(crate) fn untorn_files(&self) -> Result<(LogFiles, LogFiles)> {
         Ok((self.append.untorn_files()?, self.rewrite.untorn_files()?))
     }
 
-    /// Returns all files, where the first of two batches of the append queue that aren't synced has zeros behind its header; `None`
-    /// where there are no two.
+    /// Returns the files of both queues, with zeros behind the header of the first of two batches of the
+    /// append queue that aren't synced: damage that no crash of a disk leaves that writes in order. Returns
+    /// `None` if there are no two such batches.
+    ///
+    /// # Errors
+    ///
+    /// `Memory` alone.
     pub(crate) fn with_lost_page(&self) -> Result<Option<(LogFiles, LogFiles)>> {
         let [end, _, ..] = self.append.ends.as_slice() else {
             return Ok(None);

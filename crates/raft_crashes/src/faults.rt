@@ -209,8 +209,13 @@ static FAULTS: [&[Step]; 14] = [
     ],
 ];
 
-/// Goes through all of them, in both versions, with one worker and with four, and returns how many they are.
-pub(crate) fn go_through<R: Host>(crashes: &mut Crashes<'_, R>) -> Result<u64> {
+/// Goes through all histories that are written down, in both versions, with one worker and with four. Returns
+/// how many it went through.
+///
+/// # Errors
+///
+/// `Io` for the output; `Memory`; those of beginning a history.
+pub(crate) fn try_written_histories<R: Host>(crashes: &mut Crashes<'_, R>) -> Result<u64> {
     let mut count = 0u64;
     for version in [Version::V1, Version::V2] {
         for workers in [1, 4] {
@@ -224,7 +229,12 @@ pub(crate) fn go_through<R: Host>(crashes: &mut Crashes<'_, R>) -> Result<u64> {
     Ok(count)
 }
 
-/// Takes the steps of a history, the one of this number.
+/// Takes the steps of the history numbered `number`, in this way. With one worker a crash is tried at each
+/// byte of each batch.
+///
+/// # Errors
+///
+/// `Io` for the output; `Memory`; those of beginning the history.
 fn take_history<R: Host>(
     crashes: &mut Crashes<'_, R>,
     way: Way,
@@ -236,8 +246,12 @@ fn take_history<R: Host>(
     take_steps(crashes, &mut history, steps, number, different)
 }
 
-/// Takes the steps of a history one after another, until more is different than `different`, and
-/// prints where that was. In the end a page of an unsynced batch is lost.
+/// Takes the steps of a history one after another, and at the end tries a lost page ([`lose_page`]). Stops,
+/// and prints at which step that was, once there are more than `different` differences.
+///
+/// # Errors
+///
+/// `Io` for the output; `Memory`. An error of a step counts as a difference.
 fn take_steps<R: Host>(
     crashes: &mut Crashes<'_, R>,
     history: &mut History,
@@ -249,13 +263,17 @@ fn take_steps<R: Host>(
         let taken = take_step(crashes, history, *step);
         crashes.check_success(taken)?;
         if crashes.different > different {
-            return crashes.print_where("fault", number, at as u64);
+            return crashes.print_place("fault", number, at as u64);
         }
     }
     lose_page(crashes, history)
 }
 
-/// Takes a step.
+/// Takes one `step` of a history: calls the engine, and tries the crashes behind each ask of its files.
+///
+/// # Errors
+///
+/// Those of the engine's call; `Io` for the output; `Memory`.
 fn take_step<R: Host>(
     crashes: &mut Crashes<'_, R>,
     history: &mut History,
@@ -267,14 +285,18 @@ fn take_step<R: Host>(
         Sync => history.sync(crashes),
         Rotate => history.rotate(crashes),
         Rewrite(gate) => history.rewrite(crashes, gate),
-        Again => history.rewrite_again(crashes),
+        Again => history.move_rewritten_records(crashes),
         Purge => history.purge(crashes, LogQueue::Append),
         PurgeRewrites => history.purge(crashes, LogQueue::Rewrite),
         Restart => history.restart(crashes),
     }
 }
 
-/// Writes a batch of these changes of region 1, and syncs it where that is asked for.
+/// Writes a batch with `choices`, changes of region 1, and syncs it if `sync`.
+///
+/// # Errors
+///
+/// Those of [`History::write`]; `Memory`.
 fn write_changes<R: Host>(
     crashes: &mut Crashes<'_, R>,
     history: &mut History,
@@ -288,8 +310,12 @@ fn write_changes<R: Host>(
     history.write(crashes, changes.as_slice(), sync)
 }
 
-/// Opens the files where the first of two batches that aren't synced has lost what stands behind its header, which no prefix does:
-/// that has to be refused as damage.
+/// Opens the files of which the first of two unsynced batches has zeros behind its header. That must be
+/// refused as `Corruption`, since it isn't a torn tail; if it isn't refused, it counts as a difference.
+///
+/// # Errors
+///
+/// Any other refusal of the opening; `Io` for the output; `Memory`.
 fn lose_page<R: Host>(crashes: &mut Crashes<'_, R>, history: &History) -> Result<()> {
     let Some((append, rewrite)) = history.disk.with_lost_page()? else {
         return Ok(());

@@ -18,7 +18,12 @@ pub(crate) struct Way {
     pub(crate) workers: usize,
 }
 
-/// Opens an engine over the files of both queues.
+/// Opens an engine over these files of both queues, of the version and with the workers of `way`. The
+/// engine's files note what it asks of them.
+///
+/// # Errors
+///
+/// Those of [`Engine::open`]; `Memory`.
 pub(crate) fn open_found_files<R: Threads + Sync>(
     rt: &R,
     alloc: Global,
@@ -36,7 +41,11 @@ pub(crate) fn open_found_files<R: Threads + Sync>(
     Ok(engine)
 }
 
-/// Reads all records of an engine.
+/// Returns the records of all regions, as `engine` reads them.
+///
+/// # Errors
+///
+/// Those of the engine's readings; `Memory`.
 pub(crate) fn records_of(alloc: Global, engine: &mut Engine<NotedFiles>) -> Result<Contents> {
     let regions = regions_of(alloc, engine.accessor())?;
     let mut contents = BTreeMap::new(alloc);
@@ -46,7 +55,11 @@ pub(crate) fn records_of(alloc: Global, engine: &mut Engine<NotedFiles>) -> Resu
     Ok(contents)
 }
 
-/// Reads the records of a region.
+/// Returns the records of `region`, as the engine reads them.
+///
+/// # Errors
+///
+/// Those of the engine's readings; `Memory`.
 fn records_of_region(
     alloc: Global,
     engine: &mut Engine<NotedFiles>,
@@ -63,7 +76,11 @@ fn records_of_region(
     Ok(records)
 }
 
-/// Reads the entries of a region into its records.
+/// Reads all entries of `region` from the engine into `records`.
+///
+/// # Errors
+///
+/// Those of the engine's readings; `Memory`.
 fn read_entries(
     alloc: Global,
     engine: &mut Engine<NotedFiles>,
@@ -79,7 +96,12 @@ fn read_entries(
     Ok(())
 }
 
-/// Returns the bytes of a region's entries from `first` on and below `end`.
+/// Returns the bytes of the entries of `region` at the indexes `first..end`, in order, as the engine reads
+/// them.
+///
+/// # Errors
+///
+/// Those of [`Engine::fetch_entries_to`].
 fn fetch_entries(
     alloc: Global,
     engine: &mut Engine<NotedFiles>,
@@ -92,7 +114,12 @@ fn fetch_entries(
     Ok(entries)
 }
 
-/// Recovers the tables of both queues, and reads their records in the files.
+/// Recovers the tables of both queues from the files `append` and `rewrite`, and returns the records of all
+/// regions, whose entries' bytes are read at the places that the tables have.
+///
+/// # Errors
+///
+/// Those of [`recover_both`] and of [`bytes_of_entry`].
 pub(crate) fn recover_records<R: Threads + Sync>(
     rt: &R,
     alloc: Global,
@@ -101,21 +128,29 @@ pub(crate) fn recover_records<R: Threads + Sync>(
     rewrite: LogFiles,
 ) -> Result<Contents> {
     let files = MemoryFiles::found(append, rewrite);
-    recover_records_of(rt, alloc, way, &files)
+    recover_records_of_files(rt, alloc, way, &files)
 }
 
-/// Recovers the tables of these files, and reads their records there.
-fn recover_records_of<R: Threads + Sync>(
+/// Recovers both queues of `files` in the given way, and returns the records of all regions, as [`recover_records`] does.
+///
+/// # Errors
+///
+/// Those of [`recover_records`].
+fn recover_records_of_files<R: Threads + Sync>(
     rt: &R,
     alloc: Global,
     way: Way,
     files: &MemoryFiles,
 ) -> Result<Contents> {
     let tables = tables_of(rt, alloc, way, files)?;
-    contents_in(alloc, files, &tables)
+    contents_of_tables(alloc, files, &tables)
 }
 
-/// Recovers the tables of both queues.
+/// Recovers the tables of both queues of `files`, by the workers of `way`.
+///
+/// # Errors
+///
+/// Those of [`recover_both`]; `Memory`.
 fn tables_of<R: Threads + Sync>(
     rt: &R,
     alloc: Global,
@@ -133,24 +168,40 @@ fn tables_of<R: Threads + Sync>(
     )
 }
 
-/// Returns the files of a queue, a segment each.
+/// Returns copies of the files of `queue`, each as a segment.
+///
+/// # Errors
+///
+/// `Memory` alone.
 fn segments_of(way: Way, files: &MemoryFiles, queue: LogQueue) -> Result<Vec<Segment>> {
     file_segments(queue, way.version, files.copies(queue)?)
 }
 
-/// Reads the records of all tables in these files.
-fn contents_in(alloc: Global, files: &MemoryFiles, tables: &MemTableAccessor) -> Result<Contents> {
+/// Returns the records of all `tables`, whose entries' bytes are read from `files`.
+///
+/// # Errors
+///
+/// Those of [`bytes_of_entry`]; `Memory`.
+fn contents_of_tables(
+    alloc: Global,
+    files: &MemoryFiles,
+    tables: &MemTableAccessor,
+) -> Result<Contents> {
     let regions = regions_of(alloc, tables)?;
     let mut contents = BTreeMap::new(alloc);
     for region in &regions {
         if let Some(table) = tables.get(*region) {
-            let _ = contents.insert(*region, records_in(alloc, files, table)?)?;
+            let _ = contents.insert(*region, records_of_table(alloc, files, table)?)?;
         }
     }
     Ok(contents)
 }
 
-/// Returns the regions that have tables.
+/// Returns the ids of the regions that have tables in `accessor`, in no set order.
+///
+/// # Errors
+///
+/// `Memory` alone.
 fn regions_of(alloc: Global, accessor: &MemTableAccessor) -> Result<Vec<u64>> {
     let mut regions = Vec::new(alloc);
     for table in accessor.tables()? {
@@ -159,28 +210,40 @@ fn regions_of(alloc: Global, accessor: &MemTableAccessor) -> Result<Vec<u64>> {
     Ok(regions)
 }
 
-/// Puts copies of a key and its value.
+/// Puts a copy of `value` under a copy of `key` into `records`.
+///
+/// # Errors
+///
+/// `Memory` alone.
 fn put_copy(alloc: Global, records: &mut Records, key: &[u8], value: &[u8]) -> Result<()> {
     let (key, value) = (Vec::from_slice(alloc, key)?, Vec::from_slice(alloc, value)?);
     let _ = records.pairs.insert(key, value)?;
     Ok(())
 }
 
-/// Reads the records of a table in these files.
-fn records_in(alloc: Global, files: &MemoryFiles, table: &MemTable) -> Result<Records> {
+/// Returns the records of `table`, whose entries' bytes are read from `files`.
+///
+/// # Errors
+///
+/// Those of [`bytes_of_entry`]; `Memory`.
+fn records_of_table(alloc: Global, files: &MemoryFiles, table: &MemTable) -> Result<Records> {
     let mut records = Records::new(alloc);
     for entry in &entries_of(alloc, table)? {
-        let bytes = bytes_of(alloc, files, entry)?;
+        let bytes = bytes_of_entry(alloc, files, entry)?;
         let _ = records.entries.insert(entry.index, bytes)?;
     }
     records.push_pairs(alloc, table)?;
     Ok(records)
 }
 
-/// Reads the bytes of an entry.
-fn bytes_of(alloc: Global, files: &MemoryFiles, entry: &EntryIndex) -> Result<Vec<u8>> {
+/// Returns the bytes of `entry`, read from `files` at its place, without the engine.
+///
+/// # Errors
+///
+/// `EntryNotFound` if there is no such place in the files; those of decoding its block; `Memory`.
+fn bytes_of_entry(alloc: Global, files: &MemoryFiles, entry: &EntryIndex) -> Result<Vec<u8>> {
     let place = entry.entries.ok_or(Error::EntryNotFound)?;
-    let file = bytes_in(files, place.id).ok_or(Error::EntryNotFound)?;
+    let file = file_bytes(files, place.id).ok_or(Error::EntryNotFound)?;
     let (_, behind) = file
         .split_at_checked(place.offset as usize)
         .ok_or(Error::EntryNotFound)?;
@@ -189,8 +252,8 @@ fn bytes_of(alloc: Global, files: &MemoryFiles, entry: &EntryIndex) -> Result<Ve
     Ok(Vec::from_slice(alloc, entry_bytes(alloc, block.as_slice(), entry)?)?)
 }
 
-/// Returns the bytes of a file, if it is there.
-fn bytes_in(files: &MemoryFiles, id: FileId) -> Option<&[u8]> {
+/// Returns the bytes of the file `id`, or `None` if it isn't there.
+fn file_bytes(files: &MemoryFiles, id: FileId) -> Option<&[u8]> {
     for (seq, bytes) in files.files(id.queue) {
         if *seq == id.seq {
             return Some(bytes.as_slice());

@@ -32,7 +32,12 @@ pub(crate) struct History {
 }
 
 impl History {
-    /// Begins a history with an engine without records.
+    /// Begins a history with an engine without records. `seed` is that of its dice. With `by_bytes` a crash
+    /// is tried at each byte of each batch.
+    ///
+    /// # Errors
+    ///
+    /// Those of [`Engine::new`]; `Io` for the output; `Memory`.
     pub(crate) fn begin<R: Host>(
         crashes: &mut Crashes<'_, R>,
         seed: u64,
@@ -40,11 +45,16 @@ impl History {
         by_bytes: bool,
     ) -> Result<History> {
         let mut history = History::new(crashes.rt.alloc(), seed, way, by_bytes)?;
-        history.follow(crashes)?;
+        history.end_step(crashes)?;
         Ok(history)
     }
 
-    /// Makes a history with an engine without files and records, and the dice of this seed.
+    /// Returns a history in this `way`, with dice of `seed` and an engine without records, of which no ask
+    /// was taken in yet.
+    ///
+    /// # Errors
+    ///
+    /// Those of [`Engine::new`]; `Memory`.
     fn new(alloc: Global, seed: u64, way: Way, by_bytes: bool) -> Result<History> {
         let disk = Disk::new(alloc)?;
         Ok(History {
@@ -59,26 +69,39 @@ impl History {
         })
     }
 
-    /// Looks whether the engine has the records that it has to have, lets the disk take in what was asked, and tries crashes after
-    /// each ask.
-    fn follow<R: Host>(&mut self, crashes: &mut Crashes<'_, R>) -> Result<()> {
+    /// Ends a step: compares the records that the engine has with those that it must have, lets the disk take
+    /// in what was asked of the files, and tries crashes behind each ask.
+    ///
+    /// # Errors
+    ///
+    /// Those of reading the records; `Io` for the output; `Memory`.
+    fn end_step<R: Host>(&mut self, crashes: &mut Crashes<'_, R>) -> Result<()> {
         let wanted = text_of(self.alloc, &self.kept)?;
         self.compare(crashes, wanted.as_str())?;
-        self.take_asks(crashes, wanted.as_str())
+        self.apply_asks(crashes, wanted.as_str())
     }
 
-    /// Compares the records that the engine has with those that it has to have.
+    /// Compares the records that the engine has with the text `wanted`.
+    ///
+    /// # Errors
+    ///
+    /// Those of reading the records; `Io` for the output; `Memory`.
     fn compare<R: Host>(&mut self, crashes: &mut Crashes<'_, R>, wanted: &str) -> Result<()> {
         let contents = records_of(self.alloc, &mut self.engine)?;
         let found = text_of(self.alloc, &contents)?;
         crashes.compare(found.as_str(), wanted, "kept")
     }
 
-    /// Lets the disk take in what was asked since, and tries crashes after each ask.
-    fn take_asks<R: Host>(&mut self, crashes: &mut Crashes<'_, R>, wanted: &str) -> Result<()> {
+    /// Lets the disk take in what was asked of the files since the last time, and tries crashes behind each
+    /// ask. `wanted` is the text of the records with all batches that were written.
+    ///
+    /// # Errors
+    ///
+    /// `Io` for the output; `Memory`.
+    fn apply_asks<R: Host>(&mut self, crashes: &mut Crashes<'_, R>, wanted: &str) -> Result<()> {
         let asks = &self.engine.files().asks;
         for ask in asks.iter().skip(self.taken) {
-            self.disk.take_ask(ask, wanted)?;
+            self.disk.apply_ask(ask, wanted)?;
             let by_bytes = if self.by_bytes { Some(ask.queue) } else { None };
             crashes.try_crashes(self.way, &self.disk, by_bytes, &mut self.dice)?;
         }
@@ -86,7 +109,11 @@ impl History {
         Ok(())
     }
 
-    /// Writes a batch of these changes, each of a region.
+    /// Writes a batch with `choices`, changes that each have the region beside them, and syncs it if `sync`.
+    ///
+    /// # Errors
+    ///
+    /// Those of [`Engine::write`] and of what each step ends with; `Memory`.
     pub(crate) fn write<R: Host>(
         &mut self,
         crashes: &mut Crashes<'_, R>,
@@ -98,10 +125,15 @@ impl History {
             self.add(&mut batch, choice.0, choice.1)?;
         }
         self.engine.write(&mut batch, sync)?;
-        self.follow(crashes)
+        self.end_step(crashes)
     }
 
-    /// Adds a change to a batch, and makes it in the maps.
+    /// Adds a change of `region` to the open batch `batch`, and makes the same change of the records that the
+    /// engine must have.
+    ///
+    /// # Errors
+    ///
+    /// `Memory`, and what the batch returns.
     fn add(&mut self, batch: &mut LogBatch, region: u64, choice: Choice) -> Result<()>
         requires { batch.old.stage ≡ is_open }
         ensures { OnOk result (batch.new.stage ≡ is_open) }
@@ -111,35 +143,58 @@ impl History {
         change.make(batch, region, records)
     }
 
-    /// Syncs the engine.
+    /// Syncs the engine's append queue.
+    ///
+    /// # Errors
+    ///
+    /// Those of [`Engine::sync`] and of what each step ends with.
     pub(crate) fn sync<R: Host>(&mut self, crashes: &mut Crashes<'_, R>) -> Result<()> {
         self.engine.sync()?;
-        self.follow(crashes)
+        self.end_step(crashes)
     }
 
     /// Begins a new append file.
+    ///
+    /// # Errors
+    ///
+    /// Those of [`Engine::rotate`] and of what each step ends with.
     pub(crate) fn rotate<R: Host>(&mut self, crashes: &mut Crashes<'_, R>) -> Result<()> {
         self.engine.rotate()?;
-        self.follow(crashes)
+        self.end_step(crashes)
     }
 
-    /// Moves the records in append files up to the gate.
+    /// Moves the records in append files numbered at or below `gate` to the rewrite queue.
+    ///
+    /// # Errors
+    ///
+    /// Those of [`Engine::rewrite`] and of what each step ends with.
     pub(crate) fn rewrite<R: Host>(
         &mut self,
         crashes: &mut Crashes<'_, R>,
         gate: FileSeq,
     ) -> Result<()> {
         self.engine.rewrite(gate)?;
-        self.follow(crashes)
+        self.end_step(crashes)
     }
 
-    /// Moves the records in rewrite files.
-    pub(crate) fn rewrite_again<R: Host>(&mut self, crashes: &mut Crashes<'_, R>) -> Result<()> {
+    /// Moves the records in rewrite files to a new one.
+    ///
+    /// # Errors
+    ///
+    /// Those of [`Engine::rewrite_again`] and of what each step ends with.
+    pub(crate) fn move_rewritten_records<R: Host>(
+        &mut self,
+        crashes: &mut Crashes<'_, R>,
+    ) -> Result<()> {
         self.engine.rewrite_again()?;
-        self.follow(crashes)
+        self.end_step(crashes)
     }
 
-    /// Deletes the files of a queue that no table needs.
+    /// Deletes the files of `queue` that no table needs.
+    ///
+    /// # Errors
+    ///
+    /// Those of the engine's purge and of what each step ends with.
     pub(crate) fn purge<R: Host>(
         &mut self,
         crashes: &mut Crashes<'_, R>,
@@ -149,45 +204,66 @@ impl History {
             LogQueue::Append => self.engine.purge_expired_files()?,
             LogQueue::Rewrite => self.engine.purge_rewrite_files()?,
         };
-        self.follow(crashes)
+        self.end_step(crashes)
     }
 
-    /// Opens all that the files have.
+    /// Opens the engine anew over all that the files have, as after a stop without a crash.
+    ///
+    /// # Errors
+    ///
+    /// Those of opening the files and of what each step ends with.
     pub(crate) fn restart<R: Host>(&mut self, crashes: &mut Crashes<'_, R>) -> Result<()> {
         let crash = self.disk.lossless_crash();
         self.reopen(crashes, crash)
     }
 
-    /// Opens what a crash leaves that is drawn.
+    /// Opens the engine anew over what a drawn crash leaves.
+    ///
+    /// # Errors
+    ///
+    /// Those of opening the files and of what each step ends with.
     pub(crate) fn crash<R: Host>(&mut self, crashes: &mut Crashes<'_, R>) -> Result<()> {
         let crash = self.disk.draw(&mut self.dice);
         self.reopen(crashes, crash)
     }
 
-    /// Opens what this crash leaves, and goes on with it.
+    /// Opens the engine anew over what `crash` leaves, and compares its records with those that must be left.
+    /// The history goes on with them.
+    ///
+    /// # Errors
+    ///
+    /// Those of opening the files and of what each step ends with.
     fn reopen<R: Host>(&mut self, crashes: &mut Crashes<'_, R>, crash: Crash) -> Result<()> {
         self.disk = self.disk.disk_after(crash)?;
         self.open_disk(crashes.rt)?;
         self.taken = 0;
         self.kept = records_of(self.alloc, &mut self.engine)?;
         self.compare_opened(crashes)?;
-        self.follow(crashes)
+        self.end_step(crashes)
     }
 
     /// Opens an engine over the files that the disk has, in place of the old one.
+    ///
+    /// # Errors
+    ///
+    /// Those of [`open_found_files`]. The old engine stays then.
     fn open_disk<R: Host>(&mut self, rt: &R) -> Result<()> {
         let (append, rewrite) = self.disk.files()?;
         self.engine = open_found_files(rt, self.alloc, self.way, append, rewrite)?;
         Ok(())
     }
 
-    /// Compares the records that the opened engine has with those of the disk.
+    /// Compares the records that the engine had when it was opened with those that the disk must have.
+    ///
+    /// # Errors
+    ///
+    /// `Io` for the output; `Memory`.
     fn compare_opened<R: Host>(&self, crashes: &mut Crashes<'_, R>) -> Result<()> {
         let found = text_of(self.alloc, &self.kept)?;
         crashes.compare(found.as_str(), self.disk.records(), "opened again")
     }
 
-    /// Returns the number of the append file that is written to.
+    /// Returns the number of the append file that is written to, or 0 if there is none.
     pub(crate) fn last_append_seq(&self) -> FileSeq {
         match self.engine.files().files.files(LogQueue::Append).last() {
             Some((seq, _)) => *seq,
@@ -196,7 +272,12 @@ impl History {
     }
 }
 
-/// Makes an engine over files in memory.
+/// Returns an engine without records, of this `version`, over files in memory that note what is asked of
+/// them.
+///
+/// # Errors
+///
+/// Those of [`Engine::new`].
 fn new_engine(alloc: Global, version: Version) -> Result<Engine<NotedFiles>> {
     let files = NotedFiles {
         files: MemoryFiles::new(alloc),

@@ -26,6 +26,12 @@ use std::process::ExitCode;
 const USAGE: &str =
     "usage: raft_crashes SEED COUNT   (crashes an engine anywhere in COUNT random histories from a seed on)";
 
+/// Does what the words of the command line ask for. The status is 0 if all records were those that there must
+/// be, 1 if some weren't, and 2, with a hint at the words, if they ask for nothing.
+///
+/// # Errors
+///
+/// Those of [`try_all_histories`], and `Io` for the words or the output.
 fn main(rt: HostRuntime) -> Result<ExitCode> {
     let words = command_words(&rt)?;
     if words.first().is_some_and(|word: &String| word.as_str() == "--help"
@@ -34,19 +40,19 @@ fn main(rt: HostRuntime) -> Result<ExitCode> {
         println!(rt; "{USAGE}")?;
         return Ok(ExitCode::SUCCESS);
     }
-    let Some((seed, count)) = numbers_in(words.as_slice()) else {
+    let Some((seed, count)) = parse_seed_and_count(words.as_slice()) else {
         eprintln!(rt; "{USAGE}")?;
         return Ok(ExitCode::from(2));
     };
-    if try_all(&rt, seed, count)? {
+    if try_all_histories(&rt, seed, count)? {
         Ok(ExitCode::SUCCESS)
     } else {
         Ok(ExitCode::FAILURE)
     }
 }
 
-/// Returns the two numbers, if these are the words.
-fn numbers_in(words: &[String]) -> Option<(u64, u64)> {
+/// Returns the seed and the count that `words` name, or `None` if they aren't two numbers.
+fn parse_seed_and_count(words: &[String]) -> Option<(u64, u64)> {
     let [seed, count] = words else {
         return None;
     };
@@ -56,17 +62,22 @@ fn numbers_in(words: &[String]) -> Option<(u64, u64)> {
     ))
 }
 
-/// Goes through all histories, and prints how much was tried. Returns whether all was as it had to be.
-fn try_all<R: Host>(rt: &R, seed: u64, count: u64) -> Result<bool> {
+/// Goes through the histories that are written down, and through `count` random ones from `seed` on, and
+/// prints how much was tried and how many differences there were. Returns `true` if there were none.
+///
+/// # Errors
+///
+/// `Io` for the output; `Memory`; those of beginning a history.
+fn try_all_histories<R: Host>(rt: &R, seed: u64, count: u64) -> Result<bool> {
     let mut crashes = Crashes {
         rt,
         tried: 0,
         recoveries: 0,
         different: 0,
     };
-    let faults = faults::go_through(&mut crashes)?;
+    let faults = faults::try_written_histories(&mut crashes)?;
     for number in 0..count {
-        random::go_through(&mut crashes, seed.wrapping_add(number))?;
+        random::try_random_history(&mut crashes, seed.wrapping_add(number))?;
     }
     eprintln!(rt;
         "{} crashes, {} recoveries",

@@ -19,7 +19,7 @@ pub(crate) enum Act {
     Sync,
     /// The oldest file is deleted.
     Delete,
-    /// The last file is cut to so many bytes.
+    /// The last file is cut to this many bytes.
     Cut(u64),
 }
 
@@ -39,7 +39,11 @@ pub(crate) struct NotedFiles {
 }
 
 impl NotedFiles {
-    /// Notes an ask, before it is made.
+    /// Notes an act on the files of `queue`, before it is carried out.
+    ///
+    /// # Errors
+    ///
+    /// `Memory` alone. The act isn't noted then.
     fn note(&mut self, queue: LogQueue, act: Act) -> Result<()>
         ensures { self.new.files ≡ self.old.files }
     {
@@ -50,32 +54,62 @@ impl NotedFiles {
 impl EngineFiles for NotedFiles {
     ghost asked = { λ f. f.files };
 
+    /// Notes that `bytes` are put behind the last file of `queue`, and puts them there.
+    ///
+    /// # Errors
+    ///
+    /// `Memory`, and those of the files in memory.
     fn append(&mut self, queue: LogQueue, bytes: &[u8]) -> Result<()> {
         let alloc: Global = *self.asks.allocator();
         self.note(queue, Act::Put(Vec::from_slice(alloc, bytes)?))?;
         self.files.append(queue, bytes)
     }
 
+    /// Notes that the file numbered `seq` is begun behind the last one of `queue`, and begins it.
+    ///
+    /// # Errors
+    ///
+    /// `Memory`, and those of the files in memory.
     fn rotate(&mut self, queue: LogQueue, seq: FileSeq) -> Result<()> {
         self.note(queue, Act::Begin(seq))?;
         self.files.rotate(queue, seq)
     }
 
+    /// Notes a sync of `queue`, and makes it.
+    ///
+    /// # Errors
+    ///
+    /// `Memory`, and those of the files in memory.
     fn sync(&mut self, queue: LogQueue) -> Result<()> {
         self.note(queue, Act::Sync)?;
         self.files.sync(queue)
     }
 
+    /// Notes that the oldest file of `queue` is deleted, and deletes it.
+    ///
+    /// # Errors
+    ///
+    /// `Memory`, and those of the files in memory.
     fn delete_oldest(&mut self, queue: LogQueue) -> Result<()> {
         self.note(queue, Act::Delete)?;
         self.files.delete_oldest(queue)
     }
 
+    /// Notes that the last file of `queue` is cut to `len` bytes, and cuts it.
+    ///
+    /// # Errors
+    ///
+    /// `Memory`, and those of the files in memory.
     fn truncate(&mut self, queue: LogQueue, len: u64) -> Result<()> {
         self.note(queue, Act::Cut(len))?;
         self.files.truncate(queue, len)
     }
 
+    /// Returns the bytes at `place`. Reads aren't noted.
+    ///
+    /// # Errors
+    ///
+    /// Those of the files in memory.
     fn read(&mut self, place: FileBlockHandle) -> Result<Vec<u8>> {
         self.files.read(place)
     }

@@ -28,7 +28,7 @@ pub(crate) struct QueueDisk {
 /// What a crash leaves of a queue's last file.
 #[derive(Clone, Copy)]
 pub(crate) enum Tail {
-    /// So many bytes.
+    /// This many bytes, from the first one on.
     Prefix(usize),
     /// Nothing: the file isn't there.
     Unbegun,
@@ -36,7 +36,7 @@ pub(crate) enum Tail {
     Uncut,
 }
 
-/// What a crash leaves of a queue: all files but so many of the oldest ones, and so much of the last one.
+/// What a crash leaves of a queue: all files but the `gone` oldest ones, and of the last one what `tail` says.
 #[derive(Clone, Copy)]
 pub(crate) struct Rest {
     gone: usize,
@@ -44,7 +44,7 @@ pub(crate) struct Rest {
 }
 
 impl QueueDisk {
-    /// Makes a disk without files.
+    /// Returns a disk on which the queue has no files.
     pub(crate) fn new(alloc: Global) -> QueueDisk {
         QueueDisk {
             files: Vec::new(alloc),
@@ -57,39 +57,48 @@ impl QueueDisk {
         }
     }
 
-    /// Returns the disk that a crash leaves.
+    /// Returns the disk after a crash of which `left` is left. All that is left counts as synced.
+    ///
+    /// # Errors
+    ///
+    /// `Memory` alone.
     pub(crate) fn disk_after(&self, left: Rest) -> Result<QueueDisk> {
         let mut disk = QueueDisk::new(self.alloc());
-        disk.files = self.files_in(left)?;
+        disk.files = self.files_left(left)?;
         disk.synced = disk.len();
-        disk.whole = self.whole_in(left).min(disk.synced);
+        disk.whole = self.whole_batches_len(left).min(disk.synced);
         Ok(disk)
     }
 
-    /// Returns the allocator of the files.
+    /// Returns the allocator that the files are allocated by.
     pub(crate) fn alloc(&self) -> Global {
         *self.files.allocator()
     }
 
-    /// Returns how many bytes the last file has.
+    /// Returns the number of bytes of the last file, or 0 without files.
     fn len(&self) -> usize {
         self.files.last().map_or(0, |file| file.1.len())
     }
 
-    /// Takes in an act.
-    pub(crate) fn take_act(&mut self, act: &Act) -> Result<()> {
+    /// Takes in `act`, one on the files. After a sync all bytes, and all deletions before it, survive a
+    /// crash; after a new file was begun, the bytes of the older ones do.
+    ///
+    /// # Errors
+    ///
+    /// `Memory` alone.
+    pub(crate) fn apply_act(&mut self, act: &Act) -> Result<()> {
         match act {
             Act::Put(bytes) => self.put_batch(bytes)?,
             Act::Begin(seq) => {
                 let file = Vec::new(self.alloc());
                 self.files.push((*seq, file))?;
-                self.note_lasting(0);
+                self.note_synced(0);
                 self.is_new = true;
             }
             Act::Sync => {
                 self.drop_deleted();
                 let len = self.len();
-                self.note_lasting(len);
+                self.note_synced(len);
             }
             Act::Delete => self.deleted = self.deleted.saturating_add(1),
             Act::Cut(len) => self.cut_last_file(*len as usize)?,
@@ -97,7 +106,11 @@ impl QueueDisk {
         Ok(())
     }
 
-    /// Puts the bytes of a batch behind those of the last file.
+    /// Appends `bytes`, those of a batch, to the last file. Without files it does nothing.
+    ///
+    /// # Errors
+    ///
+    /// `Memory` alone.
     fn put_batch(&mut self, bytes: &[u8]) -> Result<()> {
         if let Some(last) = self.files.last_mut() {
             last.1.extend_from_slice(bytes)?;
@@ -106,8 +119,8 @@ impl QueueDisk {
         Ok(())
     }
 
-    /// Notes that so many bytes of the last file outlast a crash, and that the file does.
-    fn note_lasting(&mut self, synced: usize) {
+    /// Notes that the last file, and its first `synced` bytes, survive a crash from now on.
+    fn note_synced(&mut self, synced: usize) {
         self.synced = synced;
         self.whole = synced;
         self.ends.clear();
@@ -115,7 +128,7 @@ impl QueueDisk {
         self.uncut = None;
     }
 
-    /// Drops the files whose deletion is synced now.
+    /// Drops the files whose deletion survives a crash from now on.
     fn drop_deleted(&mut self) {
         for _ in 0..self.deleted {
             if !self.files.is_empty() {
@@ -125,24 +138,30 @@ impl QueueDisk {
         self.deleted = 0;
     }
 
-    /// Cuts the last file to `len` bytes, and keeps what it had: a crash may bring that back.
+    /// Cuts the last file to `len` bytes, and keeps what it had before: until the next sync or new file a
+    /// crash may bring that back.
+    ///
+    /// # Errors
+    ///
+    /// `Memory` alone.
     fn cut_last_file(&mut self, len: usize) -> Result<()> {
         let alloc = self.alloc();
         if let Some(last) = self.files.last_mut() {
             let uncut = Vec::from_slice(alloc, &last.1)?;
             last.1.truncate(len);
-            self.note_lasting(len);
+            self.note_synced(len);
             self.uncut = Some(uncut);
         }
         Ok(())
     }
 
-    /// Returns what a crash leaves that loses nothing.
+    /// Returns what is left after a crash that loses nothing.
     pub(crate) fn whole(&self) -> Rest {
         self.prefix(self.len())
     }
 
-    /// Returns what a crash leaves that loses no deletion, and of the last file has so many bytes.
+    /// Returns what is left after a crash that loses no deletion, and leaves the first `len` bytes of the
+    /// last file.
     pub(crate) fn prefix(&self, len: usize) -> Rest {
         Rest {
             gone: self.deleted,
@@ -150,7 +169,8 @@ impl QueueDisk {
         }
     }
 
-    /// Draws what a crash leaves.
+    /// Draws what a crash leaves: how many of the deletions that weren't synced it doesn't lose, and what of
+    /// the last file.
     pub(crate) fn draw(&self, dice: &mut Dice) -> Rest {
         let gone = dice.below((self.deleted as u64).saturating_add(1)) as usize;
         Rest {
@@ -159,7 +179,9 @@ impl QueueDisk {
         }
     }
 
-    /// Draws what a crash leaves of the last file.
+    /// Draws what a crash leaves of the last file: mostly a prefix that ends between batches, inside one, at
+    /// the synced bytes or at the end; sometimes, if the file is new, nothing, or, if it was cut, the bytes
+    /// before the cut.
     fn draw_tail(&self, dice: &mut Dice) -> Tail {
         let unsynced = self.len().saturating_sub(self.synced) as u64;
         let drawn = dice.below(unsynced.saturating_add(1)) as usize;
@@ -174,8 +196,13 @@ impl QueueDisk {
         }
     }
 
-    /// Returns what a crash may leave that loses no deletion: each prefix of the last file from where its last batch begins on; and
-    /// what it may leave that loses some and nothing else.
+    /// Returns what a crash may leave. First come those that lose some of the deletions and nothing else;
+    /// then, with no deletion lost, no last file if it is new, the bytes before a cut if there was one, and
+    /// each prefix of the last file from the start of its last batch on.
+    ///
+    /// # Errors
+    ///
+    /// `Memory` alone.
     pub(crate) fn possible_rests(&self) -> Result<Vec<Rest>> {
         let mut rests = Vec::new(self.alloc());
         let gone = self.deleted;
@@ -204,7 +231,7 @@ impl QueueDisk {
         Ok(rests)
     }
 
-    /// Returns how many of the first bytes of the last file are those of whole batches.
+    /// Returns how many of the first `len` bytes of the last file belong to batches that are whole in them.
     fn whole_prefix_len(&self, len: usize) -> usize {
         let mut whole = self.whole;
         for end in &self.ends {
@@ -215,16 +242,20 @@ impl QueueDisk {
         whole
     }
 
-    /// Returns how many of the batches that weren't synced are left.
-    pub(crate) fn batches_in(&self, left: Rest) -> usize {
+    /// Returns how many of the batches that weren't synced are whole in `left`.
+    pub(crate) fn count_whole_batches(&self, left: Rest) -> usize {
         let Tail::Prefix(len) = left.tail else {
             return 0;
         };
         self.ends.iter().filter(|end| **end <= len).count()
     }
 
-    /// Returns the files that are left.
-    pub(crate) fn files_in(&self, left: Rest) -> Result<LogFiles> {
+    /// Returns the files that are in `left`, with the bytes that are left of the last one.
+    ///
+    /// # Errors
+    ///
+    /// `Memory` alone.
+    pub(crate) fn files_left(&self, left: Rest) -> Result<LogFiles> {
         let alloc = self.alloc();
         let mut files = Vec::new(alloc);
         for (seq, bytes) in self.files.iter().skip(left.gone) {
@@ -248,8 +279,9 @@ impl QueueDisk {
         Ok(files)
     }
 
-    /// Returns how many bytes of the last file that is left are those of whole batches, at most.
-    fn whole_in(&self, left: Rest) -> usize {
+    /// Returns how many bytes of the last file in `left` belong to whole batches, at most. If `left` doesn't
+    /// have the last file, it returns 2^64 - 1, as no limit.
+    fn whole_batches_len(&self, left: Rest) -> usize {
         match left.tail {
             Tail::Prefix(len) => self.whole_prefix_len(len),
             Tail::Uncut => self.whole,
@@ -257,8 +289,12 @@ impl QueueDisk {
         }
     }
 
-    /// Returns the files with whole batches alone.
+    /// Returns the files, the last one cut behind the synced batches that are whole.
+    ///
+    /// # Errors
+    ///
+    /// `Memory` alone.
     pub(crate) fn untorn_files(&self) -> Result<LogFiles> {
-        self.files_in(self.prefix(self.whole))
+        self.files_left(self.prefix(self.whole))
     }
 }

@@ -10,28 +10,32 @@ use raft_samples::Dice;
 /// How many steps a history has.
 const STEPS: u64 = 24;
 
-/// One history of so many is read by four workers.
+/// One history in this many is read by four workers.
 const BY_WORKERS: u64 = 8;
 
-/// One of so many has entries of [`SHARE`] bytes.
+/// One history in this many has entries of [`SHARE`] bytes.
 const WITH_SHARES: u64 = 1000;
 
 /// As many bytes as the share of a worker of a recovery has at least.
 const SHARE: usize = 1 << 20;
 
-/// One of so many has entries of [`PART`] bytes.
+/// One history in this many has entries of [`PART`] bytes.
 const WITH_GROUPS: u64 = 50;
 
 /// Half of the bytes that a batch may have which moves rewritten entries: three such entries move in an atomic group.
 const PART: usize = 64 << 10;
 
-/// In one of so many each byte of a batch may be the last one that is left.
+/// In one history in this many a crash is tried at each byte of each batch.
 const BY_BYTES: u64 = 250;
 
-/// Goes through the history of a seed, until something is different.
-pub(crate) fn go_through<R: Host>(crashes: &mut Crashes<'_, R>, seed: u64) -> Result<()> {
+/// Goes through the random history of `seed`, until something is different.
+///
+/// # Errors
+///
+/// `Io` for the output; `Memory`; those of beginning a history.
+pub(crate) fn try_random_history<R: Host>(crashes: &mut Crashes<'_, R>, seed: u64) -> Result<()> {
     let mut dice = Dice::new(!seed);
-    let long = draw_long(&mut dice);
+    let long = draw_long_len(&mut dice);
     let way = draw_way(&mut dice, long);
     let by_bytes = long.is_none() && dice.hits(BY_BYTES);
     let different = crashes.different;
@@ -39,7 +43,12 @@ pub(crate) fn go_through<R: Host>(crashes: &mut Crashes<'_, R>, seed: u64) -> Re
     take_steps(crashes, &mut history, long, seed, different)
 }
 
-/// Takes steps, until more is different than this.
+/// Takes random steps of a history, of which some have entries of `long` bytes, if there is such a number.
+/// Stops, and prints at which step that was, once there are more than `different` differences.
+///
+/// # Errors
+///
+/// `Io` for the output; `Memory`. An error of a step counts as a difference.
 fn take_steps<R: Host>(
     crashes: &mut Crashes<'_, R>,
     history: &mut History,
@@ -54,14 +63,14 @@ fn take_steps<R: Host>(
         };
         crashes.check_success(taken)?;
         if crashes.different > different {
-            return crashes.print_where("seed", seed, step);
+            return crashes.print_place("seed", seed, step);
         }
     }
     Ok(())
 }
 
-/// Draws how many bytes the long entries of a history have, if it has some.
-fn draw_long(dice: &mut Dice) -> Option<usize> {
+/// Draws how many bytes the long entries of a history have, or `None` if it has none.
+fn draw_long_len(dice: &mut Dice) -> Option<usize> {
     if dice.hits(WITH_SHARES) {
         return Some(SHARE);
     }
@@ -71,7 +80,8 @@ fn draw_long(dice: &mut Dice) -> Option<usize> {
     None
 }
 
-/// Draws how the files of a history are read whose long entries have so many bytes: by four workers where each has a share.
+/// Draws the version of a history's files, and by how many workers they are read: always by four if its
+/// `long` entries fill the share of a worker.
 fn draw_way(dice: &mut Dice, long: Option<usize>) -> Way {
     let version = if dice.hits(2) {
         Version::V1
@@ -86,7 +96,12 @@ fn draw_way(dice: &mut Dice, long: Option<usize>) -> Way {
     Way { version, workers }
 }
 
-/// Takes a step of a history with entries of so many bytes: half of them write one, and one in four moves all records again.
+/// Takes a step of a history with entries of `len` bytes: half of these steps write one, and one in four
+/// moves all records again.
+///
+/// # Errors
+///
+/// Those of the step.
 fn take_long_step<R: Host>(
     crashes: &mut Crashes<'_, R>,
     history: &mut History,
@@ -94,12 +109,17 @@ fn take_long_step<R: Host>(
 ) -> Result<()> {
     match history.dice.below(8) {
         0..=3 => write_long(crashes, history, len),
-        4 | 5 => move_again(crashes, history),
+        4 | 5 => move_and_purge_all(crashes, history),
         _ => take_step(crashes, history),
     }
 }
 
-/// Writes an entry of so many bytes to region 3, and beside it a value or any change of that region, or any of another one.
+/// Writes an entry of `len` bytes to region 3, and beside it a value or any change of that region, or any
+/// change of region 1.
+///
+/// # Errors
+///
+/// Those of [`History::write`].
 fn write_long<R: Host>(
     crashes: &mut Crashes<'_, R>,
     history: &mut History,
@@ -113,24 +133,33 @@ fn write_long<R: Host>(
     history.write(crashes, &[(3, Choice::Long(len)), other], false)
 }
 
-/// Takes a step.
+/// Takes a random step of a history: a write, a sync, a new file, a moving of records, a purge, a restart or
+/// a crash.
+///
+/// # Errors
+///
+/// Those of the step.
 fn take_step<R: Host>(crashes: &mut Crashes<'_, R>, history: &mut History) -> Result<()> {
     match history.dice.below(24) {
         0..=8 => write_batch(crashes, history),
         9 => history.sync(crashes),
         10 => history.rotate(crashes),
         11..=13 => move_records(crashes, history),
-        14 | 15 => history.rewrite_again(crashes),
+        14 | 15 => history.move_rewritten_records(crashes),
         16 | 17 => history.purge(crashes, LogQueue::Append),
         18 => history.purge(crashes, LogQueue::Rewrite),
         19 => history.restart(crashes),
         20 | 21 => history.crash(crashes),
         22 => replace_entries(crashes, history),
-        _ => move_again(crashes, history),
+        _ => move_and_purge_all(crashes, history),
     }
 }
 
-/// Writes one to three changes of two regions, of which one batch in four is synced.
+/// Writes a batch of one to three changes of regions 1 and 2, which is synced once in four times.
+///
+/// # Errors
+///
+/// Those of [`History::write`].
 fn write_batch<R: Host>(crashes: &mut Crashes<'_, R>, history: &mut History) -> Result<()> {
     let first = (history.dice.below(2) + 1, Choice::Any);
     let second = (history.dice.below(2) + 1, Choice::Any);
@@ -143,7 +172,12 @@ fn write_batch<R: Host>(crashes: &mut Crashes<'_, R>, history: &mut History) -> 
     }
 }
 
-/// Moves the records of some append files, in half of the steps of all of them.
+/// Moves the records of some append files; in half of these steps a new file is begun first, and those of all
+/// others are moved.
+///
+/// # Errors
+///
+/// Those of [`History::rotate`] and [`History::rewrite`].
 fn move_records<R: Host>(crashes: &mut Crashes<'_, R>, history: &mut History) -> Result<()> {
     if history.dice.hits(2) {
         return rewrite_all(crashes, history);
@@ -154,16 +188,24 @@ fn move_records<R: Host>(crashes: &mut Crashes<'_, R>, history: &mut History) ->
     history.rewrite(crashes, gate)
 }
 
-/// Moves the records of all append files, after a new one was begun.
+/// Begins a new append file, and moves the records of all older ones.
+///
+/// # Errors
+///
+/// Those of [`History::rotate`] and [`History::rewrite`].
 fn rewrite_all<R: Host>(crashes: &mut Crashes<'_, R>, history: &mut History) -> Result<()> {
     let gate = history.last_append_seq();
     history.rotate(crashes)?;
     history.rewrite(crashes, gate)
 }
 
-/// Takes steps in a row that lose or bring back entries where the rewrite queue isn't told of runs that replace some: all records
-/// move, entries are replaced and compacted to their end, and all append files go, in half of the cases after a restart that finds
-/// them.
+/// Takes steps by which entries would be lost or come back if the rewrite queue weren't told of runs that
+/// replace some: moves all records, replaces entries and compacts to their end, and purges the append files.
+/// In half of the cases a restart comes before the purge, and all records are moved once more.
+///
+/// # Errors
+///
+/// Those of the steps.
 fn replace_entries<R: Host>(crashes: &mut Crashes<'_, R>, history: &mut History) -> Result<()> {
     rewrite_all(crashes, history)?;
     history.write(
@@ -179,10 +221,14 @@ fn replace_entries<R: Host>(crashes: &mut Crashes<'_, R>, history: &mut History)
     history.purge(crashes, LogQueue::Append)
 }
 
-/// Moves all records to a new rewrite file, and deletes the older files of both queues.
-fn move_again<R: Host>(crashes: &mut Crashes<'_, R>, history: &mut History) -> Result<()> {
+/// Moves all records to a new rewrite file, and deletes the older files of both queues that no table needs.
+///
+/// # Errors
+///
+/// Those of the steps.
+fn move_and_purge_all<R: Host>(crashes: &mut Crashes<'_, R>, history: &mut History) -> Result<()> {
     rewrite_all(crashes, history)?;
     history.purge(crashes, LogQueue::Append)?;
-    history.rewrite_again(crashes)?;
+    history.move_rewritten_records(crashes)?;
     history.purge(crashes, LogQueue::Rewrite)
 }

@@ -52,19 +52,29 @@ static WAYS: [Way; 7] = [
     Way::Workers(4),
 ];
 
-/// Returns what all cuttings give of the files that words name, if they ask for a recovery.
-pub(crate) fn of_words<R: Threads + Files + AllocGlobal + Sync>(
+/// Returns what all cuttings of the files give that the words of `raftlog recover` name, or `None` for other
+/// words.
+///
+/// # Errors
+///
+/// Those of reading the files; `InvalidArgument` for more than 16 batches; `Memory`.
+pub(crate) fn try_cuttings_of_words<R: Threads + Files + AllocGlobal + Sync>(
     rt: &R,
     words: &[String],
 ) -> Result<Option<Found>> {
     let Some(Request::Recover(asked)) = Request::parse(rt.alloc(), words)? else {
         return Ok(None);
     };
-    Ok(Some(of_files(rt, asked)?))
+    Ok(Some(try_cuttings_of_files(rt, asked)?))
 }
 
-/// Reads files at every cutting.
-fn of_files<R: Threads + Files + AllocGlobal + Sync>(
+/// Reads the files that `asked` names at every cutting, in every way, up to the first one that gives
+/// something else than the batches uncut.
+///
+/// # Errors
+///
+/// Those of [`try_cuttings_of_words`].
+fn try_cuttings_of_files<R: Threads + Files + AllocGlobal + Sync>(
     rt: &R,
     asked: RecoverWords<'_>,
 ) -> Result<Found> {
@@ -75,17 +85,21 @@ fn of_files<R: Threads + Files + AllocGlobal + Sync>(
     if batches.len() > MOST_PARTS {
         return Err(Error::invalid_argument(rt.alloc(), "too many batches"));
     }
-    let whole = read_cut(rt, &batches, queue, 0, Way::Left)?;
+    let whole = read_cutting(rt, &batches, queue, 0, Way::Left)?;
     for cutting in 0..1u64 << batches.len().saturating_sub(1) {
-        if let Some(way) = other_way(rt, &batches, queue, cutting, &whole)? {
+        if let Some(way) = find_other_way(rt, &batches, queue, cutting, &whole)? {
             return Ok(Found::Different { cutting, way });
         }
     }
     Ok(Found::Same(whole))
 }
 
-/// Returns a way that gives something else at this cutting, if there is one.
-fn other_way<R: Threads + AllocGlobal + Sync>(
+/// Returns a way that gives something else than `whole` at this cutting, or `None` if there is none.
+///
+/// # Errors
+///
+/// `Memory`, and `Io` if the lines can't grow.
+fn find_other_way<R: Threads + AllocGlobal + Sync>(
     rt: &R,
     batches: &[FilePart],
     queue: LogQueue,
@@ -93,14 +107,14 @@ fn other_way<R: Threads + AllocGlobal + Sync>(
     whole: &Answer,
 ) -> Result<Option<Way>> {
     for &way in &WAYS {
-        if !is_same(&read_cut(rt, batches, queue, cutting, way)?, whole) {
+        if !is_same(&read_cutting(rt, batches, queue, cutting, way)?, whole) {
             return Ok(Some(way));
         }
     }
     Ok(None)
 }
 
-/// Tests whether two results are the same.
+/// Tests whether `left` and `right` have the same lines, or are both refusals, whatever their reasons.
 fn is_same(left: &Answer, right: &Answer) -> bool {
     match (left, right) {
         (Answer::Lines(left), Answer::Lines(right)) => left.as_slice() == right.as_slice(),
@@ -109,8 +123,12 @@ fn is_same(left: &Answer, right: &Answer) -> bool {
     }
 }
 
-/// Returns what the batches give at this cutting, read and merged in this way.
-fn read_cut<R: Threads + AllocGlobal + Sync>(
+/// Returns what `batches` of `queue` give at this `cutting`, read and merged in this `way`.
+///
+/// # Errors
+///
+/// `Memory`, and `Io` if the lines can't grow. Any other refusal is an answer.
+fn read_cutting<R: Threads + AllocGlobal + Sync>(
     rt: &R,
     batches: &[FilePart],
     queue: LogQueue,
@@ -125,13 +143,17 @@ fn read_cut<R: Threads + AllocGlobal + Sync>(
         _ => merge_by_plan(rt, segments.as_slice(), queue, way),
     };
     match read {
-        Ok(tables) => Ok(Answer::Lines(lines_of(rt.alloc(), &tables)?)),
+        Ok(tables) => Ok(Answer::Lines(table_lines(rt.alloc(), &tables)?)),
         Err(Error::Memory) => Err(Error::Memory),
         Err(_) => Ok(Answer::Refused),
     }
 }
 
-/// Returns the tables of segments that are read one by one and merged by a plan.
+/// Returns the tables of `segments`, which are read one by one and merged by the plan of this `way`.
+///
+/// # Errors
+///
+/// Those of [`replay_segment`] and [`merge_pieces`]; `Memory`.
 fn merge_by_plan<R: Threads + AllocGlobal + Sync>(
     rt: &R,
     segments: &[Segment],
@@ -143,7 +165,11 @@ fn merge_by_plan<R: Threads + AllocGlobal + Sync>(
     merge_pieces(rt, pieces, &plan, queue)?.finish()
 }
 
-/// Returns a context for each segment.
+/// Returns a context for each of `segments`, which has read it.
+///
+/// # Errors
+///
+/// Those of [`replay_segment`]; `Memory`.
 fn read_segments(alloc: Global, segments: &[Segment]) -> Result<Vec<MemTableRecoverContext>> {
     let mut pieces = Vec::new(alloc);
     for segment in segments {
@@ -152,14 +178,22 @@ fn read_segments(alloc: Global, segments: &[Segment]) -> Result<Vec<MemTableReco
     Ok(pieces)
 }
 
-/// Returns a context of a segment.
+/// Returns a context that has read `segment`.
+///
+/// # Errors
+///
+/// Those of [`replay_segment`]; `Memory`.
 fn read_segment(alloc: Global, segment: &Segment) -> Result<MemTableRecoverContext> {
     let mut context = MemTableRecoverContext::new(alloc)?;
     replay_segment(&mut context, segment)?;
     Ok(context)
 }
 
-/// Returns the plan that merges so many pieces in this way.
+/// Returns the plan that merges `count` pieces from the left, from the right, or by halves, as `way` says.
+///
+/// # Errors
+///
+/// `Memory` alone.
 fn plan_of(alloc: Global, count: usize, way: Way) -> Result<Plan> {
     let mut plan = Plan::One;
     match way {
@@ -179,8 +213,12 @@ fn plan_of(alloc: Global, count: usize, way: Way) -> Result<Plan> {
     }
 }
 
-/// Returns the batches as segments: one ends after batch `n` where bit `n` of the number is set, and one at
-/// the end.
+/// Returns the batches as segments: one ends behind batch `n` if bit `n` of `cutting` is set, and the last
+/// one at the end.
+///
+/// # Errors
+///
+/// `Memory` alone.
 fn cut_segments(alloc: Global, batches: &[FilePart], cutting: u64) -> Result<Vec<Segment>> {
     let mut segments = Vec::new(alloc);
     let mut segment = Vec::new(alloc);
@@ -196,7 +234,11 @@ fn cut_segments(alloc: Global, batches: &[FilePart], cutting: u64) -> Result<Vec
     Ok(segments)
 }
 
-/// Returns a part for each batch of the segments, and for each empty file.
+/// Returns a part for each batch of `segments`, and one for each empty file.
+///
+/// # Errors
+///
+/// `Memory` alone.
 fn batches_of(alloc: Global, segments: Vec<Segment>) -> Result<Vec<FilePart>> {
     let mut batches = Vec::new(alloc);
     for segment in segments {
@@ -210,8 +252,12 @@ fn batches_of(alloc: Global, segments: Vec<Segment>) -> Result<Vec<FilePart>> {
     Ok(batches)
 }
 
-/// Returns the lines of tables.
-fn lines_of(alloc: Global, tables: &MemTableAccessor) -> Result<Vec<u8>> {
+/// Returns the lines that `raftlog recover` prints for `tables`.
+///
+/// # Errors
+///
+/// `Memory`, and `Io` if the lines can't grow.
+fn table_lines(alloc: Global, tables: &MemTableAccessor) -> Result<Vec<u8>> {
     let mut lines = Vec::new(alloc);
     print_recovered(alloc, tables, &mut lines)?;
     Ok(lines)

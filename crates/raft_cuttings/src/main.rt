@@ -24,6 +24,9 @@ const DIFFERENT: u8 = 3;
 const USAGE: &str =
     "usage: raft_cuttings recover <queue> <version> <workers> <seq>=<path>..   (recovers files of at most 16 batches at every cutting)";
 
+/// Does what the arguments ask for. The status is 0 if all cuttings give the same tables, and for `--help`; 1 if they are all
+/// refused, the files can't be read or have more than 16 batches, or the lines can't be printed; 2 for arguments that ask for
+/// nothing; 3 if one cutting gives something else.
 fn main(rt: HostRuntime) -> ExitCode {
     let Ok(words) = command_words(&rt) else {
         return ExitCode::from(MISUSED);
@@ -34,14 +37,14 @@ fn main(rt: HostRuntime) -> ExitCode {
         let _ = println!(rt; "{USAGE}");
         return ExitCode::from(DONE);
     }
-    let found = cuttings::of_words(&rt, words.as_slice());
-    ExitCode::from(status_of(&rt, found))
+    let found = cuttings::try_cuttings_of_words(&rt, words.as_slice());
+    ExitCode::from(print_found(&rt, found))
 }
 
 /// Prints what was found, and returns the status to end with.
-fn status_of(rt: &HostRuntime, found: Result<Option<Found>>) -> u8 {
+fn print_found(rt: &HostRuntime, found: Result<Option<Found>>) -> u8 {
     match found {
-        Ok(Some(Found::Same(answer))) => print_result(rt, answer),
+        Ok(Some(Found::Same(answer))) => print_answer(rt, answer),
         Ok(Some(Found::Different { cutting, way })) => tell_difference(rt, cutting, way),
         Ok(None) => {
             let _ = eprintln!(rt; "{USAGE}");
@@ -51,8 +54,9 @@ fn status_of(rt: &HostRuntime, found: Result<Option<Found>>) -> u8 {
     }
 }
 
-/// Prints the lines of a result.
-fn print_result(rt: &HostRuntime, answer: Answer) -> u8 {
+/// Prints the lines of `answer`, and returns the status to end with: 0 once they are printed; 1 if they
+/// can't be, or for a refusal, of which it prints nothing.
+fn print_answer(rt: &HostRuntime, answer: Answer) -> u8 {
     let Answer::Lines(lines) = answer else {
         return REFUSED;
     };
@@ -63,7 +67,7 @@ fn print_result(rt: &HostRuntime, answer: Answer) -> u8 {
     }
 }
 
-/// Tells which cutting gives something else.
+/// Says on standard error that `cutting` gives something else in this `way`, and returns the status 3.
 fn tell_difference(rt: &HostRuntime, cutting: u64, way: Way) -> u8 {
     let way = match way {
         Way::Left => "from the left",

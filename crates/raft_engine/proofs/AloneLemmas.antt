@@ -1,41 +1,13 @@
 -- What the append queue gives alone, where the rewrite queue holds no batch.
-use Rattle.std.proofs.Common.{◌≡◌, ℕ, Bool, true, false, cond, List, [], ◌∷◌, ◌++◌, map, filter, Option, Some, None, option_map, refl, sym, ap, ◌∙◌, subst}
-use Rattle.std.specs.Prelude.{◌==◌, flat_map}
+use Rattle.raft_engine.proofs.Common.{◌≡◌, ℕ, Bool, true, false, cond, List, [], ◌∷◌, ◌++◌, map, filter, Option, Some, None, option_map, refl, sym, ap, ◌∙◌, subst, ◌==◌, flat_map, AllByRecursion, option_and_then, EntryIndex, FileId, LogQueue, Append, Rewrite, Version, Content}
+use Rattle.raft_engine.proofs.Common.{Item, command, entries, pair, OpType, end_of, Batch, Keys, entries_within, deleted_of, greatest_compaction, has_clean, is_unjoined, kept_if, least_cut, overlaid_table, overlay, entries_after_replay, AtomicGroup, Clean, Compact, Del, Run}
+use Rattle.raft_engine.proofs.Common.{Step, Truncate, after, after_step, table_of, Table, empty_table, own_keys, BatchSteps, Event, batches, IsReadingOfBoth, effects, effects_behind, is_named, steps_of, IsOneReading, IsSoundIn, RegionStep, Tables, content_step, is_reserved}
+use Rattle.raft_engine.proofs.Common.{pair_step, steps_of_items, steps_on, without_marker, with_step, plain_steps, unnamed_steps, Accessor, Ask, NumberedBytes, one_reading, AreRead, IsReadBackAlone}
 use Rattle.std.specs.FinMap as finite
 use Rattle.std.specs.FinSet as finset
-use Rattle.std.specs.List.{AllByRecursion}
-use Rattle.std.specs.Option.{option_and_then}
-use Rattle.raft_base.specs.declared.entry_index.EntryIndex.{EntryIndex}
-use Rattle.raft_base.specs.declared.pipe_log.FileId.{FileId}
-use Rattle.raft_base.specs.declared.pipe_log.LogQueue.{LogQueue}
-use Rattle.raft_base.specs.declared.pipe_log.LogQueue.TheVariants.{Append, Rewrite}
-use Rattle.raft_base.specs.declared.pipe_log.Version.{Version}
-use Rattle.raft_records.specs.Item.{Content, Item, command, entries, pair}
 use Rattle.raft_records.specs.declared.command.Command.TheVariants as commands
-use Rattle.raft_records.specs.declared.key_value.OpType.{OpType}
 use Rattle.raft_records.specs.declared.key_value.OpType.TheVariants as operations
-use Rattle.raft_base.specs.Runs.{end_of}
-use Rattle.raft_records.specs.LogBatch.{Batch}
-use Rattle.raft_table.specs.KeyValues.{Keys}
-use Rattle.raft_table.specs.Marks.{entries_within}
-use Rattle.raft_table.specs.Overlay.{deleted_of, greatest_compaction, has_clean, is_unjoined, kept_if, least_cut, overlaid_table, overlay}
-use Rattle.raft_table.specs.Start.{entries_after_replay}
-use Rattle.raft_table.specs.Steps.{AtomicGroup, Clean, Compact, Del, Put, Run, Step, Truncate, after, after_step, table_of}
-use Rattle.raft_table.specs.Table.{Table, empty_table}
-use Rattle.raft_table.proofs.MarkTables.{own_keys}
-use Rattle.raft_history.specs.Batches.{BatchSteps, Event, batches}
-use Rattle.raft_history.specs.BothQueues.{IsReadingOfBoth}
-use Rattle.raft_history.specs.Effects.{effects, effects_behind, is_named, steps_of}
-use Rattle.raft_history.specs.Histories.{IsOneReading, IsSoundIn}
-use Rattle.raft_history.specs.RegionSteps.{RegionStep, Tables, content_step, is_reserved, pair_step, steps_of_items, steps_on}
-use Rattle.raft_history.proofs.SoundLemmas.{without_marker}
-use Rattle.raft_history.proofs.Words.{with_step}
-use Rattle.raft_history.proofs.WithoutMarkers.{plain_steps, unnamed_steps}
-use Rattle.raft_accessor.specs.Accessor.{Accessor}
-use Rattle.raft_files.specs.Asks.{Ask, NumberedBytes}
-use Rattle.raft_engine_prefixes.proofs.TornLemmas.{one_reading}
-use Rattle.raft_engine.specs.Opened.{AreRead}
-use Rattle.raft_engine.specs.ReadBack.{IsReadBackAlone}
+use Rattle.raft_table.specs.Steps.{Put}
 use Rattle.raft_engine.proofs.ReadBackLemmas.{unmoved_self}
 
 some_is : {A : Type 0} {x y : A} → Some x ≡ Some y → x ≡ y

@@ -1,40 +1,21 @@
 -- Asks of which one failed.
-use Rattle.std.proofs.Common.{◌≡◌, ◌≢◌, ℕ, Result, Ok, Err, IfErr, OnOk, OnErr, List, [], ◌∷◌, ◌++◌, inl, inr, refl, sym, ap, ◌∙◌, subst, append_assoc}
-use Rattle.raft_base.specs.declared.errors.Error.{Error}
-use Rattle.raft_base.specs.declared.pipe_log.LogQueue.{LogQueue}
-use Rattle.raft_base.specs.declared.pipe_log.LogQueue.TheVariants.{Rewrite}
-use Rattle.raft_base.specs.declared.pipe_log.Version.{Version}
-use Rattle.raft_records.specs.Item.{Item}
-use Rattle.raft_records.specs.LogBatch.{Batch}
-use Rattle.raft_files.specs.Asks.{Act, Ask, Begin, Cut, Delete, Found, MayBeAsked, Put, Read, Sync, Unsynced, ask, failed_act, failed_ask}
-use Rattle.raft_engine.specs.BatchBytes.{bytes_for}
-use Rattle.raft_engine.specs.OpeningAsks.{Failures, FailsAmong, asks_that_tell, missing_asks}
-use Rattle.raft_engine.specs.StoredFound.{told_asks}
-use Rattle.raft_engine.specs.declared.missing.Missing.{Missing}
+use Rattle.raft_engine.proofs.Common.{◌≡◌, ◌≢◌, ℕ, Result, Ok, Err, IfErr, OnOk, OnErr, List, [], ◌∷◌, ◌++◌, inl, inr, refl, sym, ap, ◌∙◌, subst, append_assoc, Error, LogQueue, Rewrite, Version, Item, Batch, Act, Ask, Begin, Cut, Delete, Found, MayBeAsked, Put, Read, Sync}
+use Rattle.raft_engine.proofs.Common.{Unsynced, ask, failed_act, failed_ask, bytes_for, Failures, FailsAmong, asks_that_tell, missing_asks, told_asks, Missing, CutTail, ◌⊎◌}
 use Rattle.raft_engine.specs.declared.missing.Missing.TheVariants as missings
-use Rattle.raft_engine.specs.declared.recovered.CutTail.{CutTail}
-use Rattle.raft_engine.specs.WrittenBatch.{AreMissing}
+
+-- the next one of these missing asks, the oldest, is a sync, and it is noted that it failed
+pub record IsNextUnsynced (missing between new : List Ask) : Type 0 where
+  pub later : List Ask
+  pub queue : LogQueue
+  pub next : missing ≡ later ++ ask queue Sync ∷ []
+  pub noted : new ≡ ask queue Unsynced ∷ between
 
 -- of what is wanted, newest first, some, none or all was asked, the oldest first, and it may be noted that a sync failed behind it
 pub record AreAskedInPart (wanted old new : List Ask) : Type 0 where
   pub missing : List Ask
   pub made : List Ask
   pub split : wanted ≡ missing ++ made
-  pub asked : AreMissing missing (made ++ old) new
-
--- of two
-pub asked_of_two : (P : List Ask → Type 0) (b a : Ask) (old new : List Ask) → AreAskedInPart (b ∷ a ∷ []) old new → ((queue : LogQueue) (l : List Ask) → P l → P (ask queue Unsynced ∷ l))
-    → P old → P (a ∷ old) → P (b ∷ a ∷ old) → P new
-asked_of_two P b a old new p unsynced none one two = elim p.asked [
-  | inl e ↦ subst P (sym e) (go p.missing p.made p.split)
-  | inr u ↦ subst P (sym u.noted) (unsynced u.queue (p.made ++ old) (go p.missing p.made p.split))
-]
-  where
-    go : (missing made : List Ask) → b ∷ a ∷ [] ≡ missing ++ made → P (made ++ old)
-    go [] made e = subst (λ (l : List Ask). P (l ++ old)) e two
-    go (x ∷ []) made e = let is : a ∷ [] ≡ made = cc in subst (λ (l : List Ask). P (l ++ old)) is one
-    go (x ∷ y ∷ []) made e = let is : [] ≡ made = cc in subst (λ (l : List Ask). P (l ++ old)) is none
-    go (x ∷ y ∷ z ∷ missing) made e = absurd cc
+  pub asked : (new ≡ made ++ old) ⊎ IsNextUnsynced missing (made ++ old) new
 
 -- where the call for one failed
 none_of : (queue : LogQueue) (act : Act) (later earlier wanted old new : List Ask) → wanted ≡ later ++ ask queue act ∷ earlier → new ≡ earlier ++ old → AreAskedInPart wanted old new
@@ -63,21 +44,6 @@ part_of queue Delete later earlier wanted old new split (inr one) = one_of queue
 part_of queue (Cut len) later earlier wanted old new split (inr one) = one_of queue (Cut len) later earlier wanted old new split one
 part_of queue (Found files) later earlier wanted old new split (inr one) = one_of queue (Found files) later earlier wanted old new split one
 part_of queue (Read place bytes) later earlier wanted old new split (inr one) = one_of queue (Read place bytes) later earlier wanted old new split one
-
--- more that is missing behind what is
-pub more_missing : (more missing between new : List Ask) → AreMissing missing between new → AreMissing (more ++ missing) between new
-more_missing more missing between new (inl e) = inl e
-more_missing more missing between new (inr u) = inr (record {
-  later = more ++ u.later;
-  queue = u.queue;
-  next = ap (λ (l : List Ask). more ++ l) u.next ∙ sym (append_assoc more u.later (ask u.queue Sync ∷ []));
-  noted = u.noted;
-})
-
--- a sync is missing, and may have failed
-pub sync_missing : (queue : LogQueue) (later between new : List Ask) → MayBeAsked (ask queue Unsynced) between new → AreMissing (later ++ ask queue Sync ∷ []) between new
-sync_missing queue later between new (inl none) = inl none
-sync_missing queue later between new (inr one) = inr (record { later = later; queue = queue; next = refl; noted = one })
 
 module _ (MayFail : Failures) where
   pub asked_part : (wanted old new : List Ask) (e : Error) → FailsAmong MayFail wanted old new e → AreAskedInPart wanted old new

@@ -1,26 +1,7 @@
 -- The records that there were before an engine's batches.
-use Rattle.std.proofs.Common.{◌≡◌, inl, ℕ, List, [], ◌∷◌, length, Option, Some, refl, sym, ap, ◌∙◌, subst, arith, length-append}
-use Rattle.std.proofs.lemmas.List.{nil_from_length}
+use Rattle.raft_engine.proofs.Common.{◌≡◌, inl, ℕ, List, [], ◌∷◌, length, Option, Some, refl, sym, ap, ◌∙◌, subst, arith, length-append, nil_from_length, nat_cmp, EntryIndex, LogQueue, Append, Rewrite, Version, Table, Event, IsReadingOfBoth, effects_behind, Tables, steps_on}
+use Rattle.raft_engine.proofs.Common.{Begin, Found, NumberedBytes, ask, IsLeftOf, FilesHold, Records, HaveRecords, live, FilesHoldTorn, KeptEngine, IsLasting, IsLastingAfter, AreFromBefore, found_asks}
 use Rattle.std.specs.FinMap as finite
-use Rattle.std.specs.Ordering.{nat_cmp}
-use Rattle.raft_base.specs.declared.entry_index.EntryIndex.{EntryIndex}
-use Rattle.raft_base.specs.declared.pipe_log.LogQueue.{LogQueue}
-use Rattle.raft_base.specs.declared.pipe_log.LogQueue.TheVariants.{Append, Rewrite}
-use Rattle.raft_base.specs.declared.pipe_log.Version.{Version}
-use Rattle.raft_table.specs.Table.{Table}
-use Rattle.raft_history.specs.Batches.{Event}
-use Rattle.raft_history.specs.BothQueues.{IsReadingOfBoth}
-use Rattle.raft_history.specs.Effects.{effects_behind}
-use Rattle.raft_history.specs.RegionSteps.{Tables, steps_on}
-use Rattle.raft_files.specs.Asks.{Begin, Found, NumberedBytes, ask}
-use Rattle.raft_files.specs.Disk.{IsLeftOf}
-use Rattle.raft_recover.specs.Files.{FilesHold}
-use Rattle.raft_engine_laws.specs.Records.{Records, HaveRecords, live}
-use Rattle.raft_engine_prefixes.specs.TornTails.{FilesHoldTorn}
-use Rattle.raft_engine.specs.KeptEngine.{KeptEngine}
-use Rattle.raft_engine.specs.Lasting.{IsLasting, IsLastingAfter}
-use Rattle.raft_engine.specs.Restarts.{AreFromBefore}
-use Rattle.raft_engine.specs.StoredFound.{found_asks}
 use Rattle.raft_engine.proofs.RestartLemmas.{OneReading, found_read, whole_front}
 
 -- the reading of no batch

@@ -1,9 +1,5 @@
 -- How many blocks entries make, when one more comes.
-use Rattle.std.proofs.Common.{◌≡◌, ℕ, suc, ◌+◌, ◌≤◌, false, cond, List, [], ◌∷◌, ◌++◌, Option, Some, None, refl, sym, ap, ◌∙◌, arith}
-use Rattle.raft_base.specs.declared.entry_index.EntryIndex.{EntryIndex}
-use Rattle.raft_base.specs.declared.pipe_log.FileBlockHandle.{FileBlockHandle}
-use Rattle.raft_table.specs.Fetches.{are_same_places, block_count, change_count}
-use Rattle.raft_table.proofs.BlockJoins.{other_place_is, same_place_self}
+use Rattle.raft_engine.proofs.Common.{◌≡◌, ℕ, suc, ◌+◌, ◌≤◌, false, cond, List, [], ◌∷◌, ◌++◌, Option, Some, None, refl, sym, ap, ◌∙◌, arith, EntryIndex, FileBlockHandle, are_same_places, block_count, change_count, other_place_is, same_place_self}
 
 -- the last of these entries has this place
 abbrev pub EndsAt : List EntryIndex → FileBlockHandle → Type 0

@@ -1,35 +1,10 @@
 -- The entry blocks of the batches of a part.
-use Rattle.std.proofs.Common.{Result, Ok, Err, IfErr, OnOk, ◌≡◌, ◌≢◌, inl, inr, ℕ, ◌+◌, ◌-◌, ◌<◌, ◌≤◌, ◌^◌, List, [], ◌∷◌, ◌++◌, length, map, take, drop, refl, sym, ap, ◌∙◌, subst, arith, append_assoc, append-nil, length-append}
-use Rattle.std.proofs.lemmas.Bool.{cases_lt}
-use Rattle.std.proofs.lemmas.List.{append_cancel_left, drop-append-le, drop-take, drop_at, length-drop, length-take-le, nil_from_length, take-append-drop, take-take, take_at}
-use Rattle.raft_base.specs.declared.compression_type.CompressionType.{CompressionType}
-use Rattle.raft_base.specs.Corruption.{IsCorruption}
-use Rattle.raft_base.specs.declared.errors.Error.{Error}
+use Rattle.raft_engine.proofs.Common.{Result, Ok, Err, IfErr, OnOk, ◌≡◌, ◌≢◌, inl, inr, ℕ, ◌+◌, ◌-◌, ◌<◌, ◌≤◌, ◌^◌, List, [], ◌∷◌, ◌++◌, length, map, take, drop, refl, sym, ap, ◌∙◌, subst, arith, append_assoc, append-nil, length-append, cases_lt, append_cancel_left}
+use Rattle.raft_engine.proofs.Common.{drop-append-le, drop-take, drop_at, length-drop, length-take-le, nil_from_length, take-append-drop, take-take, take_at, CompressionType, IsCorruption, Error, FileBlockHandle, FileId, LogQueue, Append, Rewrite, Version, HasNoFront, Reads}
+use Rattle.raft_engine.proofs.Common.{AreBatchesUpTo, IsBatchAt, Part, StandBetween, IsEntryBlockOf, IsHeader, AreInBytes, Item, bare, IsBatchOf, IsLogBatch, encoded_length, entry_block, header_bytes, log_batch_bytes, AreInRange, header_len, framed, header_one, log_batch_length}
+use Rattle.raft_engine.proofs.Common.{log_batch_spelled, same_length, part_signature, batch_inside, one_batch_more, written_stands, NumberedBytes, whole_file, bytes_before, IsUnreadableAt, batch_none, batch_unique, StopsAt, stop_unreadable, AreBlocksSound, HasSoundBlock}
+use Rattle.raft_engine.proofs.Common.{IsFileSound, IsPartSound, IsUnsoundAs, damaged_entries_text}
 use Rattle.raft_base.specs.declared.errors.Error.TheVariants as errors
-use Rattle.raft_base.specs.declared.pipe_log.FileBlockHandle.{FileBlockHandle}
-use Rattle.raft_base.specs.declared.pipe_log.FileId.{FileId}
-use Rattle.raft_base.specs.declared.pipe_log.LogQueue.{LogQueue}
-use Rattle.raft_base.specs.declared.pipe_log.LogQueue.TheVariants.{Append, Rewrite}
-use Rattle.raft_base.specs.declared.pipe_log.Version.{Version}
-use Rattle.raft_codec.specs.Reading.{HasNoFront, Reads}
-use Rattle.raft_records.specs.FilePart.{AreBatchesUpTo, IsBatchAt, Part, StandBetween}
-use Rattle.raft_records.specs.Header.{IsEntryBlockOf, IsHeader}
-use Rattle.raft_records.specs.Item.{AreInBytes, Item, bare}
-use Rattle.raft_records.specs.LogBatch.{IsBatchOf, IsLogBatch, encoded_length, entry_block, header_bytes, log_batch_bytes}
-use Rattle.raft_records.specs.Range.{AreInRange}
-use Rattle.raft_records.proofs.BufferLemmas.{header_len}
-use Rattle.raft_records.proofs.FrameLemmas.{framed, header_one, log_batch_length, log_batch_spelled}
-use Rattle.raft_records.proofs.ItemLemmas.{same_length}
-use Rattle.raft_records.proofs.Names.{part_signature}
-use Rattle.raft_records.proofs.PartLemmas.{batch_inside, one_batch_more, written_stands}
-use Rattle.raft_files.specs.Asks.{NumberedBytes}
-use Rattle.raft_recover.specs.Files.{whole_file}
-use Rattle.raft_replay.specs.Cuts.{bytes_before}
-use Rattle.raft_replay.specs.Stops.{IsUnreadableAt}
-use Rattle.raft_replay.proofs.SegmentLemmas.{batch_none, batch_unique}
-use Rattle.raft_engine_prefixes.specs.TornTails.{StopsAt}
-use Rattle.raft_engine_prefixes.proofs.TornLemmas.{stop_unreadable}
-use Rattle.raft_engine.specs.SoundBlocks.{AreBlocksSound, HasSoundBlock, IsFileSound, IsPartSound, IsUnsoundAs, damaged_entries_text}
 
 -- ---- one batch
 

@@ -1,28 +1,10 @@
 -- Entries that are read by their blocks, one after another.
-use Rattle.std.proofs.Common.{◌≡◌, ◌≢◌, ◌⊎◌, ℕ, suc, ◌+◌, ◌<◌, ◌≤◌, List, [], ◌∷◌, ◌++◌, get_or, length, map, take, drop, Option, Some, None, Vec, Contains, string_bytes, inl, inr, refl, sym, ap, subst, ◌∙◌, append_assoc, arith}
-use Rattle.std.specs.Global.{Global}
-use Rattle.std.specs.List.{AllZip, concat}
-use Rattle.std.proofs.lemmas.List.{append-nil, drop_at, length-append, length-drop, length-take-le, take-append-drop, take-append-le, take_all, take_at, take_more}
-use Rattle.std.proofs.lemmas.List.Elements.{Contains-append_right}
-use Rattle.raft_base.specs.declared.entry_index.EntryIndex.{EntryIndex}
-use Rattle.raft_base.specs.declared.errors.Error.{Error}
+use Rattle.raft_engine.proofs.Common.{◌≡◌, ◌≢◌, ◌⊎◌, ℕ, suc, ◌+◌, ◌<◌, ◌≤◌, List, [], ◌∷◌, ◌++◌, get_or, length, map, take, drop, Option, Some, None, Vec, Contains, string_bytes, inl, inr, refl, sym, ap, subst, ◌∙◌, append_assoc, arith, Global, AllZip, concat, append-nil}
+use Rattle.raft_engine.proofs.Common.{drop_at, length-append, length-drop, length-take-le, take-append-drop, take-append-le, take_all, take_at, take_more, Contains-append_right, EntryIndex, Error, FileBlockHandle, IsCorruption, IsCorruptionError, IsAnyCorruption, IsEntryBlockOf}
+use Rattle.raft_engine.proofs.Common.{IsLentBlockFault, strings_in, HasSeal, checksum_bytes, entry_lengths, checksum_len, content_is, block_count, Ask, Read, ask, AreBytesIn, AreNoBytesIn, IsBlockOf, IsKeptOf, IsNoBlockOf, IsOfEntry, IsSoundRead, IsUnsoundRead, IsNothingRead}
+use Rattle.raft_engine.proofs.Common.{AreReadByBlocks, AreReads, AreUnread, IsDamaged, IsReadAmong, NamesEntry, EntryBlock, Failures}
 use Rattle.raft_base.specs.declared.errors.Error.TheVariants as errors
-use Rattle.raft_base.specs.declared.pipe_log.FileBlockHandle.{FileBlockHandle}
-use Rattle.raft_base.specs.Corruption.{IsCorruption}
-use Rattle.raft_base.specs.Errors.{IsCorruptionError}
-use Rattle.raft_records.specs.Faults.{IsAnyCorruption}
-use Rattle.raft_records.specs.Header.{IsEntryBlockOf, IsLentBlockFault}
-use Rattle.raft_records.specs.Entries.{strings_in}
-use Rattle.raft_records.specs.ItemBatch.{HasSeal, checksum_bytes, entry_lengths}
-use Rattle.raft_records.proofs.BufferLemmas.{checksum_len}
-use Rattle.raft_records.proofs.SealLemmas.{content_is}
-use Rattle.raft_table.specs.Fetches.{block_count}
-use Rattle.raft_files.specs.Asks.{Ask, Read, ask}
-use Rattle.raft_engine.specs.BlockReads.{AreBytesIn, AreNoBytesIn, IsBlockOf, IsKeptOf, IsNoBlockOf, IsOfEntry, IsSoundRead, IsUnsoundRead}
-use Rattle.raft_engine.specs.Reads.{IsNothingRead, AreReadByBlocks, AreReads, AreUnread, IsDamaged, IsReadAmong, NamesEntry}
-use Rattle.raft_engine.specs.declared.block_reads.EntryBlock.{EntryBlock}
 use Rattle.raft_engine.proofs.BlockCounts.{EndsAt, ends_more, prefix_count, other_count, same_count}
-use Rattle.raft_engine.specs.FileFailures.{Failures}
 
 -- ---- blocks
 

@@ -1,13 +1,6 @@
 -- Why copies of files in memory aren't opened.
-use Rattle.std.proofs.Common.{◌≡◌, inl, ℕ, List, refl, sym, subst}
-use Rattle.raft_base.specs.declared.errors.Error.{Error}
+use Rattle.raft_engine.proofs.Common.{◌≡◌, inl, ℕ, List, refl, sym, subst, Error, Version, Ask, NumberedBytes, IsMemoryFault, found_asks, AreUnrecoveredAs, IsUnopened, TolerateTornTail}
 use Rattle.raft_base.specs.declared.errors.Error.TheVariants as errors
-use Rattle.raft_base.specs.declared.pipe_log.Version.{Version}
-use Rattle.raft_files.specs.Asks.{Ask, NumberedBytes}
-use Rattle.raft_files.specs.MemoryFaults.{IsMemoryFault}
-use Rattle.raft_engine.specs.StoredFound.{found_asks}
-use Rattle.raft_engine.specs.Unopened.{AreUnrecoveredAs, IsUnopened}
-use Rattle.raft_engine.specs.declared.recovery_mode.RecoveryMode.TheVariants.{TolerateTornTail}
 
 module _ (version : Version) (workers : ℕ) (append rewrite : List NumberedBytes) where
   abbrev pub IsUncopied : Error → Type 0

@@ -1,27 +1,7 @@
 -- The batches of a part whose entries are damaged, gathered one after the other.
-use Rattle.std.proofs.Common.{◌≡◌, ◌⊎◌, inl, inr, ℕ, suc, ◌+◌, ◌<◌, ◌≤◌, List, [], ◌∷◌, ◌++◌, length, refl, sym, ap, ◌∙◌, subst, Contains, arith, append-nil}
-use Rattle.std.specs.List.{AllByRecursion}
-use Rattle.std.proofs.lemmas.Bool.{cases_lt}
-use Rattle.std.proofs.lemmas.List.Elements.{Contains-append_left, Contains-append_right}
-use Rattle.raft_base.specs.declared.pipe_log.LogQueue.TheVariants.{Append}
-use Rattle.raft_base.specs.declared.pipe_log.Version.{Version}
-use Rattle.raft_records.specs.FilePart.{AreBatchesUpTo, IsBatchAt, Part, StandBetween}
-use Rattle.raft_records.specs.Item.{Item}
-use Rattle.raft_records.proofs.PartLemmas.{batch_inside, one_batch_more}
-use Rattle.raft_history.proofs.EffectLemmas.{each-append}
-use Rattle.raft_files.specs.Asks.{NumberedBytes}
-use Rattle.raft_recover.specs.Files.{whole_file}
-use Rattle.raft_replay.specs.Stops.{IsUnreadableAt}
-use Rattle.raft_replay.proofs.SegmentLemmas.{batch_none}
-use Rattle.raft_engine_prefixes.specs.Done.{AreRisingFrom}
-use Rattle.raft_engine_prefixes.specs.TornTails.{StopsAt}
-use Rattle.raft_engine_prefixes.proofs.NumberLemmas.{rising_low}
-use Rattle.raft_engine_prefixes.proofs.TornLemmas.{stop_unreadable}
-use Rattle.raft_engine.specs.DamagedBatches.{AreDamagedBatches, AreDamagedTold, IsDamagedBatch, offsets}
-use Rattle.raft_engine.specs.DamagedStretches.{AreDamagedBetween, AreReached, IsGathered, IsReachedAt}
-use Rattle.raft_engine.specs.FoundQueues.{IsLastOf}
-use Rattle.raft_engine.specs.SoundBlocks.{HasSoundBlock}
-use Rattle.raft_engine.specs.declared.recovered.DamagedBatch.{DamagedBatch}
+use Rattle.raft_engine.proofs.Common.{◌≡◌, ◌⊎◌, inl, inr, ℕ, suc, ◌+◌, ◌<◌, ◌≤◌, List, [], ◌∷◌, ◌++◌, length, refl, sym, ap, ◌∙◌, subst, Contains, arith, append-nil, AllByRecursion, cases_lt, Contains-append_left, Contains-append_right, Append, Version, AreBatchesUpTo, IsBatchAt}
+use Rattle.raft_engine.proofs.Common.{Part, StandBetween, Item, batch_inside, one_batch_more, each-append, NumberedBytes, whole_file, IsUnreadableAt, batch_none, AreRisingFrom, StopsAt, rising_low, stop_unreadable, AreDamagedBatches, AreDamagedTold, IsDamagedBatch, offsets}
+use Rattle.raft_engine.proofs.Common.{AreDamagedBetween, AreReached, IsGathered, IsReachedAt, IsLastOf, HasSoundBlock, DamagedBatch}
 use Rattle.raft_engine.proofs.BlockLemmas.{none_past, stand_on, stand_past}
 use Rattle.raft_engine.proofs.FoundLemmas.{one_last}
 use Rattle.raft_engine.proofs.ReadyLemmas.{no_last}

@@ -1,23 +1,10 @@
 -- The deletion of a rewrite file that no table needs.
-use Rattle.std.proofs.Common.{◌≡◌, ℕ, ◌+◌, List, [], ◌∷◌, ◌++◌, length}
-use Rattle.raft_base.specs.declared.entry_index.EntryIndex.{EntryIndex}
-use Rattle.raft_base.specs.declared.pipe_log.LogQueue.{LogQueue}
-use Rattle.raft_base.specs.declared.pipe_log.LogQueue.TheVariants.{Append, Rewrite}
-use Rattle.raft_base.specs.declared.pipe_log.Version.{Version}
-use Rattle.raft_history.specs.RegionSteps.{RegionStep, Tables}
+use Rattle.raft_engine.proofs.Common.{◌≡◌, ℕ, ◌+◌, List, [], ◌∷◌, ◌++◌, length, EntryIndex, LogQueue, Append, Rewrite, Version, RegionStep, Tables, Act, Ask, NumberedBytes, acts_on, ask, begun, deletions, AreLeastFrom, EndNoOlderGroup, Records, Deed, IsSafe, IsSynced}
+use Rattle.raft_engine.proofs.Common.{LoseNothing, MayBeGone, in_files_from, written, AreBothTold, KeepsBytes, AreAllDone, DeletionsAreStored, WhatIsDoneLasts, rows_files}
 use Rattle.raft_files.specs.Asks as asks
-use Rattle.raft_files.specs.Asks.{Act, Ask, NumberedBytes, acts_on, ask}
-use Rattle.raft_files.specs.Disk.{begun, deletions}
-use Rattle.raft_engine_laws.specs.DeletedFiles.{AreLeastFrom}
-use Rattle.raft_engine_laws.specs.Groups.{EndNoOlderGroup}
-use Rattle.raft_engine_laws.specs.Records.{Records}
-use Rattle.raft_engine_laws.specs.Crashes.{Deed, Delete, IsSafe, IsSynced, LoseNothing, MayBeGone, in_files_from, written}
-use Rattle.raft_engine_prefixes.specs.Contents.{AreBothTold, KeepsBytes}
-use Rattle.raft_engine.specs.Stored.{AreAllDone}
-use Rattle.raft_engine.specs.StoredAsks.{DeletionsAreStored, WhatIsDoneLasts}
+use Rattle.raft_engine_laws.specs.Crashes.{Delete}
 use Rattle.raft_engine.proofs.DoneLemmas.{deeds_synced}
 use Rattle.raft_engine.proofs.StoredLemmas.{goes_on}
-use Rattle.raft_engine_laws.proofs.InRows.{rows_files}
 
 pub rewrite_delete_stored : WhatIsDoneLasts
     → ((content : EntryIndex → List ℕ) (base : ℕ → Records) (appended rewritten : List Deed) (untold : List RegionStep)

@@ -1,27 +1,10 @@
 -- What each ask does to a queue, and which batches it puts there.
-use Rattle.std.proofs.Common.{◌≡◌, suc, ℕ, ◌+◌, ◌<◌, ◌≤◌, List, [], ◌∷◌, ◌++◌, length, refl, sym, ap, ◌∙◌, subst, arith, length-append}
-use Rattle.raft_base.specs.Signature.{signature_in}
-use Rattle.raft_base.specs.declared.pipe_log.FileBlockHandle.{FileBlockHandle}
-use Rattle.raft_base.specs.declared.pipe_log.FileId.{FileId}
-use Rattle.raft_base.specs.declared.pipe_log.LogQueue.{LogQueue}
-use Rattle.raft_base.specs.declared.pipe_log.LogQueue.TheVariants.{Append, Rewrite}
-use Rattle.raft_base.specs.declared.pipe_log.Version.{Version}
-use Rattle.raft_records.specs.LogBatch.{Batch, log_batch_bytes}
-use Rattle.raft_history.specs.Batches.{Event}
-use Rattle.raft_history.specs.Histories.{HaveStatus}
+use Rattle.raft_engine.proofs.Common.{◌≡◌, suc, ℕ, ◌+◌, ◌<◌, ◌≤◌, List, [], ◌∷◌, ◌++◌, length, refl, sym, ap, ◌∙◌, subst, arith, length-append, signature_in, FileBlockHandle, FileId, LogQueue, Append, Rewrite, Version, Batch, log_batch_bytes, Event, HaveStatus, Act, Begin}
+use Rattle.raft_engine.proofs.Common.{NumberedBytes, Put, Sync, Unsynced, begun, deletions, written_event, whole_file, Deed, Write, Crash, written, deleted, IsSynced, ArePut, ArePutWhole, WrittenBatchIsPut, AreDoneWhole, AreRisingFrom, Follows, LastFileIsNext, WrittenBatchIsDone}
+use Rattle.raft_engine.proofs.Common.{numbers, written_within, AreSynced, AreAllDone, IsWritableBatch}
 use Rattle.raft_files.specs.Asks as asks
-use Rattle.raft_files.specs.Asks.{Act, Begin, NumberedBytes, Put, Sync, Unsynced}
-use Rattle.raft_files.specs.Disk.{begun, deletions}
-use Rattle.raft_replay.specs.WrittenParts.{written_event}
-use Rattle.raft_recover.specs.Files.{whole_file}
 use Rattle.raft_engine_laws.specs.Crashes as queue_deeds
-use Rattle.raft_engine_laws.specs.Crashes.{Deed, Write, Delete, Crash, written, deleted, IsSynced}
-use Rattle.raft_engine_prefixes.specs.Prefixes.{ArePut, ArePutWhole, WrittenBatchIsPut}
-use Rattle.raft_engine_prefixes.specs.Done.{AreDoneWhole, AreRisingFrom, Follows, LastFileIsNext, WrittenBatchIsDone, numbers}
-use Rattle.raft_engine_prefixes.proofs.EntryPlaceLemmas.{written_within}
-use Rattle.raft_engine.specs.Lasting.{AreSynced}
-use Rattle.raft_engine.specs.Stored.{AreAllDone}
-use Rattle.raft_engine.specs.StoredAsks.{IsWritableBatch}
+use Rattle.raft_engine_laws.specs.Crashes.{Delete}
 use Rattle.raft_engine.proofs.LastingLemmas.{all_synced, synced_prefix}
 use Rattle.raft_engine.proofs.SealedLemmas.{put_is_sound}
 use Rattle.raft_engine.proofs.WellPutLemmas.{begin_well, delete_well, none_well, put_well, sync_well, unsynced_well}

@@ -1,19 +1,7 @@
 -- The items that a loop takes of a batch that was drained.
-use Rattle.std.proofs.Common.{◌≡◌, List, [], ◌∷◌, ◌++◌, length, map, Result, Ok, Err, IfErr, OnOk, refl, sym, ap, ◌∙◌, subst, append_assoc, append-nil}
-use Rattle.std.proofs.lemmas.Iterator.{items_from_drains}
-use Rattle.std.proofs.lemmas.Iterator.Adapters.{YieldsList-from_vec}
-use Rattle.std.proofs.lemmas.List.{map-append, map-id, length-map}
-use Rattle.std.specs.Global.{Global}
-use Rattle.std.specs.Iterator.{Drains, Yields}
-use Rattle.std.specs.Vec.Iter.{into_iter_items, into_iter_len, into_iter_steps}
-use Rattle.std.specs.declared.vec.IntoIter.{IntoIter}
-use Rattle.raft_base.specs.declared.errors.Error.{Error}
-use Rattle.raft_records.specs.declared.log_item.LogItem.{LogItem}
-use Rattle.raft_records.specs.Item.{Item, item_of}
-use Rattle.raft_accessor.specs.Accessor.{Accessor}
+use Rattle.raft_engine.proofs.Common.{◌≡◌, List, [], ◌∷◌, ◌++◌, length, map, Result, Ok, Err, IfErr, OnOk, refl, sym, ap, ◌∙◌, subst, items_from_drains, YieldsList-from_vec, map-append, map-id, length-map, Global, Drains, Yields, into_iter_items, into_iter_len, into_iter_steps}
+use Rattle.raft_engine.proofs.Common.{IntoIter, Error, LogItem, Item, item_of, Accessor, Appending, Writing, AreItemsRefused, AreWritten, IsNextRefused, LacksRoom}
 use Rattle.raft_accessor.specs.AppendChecks.{AreAccepted}
-use Rattle.raft_accessor.specs.Writes.{Appending, Writing, AreItemsRefused, AreWritten}
-use Rattle.raft_engine.specs.WrittenBatch.{AreFirstWritten, IsNextRefused, LacksRoom}
 
 -- all items, in order
 drained : {X Z : Type 0} (s : IntoIter X Z) (xs : List X) → into_iter_len s ≡ length (into_iter_items s) → Drains into_iter_steps s xs → xs ≡ into_iter_items s
@@ -52,12 +40,6 @@ next_refused (Err e) w s items old new is p =
       refused = p.5;
     }
 
--- so the first ones are written
-pub first_of : {w : Writing} {items : List Item} {old new : Accessor} {e : Error} → IsNextRefused w items old new e → AreFirstWritten w items old new
-first_of h =
-    let r = h.refused in
-    record { front = r.front; rest = r.item ∷ h.rest; split = h.split ∙ ap (λ (l : List Item). l ++ h.rest) r.split ∙ append_assoc r.front (r.item ∷ []) h.rest; written = r.written }
-
 -- items that are accepted are refused, whichever of them is, for want of room alone
 pub room_so : ((items rest : List Item) (old new : Accessor) (e : Error) → AreAccepted old.tables (items ++ rest) → AreItemsRefused Appending items old new e → LacksRoom e)
     → {R : Type 0} (r : Result R Error) (s : IntoIter LogItem Global) (items : List Item) (old new : Accessor) → map item_of (into_iter_items s) ≡ items → AreAccepted old.tables items
@@ -69,7 +51,3 @@ room_so law (Err e) s items old new is accepted p =
     let left : List Item = map item_of (into_iter_items p.2) in
     law (map item_of p.1) left old new e
     (subst (AreAccepted old.tables) (sym is ∙ ap (map item_of) (parted s p.2 p.1 yields) ∙ map-append item_of p.1 (into_iter_items p.2)) accepted) p.5
-
--- none are written
-pub none_first : (w : Writing) (items : List Item) (a : Accessor) → AreFirstWritten w items a a
-none_first w items a = record { front = []; rest = items; split = refl; written = record { asked = tt; accepted = tt; tables = refl; cleaned = sym (append-nil a.cleaned); counts = refl } }

@@ -1,30 +1,8 @@
 -- The contents of the entries that an opened engine has.
-use Rattle.std.proofs.Common.{◌≡◌, ◌⊎◌, ℕ, ◌+◌, ◌≤◌, List, [], ◌∷◌, ◌++◌, Option, Some, None, length, take, inl, inr, refl, sym, ap, ◌∙◌, subst, arith}
-use Rattle.std.specs.Prelude.{IfSome, MatchOption}
-use Rattle.std.proofs.lemmas.List.{take_all}
-use Rattle.raft_base.specs.declared.entry_index.EntryIndex.{EntryIndex}
-use Rattle.raft_base.specs.declared.pipe_log.FileBlockHandle.{FileBlockHandle}
-use Rattle.raft_base.specs.declared.pipe_log.LogQueue.{LogQueue}
-use Rattle.raft_base.specs.declared.pipe_log.LogQueue.TheVariants.{Append, Rewrite}
-use Rattle.raft_base.specs.declared.pipe_log.Version.{Version}
-use Rattle.raft_records.proofs.PartLemmas.{batch_inside}
-use Rattle.raft_history.specs.Batches.{Event}
-use Rattle.raft_history.proofs.EffectLemmas.{each_weaker}
-use Rattle.raft_files.specs.Asks.{Ask, NumberedBytes}
-use Rattle.raft_files.specs.Disk.{cut_last}
-use Rattle.raft_files.proofs.LastLemmas.{last_of}
-use Rattle.raft_replay.specs.Segments.{HoldsFrom}
-use Rattle.raft_recover.specs.Files.{FilesHold, whole_file}
-use Rattle.raft_engine_prefixes.specs.Done.{AreRisingFrom, numbers}
-use Rattle.raft_engine_prefixes.specs.EntryPlaces.{EndsWithin, EntriesEndWithin, FilesEndWithin, PlaceStands, StandsAt}
-use Rattle.raft_engine_prefixes.specs.TornTails.{FilesHoldTorn}
-use Rattle.raft_engine_prefixes.proofs.NumberLemmas.{consecutive_rise, numbers_on_last}
-use Rattle.raft_engine_prefixes.proofs.TableEntryLemmas.{stand}
-use Rattle.raft_engine_prefixes.proofs.TornLemmas.{cut_found, one_reading, whole_torn}
-use Rattle.raft_engine.specs.CutFiles.{AreCut}
-use Rattle.raft_engine.specs.FoundFiles.{IsCut, IsFirstBegun, IsReady, IsUntorn}
-use Rattle.raft_engine.specs.KeptEngine.{table_in}
-use Rattle.raft_engine.specs.Restarts.{FoundContentsStay, FoundEntriesStay, StandsInCut}
+use Rattle.raft_engine.proofs.Common.{◌≡◌, ◌⊎◌, ℕ, ◌+◌, ◌≤◌, List, [], ◌∷◌, ◌++◌, Option, Some, None, length, take, inl, inr, refl, sym, ap, ◌∙◌, subst, arith, IfSome, MatchOption, take_all, EntryIndex, FileBlockHandle, LogQueue, Append, Rewrite, Version, batch_inside, Event}
+use Rattle.raft_engine.proofs.Common.{each_weaker, Ask, NumberedBytes, cut_last, last_of, HoldsFrom, FilesHold, whole_file, AreRisingFrom, numbers, EndsWithin, EntriesEndWithin, FilesEndWithin, PlaceStands, StandsAt, FilesHoldTorn, consecutive_rise, numbers_on_last, stand}
+use Rattle.raft_engine.proofs.Common.{cut_found, one_reading, whole_torn, AreCut, IsCut, IsFirstBegun, IsUntorn, table_in, FoundContentsStay, FoundEntriesStay, StandsInCut}
+use Rattle.raft_engine.specs.FoundFiles.{IsReady}
 
 module _ (queue : LogQueue) (version : Version) where
   -- the files, cut where reading stops, hold these batches

@@ -1,18 +1,6 @@
 -- Files that no table needs are the same ones once the rewrite queue is told what was untold.
-use Rattle.std.proofs.Common.{◌≡◌, ℕ, zero, suc, List, [], ◌∷◌, ◌++◌, drop, refl, sym, ap, ◌∙◌, subst}
-use Rattle.raft_base.specs.declared.pipe_log.LogQueue.{LogQueue}
-use Rattle.raft_base.specs.declared.pipe_log.LogQueue.TheVariants.{Append, Rewrite}
-use Rattle.raft_base.specs.declared.pipe_log.Version.{Version}
-use Rattle.raft_records.specs.Item.{Item}
-use Rattle.raft_records.specs.LogBatch.{Batch}
-use Rattle.raft_files.specs.Asks.{Act, Ask, NumberedBytes, Sync, acts_on, ask}
-use Rattle.raft_files.specs.Disk.{begun, deletions, files_of}
-use Rattle.raft_engine_prefixes.specs.Done.{numbers}
-use Rattle.raft_engine_prefixes.proofs.NumberLemmas.{numbers_on_last}
-use Rattle.raft_engine.specs.BatchBytes.{bytes_for}
-use Rattle.raft_engine.specs.KeptEngine.{KeptEngine}
-use Rattle.raft_engine.specs.Moved.{IsTold}
-use Rattle.raft_engine.specs.Purged.{AreExpired, asks_of_items}
+use Rattle.raft_engine.proofs.Common.{◌≡◌, ℕ, zero, suc, List, [], ◌∷◌, ◌++◌, drop, refl, sym, ap, ◌∙◌, subst, LogQueue, Append, Rewrite, Version, Item, Batch, Act, Ask, NumberedBytes, Sync, acts_on, ask, begun, deletions, files_of, numbers, numbers_on_last, bytes_for}
+use Rattle.raft_engine.proofs.Common.{KeptEngine, IsTold, AreExpired, asks_of_items}
 use Rattle.raft_engine.proofs.KeptPurges.{items_others, rewrite_file}
 
 told_numbers : (version : Version) (seq : ℕ) (batch : Batch) (items : List Item) (asks : List Ask)

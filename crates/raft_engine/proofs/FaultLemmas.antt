@@ -1,19 +1,6 @@
 -- Why a call breaks an engine.
-use Rattle.std.proofs.Common.{◌≡◌, ◌≢◌, inl, inr, ℕ, zero, suc, ◌+◌, ◌-◌, ◌<◌, Bool, true, false, Result, Ok, Err, IfErr, OnErr, List, [], ◌∷◌, ◌++◌, refl, sym, ap, ◌∙◌, subst, append_assoc, arith}
-use Rattle.raft_base.specs.declared.errors.Error.{Error}
-use Rattle.raft_base.specs.declared.pipe_log.LogFileContext.{LogFileContext}
-use Rattle.raft_base.specs.declared.pipe_log.LogQueue.{LogQueue}
-use Rattle.raft_base.specs.declared.pipe_log.LogQueue.TheVariants.{Append, Rewrite}
-use Rattle.raft_records.specs.Item.{Item}
-use Rattle.raft_records.specs.LogBatch.{Batch, encoded}
-use Rattle.raft_files.specs.Asks.{Ask, Delete, MayBeAsked, Put, Sync, Unsynced, ask, failed_ask}
-use Rattle.raft_engine.specs.BatchBytes.{bytes_for}
-use Rattle.raft_engine.specs.Faults.{Breaks, IsPurgeFault, IsSyncFault, IsTellingFault, IsWritingFault, telling_asks}
-use Rattle.raft_engine.specs.KeptEngine.{IsLastFile, KeptEngine}
-use Rattle.raft_engine.specs.Moved.{IsTold}
-use Rattle.raft_engine.specs.OpeningAsks.{Failures, FailsAmong}
-use Rattle.raft_engine.specs.Purged.{AreExpired, asks_of_items, delete_asks, put_asks}
-use Rattle.raft_engine.specs.WrittenBatch.{IsUnsynced, file_of, synced_if}
+use Rattle.raft_engine.proofs.Common.{◌≡◌, ◌≢◌, ℕ, zero, suc, ◌+◌, ◌-◌, ◌<◌, Bool, true, false, Result, Ok, Err, IfErr, OnErr, List, [], ◌∷◌, ◌++◌, refl, sym, ap, ◌∙◌, subst, arith, Error, LogFileContext, LogQueue, Append, Rewrite, Item, Batch, encoded, Ask, Delete, MayBeAsked}
+use Rattle.raft_engine.proofs.Common.{Put, Sync, Unsynced, ask, failed_ask, bytes_for, Failures, FailsAmong, asks_of_items, delete_asks, put_asks, synced_if, IsWritableBatch, encoded_length, ◌^◌, AreInBytes, IsBatchOf, AreInRange}
 use Rattle.raft_engine.proofs.AskedLemmas.{more_failed, one_failed, part_failed}
 
 -- a batch that has items is put
@@ -23,6 +10,10 @@ some_put file batch (item ∷ items) some = refl
 
 none_put : (file : LogFileContext) (batch : Batch) (items : List Item) → items ≡ [] → asks_of_items file batch items ≡ []
 none_put file batch items none = ap (asks_of_items file batch) none
+
+-- it can be put
+pub writable_of : {batch : Batch} → IsBatchOf batch.items batch.entry_bytes → AreInRange batch.items → AreInBytes batch.items → batch.items ≢ [] → encoded_length batch.items batch.entry_bytes < 2 ^ 56 → IsWritableBatch batch
+writable_of tiled in_range in_bytes some short = record { tiled = tiled; in_range = in_range; in_bytes = in_bytes; some = some; short = short }
 
 -- a sync that is wanted, behind others
 synced_prefix : (sync : Bool) (asks : List Ask) → synced_if sync [] ++ asks ≡ synced_if sync asks
@@ -96,16 +87,6 @@ module _ (MayFail : Failures) where
   sync_so (Ok u) sync old new is none why = tt
   sync_so (Err e) sync old new is may why = subst (λ (s : Bool). FailsAmong MayFail (synced_if s []) old new e) (sym is) (one_failed MayFail (ask Append Sync) old new e may why)
 
-  -- an error of a sync that was wanted, of an intact engine
-  pub wanted_sync : (sync : Bool) (old new : KeptEngine) (e : Error) → old.intact ≡ true → MayBeAsked (ask Append Unsynced) old.asks new.asks → (sync ≡ true) × IsSyncFault MayFail old e → FailsAmong MayFail (synced_if sync []) old.asks new.asks e
-  wanted_sync sync old new e intact may f = subst (λ (s : Bool). FailsAmong MayFail (synced_if s []) old.asks new.asks e) (sym f.0) (elim f.1 [
-    | inl failed ↦ absurd (never (sym intact ∙ failed.0))
-    | inr of_files ↦ one_failed MayFail (ask Append Sync) old.asks new.asks e may of_files.1
-  ])
-    where
-      never : true ≡ false → ⊥
-      never q = absurd cc
-
   -- ---- deletions
 
   module _ (queue : LogQueue) where
@@ -126,42 +107,6 @@ module _ (MayFail : Failures) where
       asked = subst (λ (l : List Ask). MayBeAsked (ask queue Delete) l new) is may;
       why = subst (λ (l : List Ask). MayFail l (ask queue Delete) e) is why;
     }
-
-  -- ---- a purge
-
-  module _ (queue : LogQueue) (count : ℕ) (old : KeptEngine) (expired : AreExpired queue old count) where
-    -- newest first: what is asked behind the telling
-    abbrev deleting_asks : List Ask
-    deleting_asks = delete_asks queue count ++ ask Rewrite Sync ∷ []
-
-    behind_telling : (seq : ℕ) → deleting_asks ++ telling_asks old seq ≡ delete_asks queue count ++ ask Rewrite Sync ∷ telling_asks old seq
-    behind_telling seq = append_assoc (delete_asks queue count) (ask Rewrite Sync ∷ []) (telling_asks old seq)
-
-    -- the telling breaks the engine
-    pub telling_purge : (new : KeptEngine) (e : Error) → IsTellingFault MayFail old new e → IsPurgeFault MayFail queue old new e
-    telling_purge new e f = record {
-      count = count;
-      expired = expired;
-      seq = f.seq;
-      bytes = f.bytes;
-      last = f.last;
-      failed = subst (λ (l : List Ask). FailsAmong MayFail l old.asks new.asks e) (behind_telling f.seq) (part_failed MayFail deleting_asks (telling_asks old f.seq) old.asks new.asks e f.failed);
-    }
-
-    -- what follows it does
-    pub told_purge : (told new : KeptEngine) (e : Error) → IsTold old told → FailsAmong MayFail deleting_asks told.asks new.asks e → IsPurgeFault MayFail queue old new e
-    told_purge told new e t f =
-        let are : told.asks ≡ telling_asks old t.seq ++ old.asks =
-        ap (λ (o : KeptEngine). o.asks) t.told ∙ sym (append_assoc (put_asks (file_of Rewrite old t.seq) old.untold) (ask Append Sync ∷ []) old.asks) in
-        record {
-          count = count;
-          expired = expired;
-          seq = t.seq;
-          bytes = t.bytes;
-          last = t.last;
-          failed = subst (λ (l : List Ask). FailsAmong MayFail l old.asks new.asks e) (behind_telling t.seq)
-              (more_failed MayFail deleting_asks (telling_asks old t.seq) old.asks told.asks new.asks e are f);
-        }
 
   -- the sync before the deletions, or one of them
   pub sync_before : (queue : LogQueue) (count : ℕ) (old new : List Ask) (e : Error) → MayBeAsked (ask Rewrite Unsynced) old new → MayFail old (ask Rewrite Sync) e → FailsAmong MayFail (delete_asks queue count ++ ask Rewrite Sync ∷ []) old new e
@@ -192,14 +137,3 @@ module _ (MayFail : Failures) where
   pub writing_none : (file : LogFileContext) (batch : Batch) (sync : Bool) (old new : List Ask) (e : Error) → batch.items ≡ [] → FailsAmong MayFail (synced_if sync []) old new e
       → FailsAmong MayFail (synced_if sync (put_asks file batch)) old new e
   writing_none file batch sync old new e none f = subst (λ (l : List Ask). FailsAmong MayFail (synced_if sync l) old new e) (sym (none_put file batch batch.items none)) f
-
-  -- an error of the sync that is wanted, where nothing is put
-  pub writing_of_none : {T : Type 0} (r : Result T Error) (sync : Bool) (batch : Batch) (old new : KeptEngine) (seq : ℕ) (bytes : List ℕ) → IsLastFile Append old.asks seq bytes → old.intact ≡ true → batch.items ≡ []
-      → OnErr r (IsUnsynced old new) → IfErr r (λ e. (sync ≡ true) × IsSyncFault MayFail old e) → IfErr r (λ e. Breaks old new → IsWritingFault MayFail sync batch old new e)
-  writing_of_none (Ok t) sync batch old new seq bytes last intact none is f = tt
-  writing_of_none (Err e) sync batch old new seq bytes last intact none is f = λ broken. record {
-    seq = seq;
-    bytes = bytes;
-    last = last;
-    why = inl (writing_none (file_of Append old seq) batch sync old.asks new.asks e none (wanted_sync sync old new e intact is.asked f));
-  }

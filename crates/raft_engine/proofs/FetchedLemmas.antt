@@ -1,29 +1,9 @@
 -- What a table's fetches give of records in append files up to a gate.
-use Rattle.std.proofs.Common.{◌≡◌, ℕ, suc, ◌+◌, Bool, true, false, cond, ◌&&◌, List, [], ◌∷◌, ◌++◌, filter, map, take, drop, length, Option, Some, None, refl, sym, ap, subst, ◌∙◌, arith}
+use Rattle.raft_engine.proofs.Common.{◌≡◌, ℕ, suc, ◌+◌, Bool, true, false, cond, ◌&&◌, List, [], ◌∷◌, ◌++◌, filter, map, take, drop, length, Option, Some, None, refl, sym, ap, subst, ◌∙◌, arith, Ordering, nat_cmp, eq_by_cmp, is_eq, IsTotalOrder, eq_by_cmp_equiv, slice_cmp}
+use Rattle.raft_engine.proofs.Common.{nat_list_cmp_total, AllByRecursion, prefix_len, find, is_sorted, below_all, EntryIndex, LogQueue, Append, Rewrite, IsConsecutive, appended_before, Keys, Stored, is_up_to, key_value, pairs_up_to, is_same, is_placed_before, may_move}
+use Rattle.raft_engine.proofs.Common.{passes_gate, AreTableEntries, entry_count, placed_in, appended_before_is, first_of_both, second_of_both, less, AreTableEntries-take, AreTableEntries-drop, IsFetched, moving_entries}
 use lib.Dec.{T}
-use Rattle.std.specs.declared.cmp.Ordering.{Ordering}
-use Rattle.std.specs.Ordering.{nat_cmp, eq_by_cmp, is_eq}
-use Rattle.std.specs.Cmp.{IsTotalOrder, eq_by_cmp_equiv}
-use Rattle.std.specs.Cmp.Lexicographic.{slice_cmp, nat_list_cmp_total}
-use Rattle.std.specs.List.{AllByRecursion, prefix_len}
 use Rattle.std.specs.FinMap as finite
-use Rattle.std.specs.FinMap.{find, is_sorted}
-use Rattle.std.specs.FinMap.Entries.{below_all}
-use Rattle.raft_base.specs.declared.entry_index.EntryIndex.{EntryIndex}
-use Rattle.raft_base.specs.declared.pipe_log.LogQueue.{LogQueue}
-use Rattle.raft_base.specs.declared.pipe_log.LogQueue.TheVariants.{Append, Rewrite}
-use Rattle.raft_base.specs.Runs.{IsConsecutive}
-use Rattle.raft_table.specs.Fetches.{appended_before}
-use Rattle.raft_table.specs.KeyValues.{Keys, Stored, is_up_to, key_value, pairs_up_to}
-use Rattle.raft_table.specs.Queues.{is_same}
-use Rattle.raft_table.specs.Rewriting.{is_placed_before, may_move}
-use Rattle.raft_table.specs.Table.{passes_gate}
-use Rattle.raft_table.specs.TableEntries.{AreTableEntries, entry_count, placed_in}
-use Rattle.raft_table.proofs.FetchLemmas.{appended_before_is}
-use Rattle.raft_table.proofs.Shown.{first_of_both, second_of_both, less}
-use Rattle.raft_table.proofs.SoundLemmas.{AreTableEntries-take, AreTableEntries-drop}
-use Rattle.raft_engine_laws.specs.Moving.{IsFetched}
-use Rattle.raft_engine.specs.Rewriting.{moving_entries}
 
 -- ---- entries
 

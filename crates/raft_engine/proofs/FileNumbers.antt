@@ -1,10 +1,5 @@
 -- Numbers of found files, which are read one after the other.
-use Rattle.std.proofs.Common.{◌≡◌, ◌⊎◌, inl, inr, ℕ, suc, ◌+◌, ◌<◌, ◌≤◌, Vec, List, [], ◌∷◌, ◌++◌, length, map, drop, get_or, refl, sym, ap, ◌∙◌, subst, arith, append_assoc}
-use Rattle.std.proofs.lemmas.List.{drop_more}
-use Rattle.std.specs.Global.{Global}
-use Rattle.raft_files.specs.HeldFiles.{file_shown}
-use Rattle.raft_engine_prefixes.specs.Done.{AreConsecutive, numbers}
-use Rattle.raft_engine.specs.FoundFiles.{StandTogether}
+use Rattle.raft_engine.proofs.Common.{◌≡◌, ◌⊎◌, inl, inr, ℕ, suc, ◌+◌, ◌<◌, ◌≤◌, Vec, List, [], ◌∷◌, ◌++◌, length, map, drop, get_or, refl, sym, ap, ◌∙◌, subst, arith, append_assoc, drop_more, Global, file_shown, AreConsecutive, numbers, StandTogether}
 
 -- the first numbers are consecutive up to this one, and these others follow
 pub record AreReadUpTo (ns : List ℕ) (last : ℕ) (rest : List ℕ) : Type 0 where

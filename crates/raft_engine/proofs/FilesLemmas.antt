@@ -1,14 +1,6 @@
 -- What an engine knows of the files of a queue.
-use Rattle.std.proofs.Common.{◌≡◌, ℕ, ◌+◌, List, [], ◌∷◌, ◌++◌, length, refl, sym, ap, ◌∙◌, append_assoc, length-append}
-use Rattle.std.proofs.lemmas.List.{map-append}
-use Rattle.raft_base.specs.declared.pipe_log.LogQueue.{LogQueue}
-use Rattle.raft_base.specs.declared.pipe_log.LogQueue.TheVariants.{Append, Rewrite}
-use Rattle.raft_files.specs.Asks.{Act, Ask, Begin, NumberedBytes, Put, acts_on, ask}
-use Rattle.raft_files.specs.Disk.{begun, deletions, put_behind}
-use Rattle.raft_files.proofs.LastLemmas.{last_of}
-use Rattle.raft_engine.specs.KeptEngine.{IsLastFile}
-use Rattle.raft_engine.specs.KeptEngineView.{AreFilesOf}
-use Rattle.raft_engine.specs.declared.queue_files.QueueFiles.{QueueFiles}
+use Rattle.raft_engine.proofs.Common.{◌≡◌, ℕ, ◌+◌, List, [], ◌∷◌, ◌++◌, length, refl, sym, ap, ◌∙◌, append_assoc, length-append, map-append, LogQueue, Append, Rewrite, Act, Ask, Begin, NumberedBytes, Put, acts_on, ask, begun, deletions, put_behind, last_of, IsLastFile}
+use Rattle.raft_engine.proofs.Common.{AreFilesOf, QueueFiles}
 
 -- the same files, after asks that change none of them
 pub files_same : (queue : LogQueue) (asks new : List Ask) (files other : QueueFiles) → begun (acts_on queue new) ≡ begun (acts_on queue asks) → deletions (acts_on queue new) ≡ deletions (acts_on queue asks)

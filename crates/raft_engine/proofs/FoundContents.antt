@@ -1,26 +1,7 @@
 -- The contents of the entries that an opened engine finds.
-use Rattle.std.proofs.Common.{◌≡◌, ◌⊎◌, inl, inr, ℕ, List, [], ◌∷◌, ◌++◌, Some, length, take, sym, ap, ◌∙◌, subst, arith}
-use Rattle.std.proofs.lemmas.List.{take_all}
-use Rattle.raft_base.specs.declared.pipe_log.LogQueue.{LogQueue}
-use Rattle.raft_base.specs.declared.pipe_log.LogQueue.TheVariants.{Append, Rewrite}
-use Rattle.raft_base.specs.declared.pipe_log.Version.{Version}
-use Rattle.raft_records.specs.Item.{Item}
-use Rattle.raft_records.specs.LogBatch.{Batch}
-use Rattle.raft_files.specs.Asks.{Act, Ask, NumberedBytes, Put, Sync, acts_on}
-use Rattle.raft_files.specs.Disk.{begun, cut_last}
-use Rattle.raft_files.specs.Places.{bytes_at}
-use Rattle.raft_files.proofs.LastLemmas.{last_of}
-use Rattle.raft_recover.specs.Files.{whole_file}
-use Rattle.raft_engine_prefixes.specs.Contents.{KeepsBytes}
-use Rattle.raft_engine_prefixes.specs.TornTails.{StopsAt}
-use Rattle.raft_engine.specs.BatchBytes.{bytes_for}
-use Rattle.raft_engine.specs.CutFiles.{AreCut, IsLastCut}
-use Rattle.raft_engine.specs.FoundFiles.{IsCut, IsFirstBegun, IsReady, IsUntorn}
-use Rattle.raft_engine.specs.KeptEngine.{KeptEngine}
-use Rattle.raft_engine.specs.Opened.{IsOpened}
-use Rattle.raft_engine.specs.OpeningAsks.{asks_that_tell}
-use Rattle.raft_engine.specs.Restarts.{FoundContentsStay}
-use Rattle.raft_engine.specs.StoredFound.{AreMadeReady, AreReady, FoundFilesAreReady, found_asks}
+use Rattle.raft_engine.proofs.Common.{◌≡◌, ◌⊎◌, inl, inr, ℕ, List, [], ◌∷◌, ◌++◌, Some, length, take, sym, ap, ◌∙◌, subst, arith, take_all, LogQueue, Append, Rewrite, Version, Item, Batch, Act, Ask, NumberedBytes, Put, Sync, acts_on, begun, cut_last, bytes_at, last_of}
+use Rattle.raft_engine.proofs.Common.{whole_file, KeepsBytes, StopsAt, bytes_for, AreCut, IsLastCut, IsCut, IsFirstBegun, IsUntorn, KeptEngine, IsOpened, asks_that_tell, FoundContentsStay, AreMadeReady, AreReady, FoundFilesAreReady, found_asks}
+use Rattle.raft_engine.specs.FoundFiles.{IsReady}
 use Rattle.raft_engine.proofs.FoundLemmas.{one_last, one_stopped}
 use Rattle.raft_engine.proofs.ReadyLemmas.{both_ready, no_last, opening_split}
 

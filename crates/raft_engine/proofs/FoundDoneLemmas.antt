@@ -1,26 +1,8 @@
 -- What found files do to a queue, once they are ready.
-use Rattle.std.proofs.Common.{◌≡◌, ◌⊎◌, inl, inr, ℕ, ◌<◌, ◌≤◌, Some, List, [], ◌∷◌, ◌++◌, length, take, refl, sym, ap, ◌∙◌, subst, arith}
-use Rattle.raft_base.specs.declared.pipe_log.LogQueue.{LogQueue}
-use Rattle.raft_base.specs.declared.pipe_log.LogQueue.TheVariants.{Append, Rewrite}
-use Rattle.raft_base.specs.declared.pipe_log.Version.{Version}
-use Rattle.raft_history.specs.Batches.{Event}
-use Rattle.raft_files.specs.Asks.{Act, Ask, Begin, Cut, Found, NumberedBytes, acts_on, ask}
-use Rattle.raft_files.specs.Disk.{begun, cut_last, deletions}
-use Rattle.raft_files.proofs.LastLemmas.{last_of}
-use Rattle.raft_replay.specs.Segments.{HoldsFrom}
-use Rattle.raft_replay.specs.Stops.{IsUnreadableAt}
-use Rattle.raft_recover.specs.Files.{FilesHold, whole_file}
-use Rattle.raft_engine_laws.specs.Crashes.{Deed, Crash, deleted, in_files_from, IsSynced}
-use Rattle.raft_engine_prefixes.specs.Done.{AreConsecutive, AreDone, AreDoneWhole, AreRisingFrom, Follows, numbers}
-use Rattle.raft_engine_prefixes.specs.Prefixes.{ArePut, ArePutWhole}
-use Rattle.raft_engine_prefixes.specs.TornTails.{FilesHoldTorn, StopsAt}
-use Rattle.raft_engine_prefixes.proofs.EventLemmas.{files_high}
-use Rattle.raft_engine_prefixes.proofs.NumberLemmas.{consecutive_rise}
-use Rattle.raft_engine_prefixes.proofs.TornLemmas.{one_file, whole_torn}
-use Rattle.raft_engine.specs.FoundFiles.{IsCut, IsFirstBegun, IsLastOfOther, IsReady, IsTornFrom, IsUntorn}
-use Rattle.raft_engine.specs.SoundBlocks.{IsLastSound}
-use Rattle.raft_engine.specs.Stored.{AreAllDone}
-use Rattle.raft_engine.specs.WellPut.{AreWellPut}
+use Rattle.raft_engine.proofs.Common.{◌≡◌, ◌⊎◌, inl, inr, ℕ, ◌<◌, ◌≤◌, Some, List, [], ◌∷◌, ◌++◌, length, take, refl, sym, ap, ◌∙◌, subst, arith, LogQueue, Append, Rewrite, Version, Event, Act, Ask, Begin, Cut, Found, NumberedBytes, acts_on, ask, begun, cut_last, deletions}
+use Rattle.raft_engine.proofs.Common.{last_of, HoldsFrom, IsUnreadableAt, FilesHold, whole_file, Deed, Crash, deleted, in_files_from, IsSynced, AreConsecutive, AreDone, AreDoneWhole, AreRisingFrom, Follows, numbers, ArePut, ArePutWhole, FilesHoldTorn, StopsAt, files_high}
+use Rattle.raft_engine.proofs.Common.{consecutive_rise, one_file, whole_torn, IsCut, IsFirstBegun, IsLastOfOther, IsTornFrom, IsUntorn, IsLastSound, AreAllDone, AreWellPut}
+use Rattle.raft_engine.specs.FoundFiles.{IsReady}
 use Rattle.raft_engine.proofs.FoundLemmas.{stands_inside}
 use Rattle.raft_engine.proofs.ReadyLemmas.{no_last}
 use Rattle.raft_engine.proofs.WellPutLemmas.{begin_well, cut_well, found_well}

@@ -1,27 +1,7 @@
 -- Files that are found: where a reader stops, and what stands behind.
-use Rattle.std.proofs.Common.{◌≡◌, ◌≢◌, ◌⊎◌, Vec, map, take, ℕ, zero, suc, ◌-◌, ◌<◌, Some, None, List, [], ◌∷◌, ◌++◌, length, drop, inl, inr, refl, sym, ap, ◌∙◌, subst, arith}
-use Rattle.std.proofs.lemmas.List.{length-append, length-drop, map-append}
-use Rattle.std.proofs.lemmas.Option.{slice_get_within, get_or_from_slice_get}
-use Rattle.std.specs.List.{slice_get}
-use Rattle.std.specs.Global.{Global}
-use Rattle.raft_base.specs.declared.errors.Error.{Error}
-use Rattle.raft_files.specs.HeldFiles.{file_shown}
-use Rattle.raft_files.proofs.LastLemmas.{at_last}
-use Rattle.raft_codec.specs.Reading.{HasNoFront}
-use Rattle.raft_records.specs.FilePart.{AreBatchesUpTo, IsBatchAt, Part, StandBetween}
-use Rattle.raft_base.specs.Signature.{signature_of}
-use Rattle.raft_base.specs.declared.pipe_log.LogFileContext.{LogFileContext}
-use Rattle.raft_records.specs.Item.{Item}
-use Rattle.raft_records.specs.LogBatch.{IsReadable}
-use Rattle.raft_records.proofs.Names.{part_signature}
-use Rattle.raft_replay.specs.Stops.{IsUnreadableAt}
-use Rattle.raft_replay.proofs.SegmentLemmas.{batch_none}
-use Rattle.raft_engine_prefixes.specs.TornTails.{IsDamagedAt, StopsAt}
-use Rattle.raft_tail.specs.Tails.{IsBrokenOff, IsNextElsewhere, IsNextSound}
-use Rattle.raft_engine_prefixes.proofs.BatchPartLemmas.{batch_long, end_unreadable}
-use Rattle.raft_engine_prefixes.proofs.TornLemmas.{one_stop}
-use Rattle.raft_engine.specs.FoundFiles.{BeginsInOther, IsOfEngine, IsOfOther, IsOtherText, IsRefusedAt, IsTailRefused, engine_header, in_other, other_version}
-use Rattle.raft_engine.specs.declared.recovery_mode.RecoveryMode.{RecoveryMode}
+use Rattle.raft_engine.proofs.Common.{◌≡◌, ◌≢◌, ◌⊎◌, Vec, map, take, ℕ, zero, suc, ◌-◌, ◌<◌, Some, None, List, [], ◌∷◌, ◌++◌, length, drop, inl, inr, refl, sym, ap, ◌∙◌, subst, arith, length-append, length-drop, map-append, slice_get_within, get_or_from_slice_get, slice_get}
+use Rattle.raft_engine.proofs.Common.{Global, Error, file_shown, at_last, HasNoFront, AreBatchesUpTo, IsBatchAt, Part, StandBetween, signature_of, LogFileContext, Item, IsReadable, part_signature, IsUnreadableAt, batch_none, IsDamagedAt, StopsAt, IsBrokenOff, IsNextElsewhere}
+use Rattle.raft_engine.proofs.Common.{IsNextSound, batch_long, end_unreadable, one_stop, BeginsInOther, IsOfEngine, IsOfOther, IsOtherText, IsRefusedAt, IsTailRefused, engine_header, in_other, other_version, RecoveryMode}
 
 -- what stands somewhere stands before the end
 pub stands_inside : (part : Part) (i next : ℕ) (items : List Item) → IsBatchAt part i items next → i < length part.bytes

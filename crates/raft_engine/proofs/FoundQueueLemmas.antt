@@ -1,34 +1,10 @@
 -- The found files of a queue, what is missing of them, and what they are once it was asked.
-use Rattle.std.proofs.Common.{◌≡◌, ◌≢◌, ◌⊎◌, ℕ, zero, suc, ◌<◌, ◌≤◌, ◌^◌, List, [], ◌∷◌, ◌++◌, Vec, length, map, take, drop, Option, Some, None, Result, Ok, Err, IfErr, OnOk, inl, inr, refl, sym, ap, ◌∙◌, subst, arith}
-use Rattle.std.proofs.lemmas.List.{length-take-le}
-use Rattle.std.specs.Global.{Global}
-use Rattle.raft_base.specs.Signature.{signature_in}
-use Rattle.raft_base.specs.declared.errors.Error.{Error}
+use Rattle.raft_engine.proofs.Common.{◌≡◌, ◌≢◌, ◌⊎◌, ℕ, zero, suc, ◌<◌, ◌≤◌, ◌^◌, List, [], ◌∷◌, ◌++◌, Vec, length, map, take, drop, Option, Some, None, Result, Ok, Err, IfErr, OnOk, inl, inr, refl, sym, ap, ◌∙◌, subst, arith, length-take-le, Global, signature_in, Error}
+use Rattle.raft_engine.proofs.Common.{LogQueue, Rewrite, Version, Part, IsNextFault, NumberedBytes, cut_last, last_of, AreWholeFiles, bytes_of_files, segment_shown, whole_file, AreConsecutive, numbers, StopsAt, stop_unreadable, IsUnreadableAt, IsTailOf, IsTailTold, IsTornAs}
+use Rattle.raft_engine.proofs.Common.{AreAccepted, BeginsInOther, IsFoundFault, IsOfEngine, IsOfOther, IsOtherAs, IsRefusalText, IsRefusedAt, IsTailRefused, IsTailRefusedAs, IsFoundQueue, IsLastOf, IsMissingOf, IsReadyQueue, begun_or_first, known_with, left_by, AreOf}
+use Rattle.raft_engine.proofs.Common.{IsPartSound, IsUnsoundAs, IsTailFrom, FoundQueue, Missing, Nothing, FirstFile, QueueFiles, CutTail, RecoveryMode}
 use Rattle.raft_base.specs.declared.errors.Error.TheVariants as errors
-use Rattle.raft_base.specs.declared.pipe_log.LogQueue.{LogQueue}
-use Rattle.raft_base.specs.declared.pipe_log.LogQueue.TheVariants.{Rewrite}
-use Rattle.raft_base.specs.declared.pipe_log.Version.{Version}
-use Rattle.raft_records.specs.FilePart.{Part, IsNextFault}
-use Rattle.raft_files.specs.Asks.{NumberedBytes}
-use Rattle.raft_files.specs.Disk.{cut_last}
-use Rattle.raft_files.proofs.LastLemmas.{last_of}
-use Rattle.raft_recover.specs.Files.{AreWholeFiles, bytes_of_files, segment_shown, whole_file}
-use Rattle.raft_engine_prefixes.specs.Done.{AreConsecutive, numbers}
-use Rattle.raft_engine_prefixes.specs.TornTails.{StopsAt}
-use Rattle.raft_engine_prefixes.proofs.TornLemmas.{stop_unreadable}
-use Rattle.raft_replay.specs.Stops.{IsUnreadableAt}
-use Rattle.raft_engine.specs.CutTails.{IsTailOf, IsTailTold, IsTornAs}
-use Rattle.raft_engine.specs.FoundFiles.{AreAccepted, BeginsInOther, IsFoundFault, IsOfEngine, IsOfOther, IsOtherAs, IsRefusalText, IsRefusedAt, IsTailRefused, IsTailRefusedAs}
-use Rattle.raft_engine.specs.FoundQueues.{IsFoundQueue, IsLastOf, IsMissingOf, IsReadyQueue, begun_or_first, known_with, left_by}
-use Rattle.raft_engine.specs.QueueFilesOf.{AreOf}
-use Rattle.raft_engine.specs.SoundBlocks.{IsPartSound, IsUnsoundAs}
-use Rattle.raft_engine.specs.TailsFound.{IsTailFrom}
-use Rattle.raft_engine.specs.declared.found_queue.FoundQueue.{FoundQueue}
-use Rattle.raft_engine.specs.declared.missing.Missing.{Missing}
-use Rattle.raft_engine.specs.declared.missing.Missing.TheVariants.{Nothing, FirstFile, Cut}
-use Rattle.raft_engine.specs.declared.queue_files.QueueFiles.{QueueFiles}
-use Rattle.raft_engine.specs.declared.recovered.CutTail.{CutTail}
-use Rattle.raft_engine.specs.declared.recovery_mode.RecoveryMode.{RecoveryMode}
+use Rattle.raft_engine.specs.declared.missing.Missing.TheVariants.{Cut}
 use Rattle.raft_engine.proofs.BlockLemmas.{sound_file}
 use Rattle.raft_engine.proofs.FoundLemmas.{not_other, one_last, tolerated}
 use Rattle.raft_engine.proofs.ReadyLemmas.{cut_ready, first_accepted, first_ready, last_accepted, no_last, untorn_ready}

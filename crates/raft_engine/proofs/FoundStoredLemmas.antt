@@ -1,54 +1,16 @@
 -- What is stored of found files.
-use Rattle.std.proofs.Common.{◌≡◌, ◌⊎◌, inl, inr, ℕ, List, [], ◌∷◌, ◌++◌, length, refl, sym, ap, ◌∙◌, subst}
+use Rattle.raft_engine.proofs.Common.{◌≡◌, ◌⊎◌, inl, inr, ℕ, List, [], ◌∷◌, ◌++◌, length, refl, sym, ap, ◌∙◌, subst, EntryIndex, FileBlockHandle, FileId, LogQueue, Append, Rewrite, Version, Item, Batch, entry_place, Step, table_of, AreTableEntries, Event, batches}
+use Rattle.raft_engine.proofs.Common.{IsReadingOfBoth, steps_of, Apart, AreInFile, HaveStatus, IsSoundIn, RegionStep, Tables, steps_of_items, steps_on, own_none, Accessor, Act, Ask, Found, NumberedBytes, Put, acts_on, ask, begun, deletions, IsLeftOf, written_event, FilesHold}
+use Rattle.raft_engine.proofs.Common.{whole_file, HasNoMarker, AreGroupsInRows, HaveRecords, Records, live, Deed, Crash, Write, IsLeft, IsNextIn, IsSafe, LoseNothing, written, IsToldNowOrLater, TakeAway, AreDone, HoldLeft, LastFileIsNext, ArePut, bytes_for, place_at, placed_at}
+use Rattle.raft_engine.proofs.Common.{FoundRecordsLast, HaveEverRecords, BatchesJoin, FoundFilesJoin, AreFoundIn, HaveBothBegun, IsBegunOrFound, IsLastingAfter, AreRecovered, asks_that_tell, AreAllDone, Bases, IsWritableBatch, WhatIsDoneLasts, AreWellPut, AreBothTold, KeepsBytes}
+use Rattle.raft_engine.proofs.Common.{AreMadeReady, AreReady, AreStoredBeside, FoundFilesAreReady, FoundFilesAreStored, found_asks, told_asks, rows_alone, rows_left, left_of_crash}
 use Rattle.std.specs.FinMap as finite
 use Rattle.raft_base.specs.declared.compression_type.CompressionType.TheVariants as compressions
-use Rattle.raft_base.specs.declared.entry_index.EntryIndex.{EntryIndex}
-use Rattle.raft_base.specs.declared.pipe_log.FileBlockHandle.{FileBlockHandle}
-use Rattle.raft_base.specs.declared.pipe_log.FileId.{FileId}
-use Rattle.raft_base.specs.declared.pipe_log.LogQueue.{LogQueue}
-use Rattle.raft_base.specs.declared.pipe_log.LogQueue.TheVariants.{Append, Rewrite}
-use Rattle.raft_base.specs.declared.pipe_log.Version.{Version}
-use Rattle.raft_records.specs.Item.{Item}
-use Rattle.raft_records.specs.LogBatch.{Batch, entry_place}
-use Rattle.raft_table.specs.Steps.{Step, table_of}
-use Rattle.raft_table.specs.TableEntries.{AreTableEntries}
-use Rattle.raft_history.specs.Batches.{Event, batches}
-use Rattle.raft_history.specs.BothQueues.{IsReadingOfBoth}
-use Rattle.raft_history.specs.Effects.{steps_of}
-use Rattle.raft_history.specs.Histories.{Apart, AreInFile, HaveStatus, IsSoundIn}
-use Rattle.raft_history.specs.RegionSteps.{RegionStep, Tables, steps_of_items, steps_on}
-use Rattle.raft_history.proofs.StepListLemmas.{own_none}
-use Rattle.raft_accessor.specs.Accessor.{Accessor}
-use Rattle.raft_files.specs.Asks.{Act, Ask, Found, NumberedBytes, Put, acts_on, ask}
 use Rattle.raft_files.specs.Asks as asks
-use Rattle.raft_files.specs.Disk.{begun, deletions, IsLeftOf}
-use Rattle.raft_replay.specs.WrittenParts.{written_event}
-use Rattle.raft_recover.specs.Files.{FilesHold, whole_file}
-use Rattle.raft_engine_laws.specs.Groups.{HasNoMarker}
-use Rattle.raft_engine_laws.specs.GroupsInRows.{AreGroupsInRows}
-use Rattle.raft_engine_laws.specs.Records.{HaveRecords, Records, live}
 use Rattle.raft_engine_laws.specs.Crashes as queue_deeds
-use Rattle.raft_engine_laws.specs.Crashes.{Deed, Crash, Write, IsLeft, IsNextIn, IsSafe, LoseNothing, written}
-use Rattle.raft_engine_laws.specs.MarksTold.{IsToldNowOrLater}
-use Rattle.raft_engine_laws.specs.Telling.{TakeAway}
-use Rattle.raft_engine_prefixes.specs.Done.{AreDone, HoldLeft, LastFileIsNext}
-use Rattle.raft_engine_prefixes.specs.Prefixes.{ArePut}
-use Rattle.raft_engine.specs.BatchBytes.{bytes_for, place_at, placed_at}
 use Rattle.raft_engine.specs.FoundFiles.{IsReady}
-use Rattle.raft_engine.specs.FoundRecords.{FoundRecordsLast, HaveEverRecords}
-use Rattle.raft_engine.specs.JoinedFiles.{BatchesJoin, FoundFilesJoin}
-use Rattle.raft_engine.specs.Lasting.{AreFoundIn, HaveBothBegun, IsBegunOrFound, IsLastingAfter}
-use Rattle.raft_engine.specs.Opening.{AreRecovered}
-use Rattle.raft_engine.specs.OpeningAsks.{asks_that_tell}
-use Rattle.raft_engine.specs.Stored.{AreAllDone, Bases}
-use Rattle.raft_engine.specs.StoredAsks.{IsWritableBatch, WhatIsDoneLasts}
-use Rattle.raft_engine.specs.WellPut.{AreWellPut}
-use Rattle.raft_engine_prefixes.specs.Contents.{AreBothTold, KeepsBytes}
-use Rattle.raft_engine.specs.StoredFound.{AreMadeReady, AreReady, AreStoredBeside, FoundFilesAreReady, FoundFilesAreStored, found_asks, told_asks}
 use Rattle.raft_engine.proofs.FoundDoneLemmas.{AreReadyDone, one_ask}
 use Rattle.raft_engine.proofs.JoinedLemmas.{joined_told}
-use Rattle.raft_engine_laws.proofs.InRows.{rows_alone, rows_left}
-use Rattle.raft_engine_laws.proofs.SafeOpenings.{left_of_crash}
 use Rattle.raft_engine.proofs.StoredLemmas.{first_on, goes_on}
 use Rattle.raft_engine.proofs.UntoldLemmas.{placed_away, placed_steps}
 use Rattle.raft_engine.proofs.WellPutLemmas.{both_well}

@@ -1,51 +1,14 @@
 -- The batches of an atomic group that move a region's rewritten records.
-use Rattle.std.proofs.Common.{◌≡◌, inl, inr, ℕ, zero, suc, ◌+◌, ◌<◌, true, false, eqb, List, [], ◌∷◌, ◌++◌, Option, Some, None, length, map, take, refl, sym, ap, ◌∙◌, subst, append_assoc, append-nil, length-append, arith}
-use Rattle.std.specs.Prelude.{flat_map}
-use Rattle.std.proofs.lemmas.Grind.{flat_map-append}
+use Rattle.raft_engine.proofs.Common.{◌≡◌, inl, inr, ℕ, zero, suc, ◌+◌, ◌<◌, true, false, eqb, List, [], ◌∷◌, ◌++◌, Option, Some, None, length, map, take, refl, sym, ap, ◌∙◌, subst, append_assoc, append-nil, length-append, arith, flat_map, flat_map-append, AllByRecursion, AllZip}
+use Rattle.raft_engine.proofs.Common.{concat, EntryIndex, FileBlockHandle, FileId, LogFileContext, Append, Rewrite, Version, signature_of, with_lengths, group_marker_item, is_reserved, marker_byte, reserved_key, status_byte, Item, entries, placed_item, with_offsets_from, Batch}
+use Rattle.raft_engine.proofs.Common.{encoded_length, entry_place, AtomicGroupStatus, Middle, End, log_batch_length, reserved_test, RegionStep, Tables, steps_of_items, steps_on, by_region, own-append, own_none, own_other, Step, table_of, Table, placed_in, Rewriting, after_items}
+use Rattle.raft_engine.proofs.Common.{Ask, Put, acts_on, ask, put_behind, last_of, AreCopies, AreOrdinary, MoveAgain, MovesAgain, entries_on, put_items, run_of, copies-append, entries_pair, entries_run, steps-append, AddedEntriesAreTold, AreBothTold, HaveContents, KeepsBytes}
+use Rattle.raft_engine.proofs.Common.{ReadEntryIsTold, placed_entries, bytes_for, place_at, placed_at, AreGroupBatchesStored, BegunGroupsAreStored, EndedGroupsArePut, EndedGroupsAreStored, GroupsGoOnStored, IsGroupBegun, IsOfGroup, ArePartsRead, EntriesPart, IsGroupMoving}
+use Rattle.raft_engine.proofs.Common.{batches_behind, group_batches, marker_batch, part_batch, placed_from, puts_asks, IsLastFile, AreSynced, AreReads, IsReadAmong, moving_pairs, puts_of, with_puts, AreKeptStored, Bases, IsWritableBatch}
 use Rattle.std.specs.FinMap as finite
-use Rattle.std.specs.List.{AllByRecursion, AllZip, concat}
 use Rattle.raft_base.specs.declared.compression_type.CompressionType.TheVariants as compressions
-use Rattle.raft_base.specs.declared.entry_index.EntryIndex.{EntryIndex}
-use Rattle.raft_base.specs.declared.pipe_log.FileBlockHandle.{FileBlockHandle}
-use Rattle.raft_base.specs.declared.pipe_log.FileId.{FileId}
-use Rattle.raft_base.specs.declared.pipe_log.LogFileContext.{LogFileContext}
-use Rattle.raft_base.specs.declared.pipe_log.LogQueue.TheVariants.{Append, Rewrite}
-use Rattle.raft_base.specs.declared.pipe_log.Version.{Version}
-use Rattle.raft_base.specs.Signature.{signature_of}
-use Rattle.raft_records.specs.Entries.{with_lengths}
-use Rattle.raft_records.specs.Group.{group_marker_item, is_reserved, marker_byte, reserved_key, status_byte}
-use Rattle.raft_records.specs.Item.{Item, entries}
-use Rattle.raft_records.specs.ItemBatch.{placed_item, with_offsets_from}
-use Rattle.raft_records.specs.LogBatch.{Batch, encoded_length, entry_place}
-use Rattle.raft_records.specs.declared.atomic_group.AtomicGroupStatus.{AtomicGroupStatus}
 use Rattle.raft_records.specs.declared.key_value.OpType.TheVariants as operations
-use Rattle.raft_records.specs.declared.atomic_group.AtomicGroupStatus.TheVariants.{Begin, Middle, End}
-use Rattle.raft_records.proofs.FrameLemmas.{log_batch_length}
-use Rattle.raft_records.proofs.GroupLemmas.{reserved_test}
-use Rattle.raft_history.specs.RegionSteps.{RegionStep, Tables, steps_of_items, steps_on}
-use Rattle.raft_history.proofs.MapLemmas.{by_region}
-use Rattle.raft_history.proofs.StepListLemmas.{own-append, own_none, own_other}
-use Rattle.raft_table.specs.Steps.{Step, table_of}
-use Rattle.raft_table.specs.Table.{Table}
-use Rattle.raft_table.specs.TableEntries.{placed_in}
-use Rattle.raft_accessor.specs.Writes.{Rewriting, after_items}
-use Rattle.raft_files.specs.Asks.{Ask, Put, acts_on, ask}
-use Rattle.raft_files.specs.Disk.{put_behind}
-use Rattle.raft_files.proofs.LastLemmas.{last_of}
-use Rattle.raft_engine_laws.specs.Moving.{AreCopies, AreOrdinary, MoveAgain, MovesAgain, entries_on, put_items, run_of}
-use Rattle.raft_engine_laws.proofs.AgainSteps.{copies-append}
-use Rattle.raft_engine_laws.proofs.TakenAgain.{entries_pair, entries_run}
-use Rattle.raft_engine_laws.proofs.ToldItems.{steps-append}
-use Rattle.raft_engine_prefixes.specs.Contents.{AddedEntriesAreTold, AreBothTold, HaveContents, KeepsBytes, ReadEntryIsTold, placed_entries}
-use Rattle.raft_engine.specs.BatchBytes.{bytes_for, place_at, placed_at}
-use Rattle.raft_engine.specs.GroupAsks.{AreGroupBatchesStored, BegunGroupsAreStored, EndedGroupsArePut, EndedGroupsAreStored, GroupsGoOnStored, IsGroupBegun, IsOfGroup}
-use Rattle.raft_engine.specs.GroupBatches.{ArePartsRead, EntriesPart, IsGroupMoving, batches_behind, group_batches, marker_batch, part_batch, placed_from, puts_asks}
-use Rattle.raft_engine.specs.KeptEngine.{IsLastFile}
-use Rattle.raft_engine.specs.Lasting.{AreSynced}
-use Rattle.raft_engine.specs.Reads.{AreReads, IsReadAmong}
-use Rattle.raft_engine.specs.Rewriting.{moving_pairs, puts_of, with_puts}
-use Rattle.raft_engine.specs.Stored.{AreKeptStored, Bases}
-use Rattle.raft_engine.specs.StoredAsks.{IsWritableBatch}
+use Rattle.raft_records.specs.declared.atomic_group.AtomicGroupStatus.TheVariants.{Begin}
 use Rattle.raft_engine.proofs.FetchedLemmas.{all_rewritten}
 use Rattle.raft_engine.proofs.MovedLemmas.{put_unmarked}
 use Rattle.raft_engine.proofs.MovesAgain.{puts_again, puts_none}

@@ -1,23 +1,8 @@
 -- Batches of a group that are made, put and written to the tables, one after another.
-use Rattle.std.proofs.Common.{◌≡◌, ◌≢◌, inl, inr, ℕ, ◌+◌, ◌<◌, ◌≤◌, ◌^◌, List, [], ◌∷◌, ◌++◌, get_or, length, map, set, take, drop, refl, sym, ap, ◌∙◌, subst, append_assoc, append-nil, length-append, arith}
-use Rattle.std.proofs.lemmas.Grind.{flat_map-append}
-use Rattle.std.proofs.lemmas.List.{drop_all, drop_more, drop-set-lt, map-append, take_all, take_more_set}
-use Rattle.std.specs.List.{AllByRecursion}
-use Rattle.raft_base.specs.declared.errors.Error.{Error}
-use Rattle.raft_base.specs.declared.pipe_log.FileId.{FileId}
-use Rattle.raft_base.specs.declared.pipe_log.LogFileContext.{LogFileContext}
-use Rattle.raft_records.specs.Item.{Item}
-use Rattle.raft_records.specs.LogBatch.{Batch, Stage, approximate_length, encoded, encoded_length, is_open}
-use Rattle.raft_accessor.specs.Accessor.{Accessor}
-use Rattle.raft_accessor.specs.Writes.{AreWritten, Writing}
+use Rattle.raft_engine.proofs.Common.{◌≡◌, ◌≢◌, inl, inr, ℕ, ◌+◌, ◌<◌, ◌≤◌, ◌^◌, List, [], ◌∷◌, ◌++◌, get_or, length, map, set, take, drop, refl, sym, ap, ◌∙◌, subst, append_assoc, append-nil, length-append, arith, flat_map-append, drop_all, drop_more, drop-set-lt, map-append}
+use Rattle.raft_engine.proofs.Common.{take_all, take_more_set, AllByRecursion, Error, FileId, LogFileContext, Item, Batch, Stage, approximate_length, encoded, encoded_length, is_open, Accessor, AreWritten, Writing, Ask, MayBeAsked, Put, ask, bytes_for, placed_at, placed_from}
+use Rattle.raft_engine.proofs.Common.{puts_asks, AreFirstPut, BeginInTime, IsOneTooLong, as_encoded, end_from, items_of_batches, Failures, FailsAmong, IsWritableBatch, IsNextRefused}
 use Rattle.raft_engine.proofs.WrittenBoth.{written_append}
-use Rattle.raft_files.specs.Asks.{Ask, MayBeAsked, Put, ask}
-use Rattle.raft_engine.specs.BatchBytes.{bytes_for, placed_at}
-use Rattle.raft_engine.specs.GroupBatches.{placed_from, puts_asks}
-use Rattle.raft_engine.specs.GroupPlaces.{AreFirstPut, BeginInTime, IsOneTooLong, as_encoded, end_from, items_of_batches}
-use Rattle.raft_engine.specs.OpeningAsks.{Failures, FailsAmong}
-use Rattle.raft_engine.specs.StoredAsks.{IsWritableBatch}
-use Rattle.raft_engine.specs.WrittenBatch.{IsNextRefused}
 use Rattle.raft_engine.proofs.PartLemmas.{each_more}
 
 -- ---- one batch more at the end

@@ -1,49 +1,12 @@
 -- The batches of an atomic group, which are put one after another.
-use Rattle.std.proofs.Common.{◌≡◌, ◌⊎◌, inl, inr, ℕ, ◌≤◌, List, [], ◌∷◌, ◌++◌, Option, Some, None, length, map, refl, sym, ap, ◌∙◌, subst, append_assoc, append-nil, arith}
-use Rattle.std.specs.Prelude.{flat_map}
-use Rattle.std.proofs.lemmas.Grind.{flat_map-append}
-use Rattle.std.specs.List.{AllByRecursion}
-use Rattle.std.specs.Option.{option_map, option_or}
+use Rattle.raft_engine.proofs.Common.{◌≡◌, ◌⊎◌, inl, inr, ℕ, ◌≤◌, List, [], ◌∷◌, ◌++◌, Option, Some, None, length, map, refl, sym, ap, ◌∙◌, subst, append_assoc, append-nil, arith, flat_map, flat_map-append, AllByRecursion, option_or, EntryIndex, FileBlockHandle, FileId, LogQueue}
+use Rattle.raft_engine.proofs.Common.{Append, Rewrite, Version, first_marker, group_marker_item, marker_byte, status_byte, Content, Item, command, entries, pair, placed_content, placed_item, Batch, entry_place, AtomicGroupStatus, Middle, End, marker_is, marker_written, Event}
+use Rattle.raft_engine.proofs.Common.{PlacedItemsAreInFile, HaveStatus, RegionStep, Tables, Rewriting, after_items, none_some, some_is, Act, Ask, NumberedBytes, Put, acts_on, ask, begun, written_event, whole_file, IsBeforeEnd, IsMarked, IsWholeGroup, LeavesOpen, AreGroupsInRows}
+use Rattle.raft_engine.proofs.Common.{MoveAgain, Records, AreInFileOf, Deed, Write, IsNextIn, IsSafe, IsSynced, LoseNothing, deleted, written, rows_begun, rows_gone_on, all_gone, again_is_taken, AreBothTold, KeepsBytes, LastFileIsNext, bytes_for, place_at, placed_at}
+use Rattle.raft_engine.proofs.Common.{IsGroupBegun, IsOfGroup, IsLastFile, AreSynced, AreAllDone, AreKeptStored, AreStored, Bases, IsWritableBatch, WhatIsDoneLasts}
+use Rattle.std.specs.Option.{option_map}
 use Rattle.raft_base.specs.declared.compression_type.CompressionType.TheVariants as compressions
-use Rattle.raft_base.specs.declared.entry_index.EntryIndex.{EntryIndex}
-use Rattle.raft_base.specs.declared.pipe_log.FileBlockHandle.{FileBlockHandle}
-use Rattle.raft_base.specs.declared.pipe_log.FileId.{FileId}
-use Rattle.raft_base.specs.declared.pipe_log.LogQueue.{LogQueue}
-use Rattle.raft_base.specs.declared.pipe_log.LogQueue.TheVariants.{Append, Rewrite}
-use Rattle.raft_base.specs.declared.pipe_log.Version.{Version}
-use Rattle.raft_records.specs.Group.{first_marker, group_marker_item, marker_byte, status_byte}
-use Rattle.raft_records.specs.Item.{Content, Item, command, entries, pair}
-use Rattle.raft_records.specs.ItemBatch.{placed_content, placed_item}
-use Rattle.raft_records.specs.LogBatch.{Batch, entry_place}
-use Rattle.raft_records.specs.declared.atomic_group.AtomicGroupStatus.{AtomicGroupStatus}
-use Rattle.raft_records.specs.declared.atomic_group.AtomicGroupStatus.TheVariants.{Begin, Middle, End}
-use Rattle.raft_records.proofs.GroupLemmas.{marker_is, marker_written}
-use Rattle.raft_history.specs.Batches.{Event}
-use Rattle.raft_history.specs.GoingOn.{PlacedItemsAreInFile}
-use Rattle.raft_history.specs.Histories.{HaveStatus}
-use Rattle.raft_history.specs.RegionSteps.{RegionStep, Tables}
-use Rattle.raft_accessor.specs.Writes.{Rewriting, after_items}
-use Rattle.raft_accessor.proofs.MapLemmas.{none_some, some_is}
-use Rattle.raft_files.specs.Asks.{Act, Ask, NumberedBytes, Put, acts_on, ask}
-use Rattle.raft_files.specs.Disk.{begun}
-use Rattle.raft_replay.specs.WrittenParts.{written_event}
-use Rattle.raft_recover.specs.Files.{whole_file}
-use Rattle.raft_engine_laws.specs.Groups.{IsBeforeEnd, IsMarked, IsWholeGroup, LeavesOpen}
-use Rattle.raft_engine_laws.specs.GroupsInRows.{AreGroupsInRows}
-use Rattle.raft_engine_laws.specs.Moving.{MoveAgain}
-use Rattle.raft_engine_laws.specs.Records.{Records}
-use Rattle.raft_engine_laws.specs.Crashes.{AreInFileOf, Deed, Write, IsNextIn, IsSafe, IsSynced, LoseNothing, deleted, written}
-use Rattle.raft_engine_laws.proofs.InRows.{rows_begun, rows_gone_on}
-use Rattle.raft_engine_laws.proofs.CrashLemmas.{all_gone}
-use Rattle.raft_engine_laws.proofs.TakenAgain.{again_is_taken}
-use Rattle.raft_engine_prefixes.specs.Contents.{AreBothTold, KeepsBytes}
-use Rattle.raft_engine_prefixes.specs.Done.{LastFileIsNext}
-use Rattle.raft_engine.specs.BatchBytes.{bytes_for, place_at, placed_at}
-use Rattle.raft_engine.specs.GroupAsks.{IsGroupBegun, IsOfGroup}
-use Rattle.raft_engine.specs.KeptEngine.{IsLastFile}
-use Rattle.raft_engine.specs.Lasting.{AreSynced}
-use Rattle.raft_engine.specs.Stored.{AreAllDone, AreKeptStored, AreStored, Bases}
-use Rattle.raft_engine.specs.StoredAsks.{IsWritableBatch, WhatIsDoneLasts}
+use Rattle.raft_records.specs.declared.atomic_group.AtomicGroupStatus.TheVariants.{Begin}
 use Rattle.raft_engine.proofs.DoneLemmas.{deeds_synced}
 use Rattle.raft_engine.proofs.LowPairs.{safe_low}
 use Rattle.raft_engine.proofs.StoredLemmas.{first_on, goes_on}

@@ -1,27 +1,8 @@
 -- Tables that are read back of the append files, once a group of batches moved records within the rewrite queue.
-use Rattle.std.proofs.Common.{◌≡◌, ℕ, List, [], ◌∷◌, ◌++◌, length, refl, sym, ap, ◌∙◌, subst, append_assoc, append-nil, None}
-use Rattle.std.specs.List.{AllByRecursion}
+use Rattle.raft_engine.proofs.Common.{◌≡◌, ℕ, List, [], ◌∷◌, ◌++◌, length, refl, sym, ap, ◌∙◌, subst, append_assoc, append-nil, None, AllByRecursion, FileId, LogFileContext, Append, Rewrite, Version, Item, Batch, entry_place, Event, IsOneReading, ReadingLeavesRuns}
+use Rattle.raft_engine.proofs.Common.{RewritingMovesPlaces, Act, Ask, Put, acts_on, ask, begun, FilesHold, TakeAway, bytes_for, event_at, place_at, placed_at, batches_behind, marker_batch, placed_from, puts_asks, IsLastFile, MovedGroupsAreReadBack, moving_pairs, IsWritableBatch}
 use Rattle.raft_base.specs.declared.compression_type.CompressionType.TheVariants as compressions
-use Rattle.raft_base.specs.declared.pipe_log.FileId.{FileId}
-use Rattle.raft_base.specs.declared.pipe_log.LogFileContext.{LogFileContext}
-use Rattle.raft_base.specs.declared.pipe_log.LogQueue.TheVariants.{Append, Rewrite}
-use Rattle.raft_base.specs.declared.pipe_log.Version.{Version}
-use Rattle.raft_records.specs.Item.{Item}
-use Rattle.raft_records.specs.LogBatch.{Batch, entry_place}
 use Rattle.raft_records.specs.declared.atomic_group.AtomicGroupStatus.TheVariants.{Begin}
-use Rattle.raft_history.specs.Batches.{Event}
-use Rattle.raft_history.specs.Histories.{IsOneReading}
-use Rattle.raft_contexts.specs.MovedPlaces.{ReadingLeavesRuns, RewritingMovesPlaces}
-use Rattle.raft_files.specs.Asks.{Act, Ask, Put, acts_on, ask}
-use Rattle.raft_files.specs.Disk.{begun}
-use Rattle.raft_recover.specs.Files.{FilesHold}
-use Rattle.raft_engine_laws.specs.Telling.{TakeAway}
-use Rattle.raft_engine.specs.BatchBytes.{bytes_for, event_at, place_at, placed_at}
-use Rattle.raft_engine.specs.GroupBatches.{batches_behind, marker_batch, placed_from, puts_asks}
-use Rattle.raft_engine.specs.KeptEngine.{IsLastFile}
-use Rattle.raft_engine.specs.ReadBack.{MovedGroupsAreReadBack}
-use Rattle.raft_engine.specs.Rewriting.{moving_pairs}
-use Rattle.raft_engine.specs.StoredAsks.{IsWritableBatch}
 use Rattle.raft_engine.proofs.GroupMoves.{last_more}
 use Rattle.raft_engine.proofs.ReadBackLemmas.{held_more, none_listed, took_all_away}
 

@@ -1,33 +1,10 @@
 -- What is known of the atomic groups of batches, as a machine gathers it.
-use Rattle.std.proofs.Common.{◌≡◌, ◌≢◌, true, false, ◌<◌, ℕ, Bool, List, [], ◌∷◌, ◌++◌, Vec, length, Option, Some, None, refl, sym, ap, ◌∙◌, subst, arith}
-use Rattle.std.specs.Prelude.{IsTrue, MatchBool}
-use Rattle.std.specs.List.{AllByRecursion, AllWithin, HoldsAt}
-use Rattle.std.specs.Option.{option_and_then, option_map, option_or}
-use Rattle.std.proofs.lemmas.List.Elements.{recursion_from_All}
-use Rattle.std.specs.Global.{Global}
-use Rattle.raft_base.specs.Corruption.{IsArgumentRefusal}
-use Rattle.raft_base.specs.Errors.{IsInvalidArgument}
-use Rattle.raft_base.specs.declared.errors.Error.{Error}
+use Rattle.raft_engine.proofs.Common.{◌≡◌, ◌≢◌, true, false, ◌<◌, ℕ, Bool, List, [], ◌∷◌, ◌++◌, Vec, length, Option, Some, None, refl, sym, ap, ◌∙◌, subst, arith, IsTrue, MatchBool, AllByRecursion, AllWithin, HoldsAt, option_and_then, option_or, recursion_from_All, Global}
+use Rattle.raft_engine.proofs.Common.{IsArgumentRefusal, IsInvalidArgument, Error, FileBlockHandle, Rewrite, Part, first_marker, marker_byte, status_of, Item, items_shown, ReadItem, Event, marker_in, HaveStatus, IsSmall, Sound, HasReplayed, SegmentsHold, segments_unique}
+use Rattle.raft_engine.proofs.Common.{AreGroupsInRows, open_by, AreJoined, IsSummaryOf, Marked, joined_summary, HaveRows, NoneIsInRows, AreUnmarked, IsMarkedAs, IsUnmarked, marked_shown, rows_shown, GroupRows, MarkedBatch}
+use Rattle.std.specs.Option.{option_map}
 use Rattle.raft_base.specs.declared.errors.Error.TheVariants as errors
-use Rattle.raft_base.specs.declared.pipe_log.FileBlockHandle.{FileBlockHandle}
-use Rattle.raft_base.specs.declared.pipe_log.LogQueue.TheVariants.{Rewrite}
-use Rattle.raft_records.specs.FilePart.{Part}
-use Rattle.raft_records.specs.Group.{first_marker, marker_byte, status_of}
-use Rattle.raft_records.specs.Item.{Item}
-use Rattle.raft_records.specs.ReadBatch.{items_shown}
-use Rattle.raft_records.specs.declared.read_batch.ReadItem.{ReadItem}
-use Rattle.raft_history.specs.Batches.{Event, batch_of, marker_in}
-use Rattle.raft_history.specs.Histories.{HaveStatus, IsSmall, Sound}
-use Rattle.raft_replay.specs.Replays.{HasReplayed}
-use Rattle.raft_replay.specs.Segments.{SegmentsHold}
-use Rattle.raft_replay.proofs.SegmentLemmas.{segments_unique}
-use Rattle.raft_engine_laws.specs.GroupsInRows.{AreGroupsInRows, open_by}
-use Rattle.raft_engine_laws.specs.RowSummaries.{AreJoined, IsSummaryOf, Marked}
-use Rattle.raft_engine_laws.proofs.RowJoins.{joined_summary}
-use Rattle.raft_engine.specs.Markers.{HaveRows, NoneIsInRows}
-use Rattle.raft_engine.specs.RowsShown.{AreUnmarked, IsMarkedAs, IsUnmarked, marked_shown, rows_shown}
-use Rattle.raft_engine.specs.declared.group_rows.GroupRows.{GroupRows}
-use Rattle.raft_engine.specs.declared.group_rows.MarkedBatch.{MarkedBatch}
+use Rattle.raft_history.specs.Batches.{batch_of}
 
 -- what is known of one batch
 pub of_one : (rows : GroupRows) (batch : MarkedBatch) → rows.first ≡ Some batch → rows.left ≡ open_by (marked_shown batch).marker batch.seq → rows.rest_stands ≡ true

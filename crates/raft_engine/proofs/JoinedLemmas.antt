@@ -1,13 +1,5 @@
 -- Of files of which no rewritten entries stay in front of those that are found nothing is told at once.
-use Rattle.std.proofs.Common.{◌≡◌, List, []}
-use Rattle.raft_base.specs.declared.pipe_log.Version.{Version}
-use Rattle.raft_records.specs.LogBatch.{Batch}
-use Rattle.raft_history.specs.RegionSteps.{steps_of_items, steps_on}
-use Rattle.raft_accessor.specs.Accessor.{Accessor}
-use Rattle.raft_files.specs.Asks.{NumberedBytes}
-use Rattle.raft_engine_laws.proofs.OwnTold.{nothing_told}
-use Rattle.raft_engine.specs.JoinedFiles.{BatchesJoin}
-use Rattle.raft_engine.specs.Opening.{AreRecovered}
+use Rattle.raft_engine.proofs.Common.{◌≡◌, List, [], Version, Batch, steps_of_items, steps_on, Accessor, NumberedBytes, nothing_told, BatchesJoin, AreRecovered}
 
 pub joined_told : (version : Version) (append rewrite : List NumberedBytes) (accessor : Accessor) (told untold : Batch) (g : AreRecovered version append rewrite accessor told untold)
     → BatchesJoin g.appended g.rewritten → told.items ≡ []

@@ -1,50 +1,18 @@
 -- What an engine keeps while it moves records of a region in an atomic group.
-use Rattle.std.proofs.Common.{◌≡◌, ◌≢◌, ◌⊎◌, inl, inr, ℕ, ◌+◌, Bool, true, false, List, [], ◌∷◌, ◌++◌, length, map, take, Some, None, refl, sym, ap, ◌∙◌, subst, append_assoc, arith}
-use Rattle.std.proofs.Math.Nat.{eq-or-lt_of_le}
-use Rattle.std.proofs.lemmas.List.{take-map, take_all, length-map}
+use Rattle.raft_engine.proofs.Common.{◌≡◌, ◌≢◌, ◌⊎◌, inl, inr, ℕ, ◌+◌, Bool, true, false, List, [], ◌∷◌, ◌++◌, length, map, take, Some, None, refl, sym, ap, ◌∙◌, subst, append_assoc, arith, eq-or-lt_of_le, take-map, take_all, length-map, AllByRecursion, signature_in, EntryIndex}
+use Rattle.raft_engine.proofs.Common.{Error, FileId, LogFileContext, Append, Rewrite, Version, log_batch_length, Item, Batch, empty_batch, encoded, encoded_length, is_open, Tables, Table, Accessor, AreWritten, Rewriting, Ask, NoSyncFailed, Put, acts_on, ask, begun, deletions}
+use Rattle.raft_engine.proofs.Common.{bytes_for, placed_at, AreGroupBatchesStored, MovedGroupsAreStored, EntriesPart, batches_behind, part_batch, placed_from, puts_asks, IsGroupInParts, IsGroupRefused, AreFirstPut, BeginInTime, IsOneTooLong, as_encoded, end_from, IsLastFile}
+use Rattle.raft_engine.proofs.Common.{KeptEngine, AreFilesOf, IsKeptBy, AreSynced, ReadsAreStored, IsGroupHalfMoved, IsGroupMoved, IsGroupOf, IsGroupUnmoved, IsReadBack, MovedGroupsAreReadBack, NoneFound, AreOnlyRead, AreKeptStored, IsWritableBatch, QueueFiles, Failures}
+use Rattle.raft_engine.proofs.Common.{FailsAmong, AreUntaken}
 use Rattle.std.specs.FinMap as finite
-use Rattle.std.specs.List.{AllByRecursion}
-use Rattle.raft_base.specs.Signature.{signature_in}
-use Rattle.raft_base.specs.declared.entry_index.EntryIndex.{EntryIndex}
-use Rattle.raft_base.specs.declared.errors.Error.{Error}
 use Rattle.raft_base.specs.declared.errors.Error.TheVariants as errors
-use Rattle.raft_base.specs.declared.pipe_log.FileId.{FileId}
-use Rattle.raft_base.specs.declared.pipe_log.LogFileContext.{LogFileContext}
-use Rattle.raft_base.specs.declared.pipe_log.LogQueue.TheVariants.{Append, Rewrite}
-use Rattle.raft_base.specs.declared.pipe_log.Version.{Version}
-use Rattle.raft_records.proofs.FrameLemmas.{log_batch_length}
-use Rattle.raft_records.specs.Item.{Item}
-use Rattle.raft_records.specs.LogBatch.{Batch, empty_batch, encoded, encoded_length, is_open}
-use Rattle.raft_history.specs.RegionSteps.{Tables}
-use Rattle.raft_table.specs.Table.{Table}
-use Rattle.raft_accessor.specs.Accessor.{Accessor}
-use Rattle.raft_accessor.specs.Writes.{AreWritten, Rewriting}
-use Rattle.raft_files.specs.Asks.{Ask, NoSyncFailed, Put, acts_on, ask}
-use Rattle.raft_files.specs.Disk.{begun, deletions}
 use Rattle.raft_engine_laws.specs.Crashes as queue_deeds
-use Rattle.raft_engine.specs.BatchBytes.{bytes_for, placed_at}
-use Rattle.raft_engine.specs.GroupAsks.{AreGroupBatchesStored, MovedGroupsAreStored}
-use Rattle.raft_engine.specs.GroupBatches.{EntriesPart, batches_behind, part_batch, placed_from, puts_asks}
-use Rattle.raft_engine.specs.GroupParts.{IsGroupInParts, IsGroupRefused}
-use Rattle.raft_engine.specs.GroupPlaces.{AreFirstPut, BeginInTime, IsOneTooLong, as_encoded, end_from}
-use Rattle.raft_engine.specs.KeptEngine.{IsLastFile, KeptEngine}
-use Rattle.raft_engine.specs.KeptEngineView.{AreFilesOf, IsKeptBy}
-use Rattle.raft_engine.specs.Lasting.{AreSynced}
-use Rattle.raft_engine.specs.MovedAsks.{ReadsAreStored}
-use Rattle.raft_engine.specs.MovedGroups.{IsGroupHalfMoved, IsGroupMoved, IsGroupOf, IsGroupUnmoved}
-use Rattle.raft_engine.specs.ReadBack.{IsReadBack, MovedGroupsAreReadBack, NoneFound}
-use Rattle.raft_engine.specs.Reads.{AreOnlyRead}
-use Rattle.raft_engine.specs.Stored.{AreKeptStored}
-use Rattle.raft_engine.specs.StoredAsks.{IsWritableBatch}
-use Rattle.raft_engine.specs.WrittenBatch.{AreFirstWritten}
-use Rattle.raft_engine.specs.declared.queue_files.QueueFiles.{QueueFiles}
 use Rattle.raft_engine.proofs.FilesLemmas.{files_last, files_same, files_told}
 use Rattle.raft_engine.proofs.GroupReadBack.{puts_append}
 use Rattle.raft_engine.proofs.KeptMoves.{kept_read, read_last, read_synced}
 use Rattle.raft_engine.proofs.PartLemmas.{parts_only}
 use Rattle.raft_engine.proofs.ReadBackLemmas.{none_before}
 use Rattle.raft_engine.proofs.TrustLemmas.{puts_unfailed, unfailed_trusted}
-use Rattle.raft_engine.specs.FileFailures.{Failures}
 
 -- ---- batches of a group, as they are made
 
@@ -181,19 +149,19 @@ module _ (read : ReadsAreStored) (version : Version) (asks : List Ask) (append r
     abbrev file : LogFileContext
     file = record { id = record { queue = Rewrite; seq = rewrite.seq }; version = version }
 
-    -- the first batches are put, or all and the first items are written
-    pub group_half : (new : List Ask) (accessor' : Accessor)
-        → (AreFirstPut file batches between new × (accessor' ≡ accessor))
-        ⊎ ((new ≡ puts_asks file batches between) × AreFirstWritten (Rewriting None rewrite.seq) (placed_from file.id (length its_bytes) batches) accessor accessor')
-        → IsGroupHalfMoved region engine (record engine { asks = new; accessor = accessor'; intact = false })
-    group_half new accessor' half = record {
+    -- the files fail to put one of the batches, or all are put, and the tables refuse an item
+    pub group_half : {MayFail : Failures} (new : List Ask) (accessor' : Accessor) (e : Error)
+        → (FailsAmong MayFail (puts_asks file batches []) between new e × (accessor' ≡ accessor))
+        ⊎ ((new ≡ puts_asks file batches between) × AreUntaken None rewrite.seq (placed_from file.id (length its_bytes) batches) accessor accessor' e)
+        → IsGroupHalfMoved MayFail region engine (record engine { asks = new; accessor = accessor'; intact = false }) e
+    group_half new accessor' e why = record {
       between = between;
       batches = batches;
       seq = rewrite.seq;
       bytes = its_bytes;
       last = its_last;
       group = is_group;
-      half = half;
+      why = why;
       others = refl;
     }
 

@@ -1,23 +1,11 @@
 -- What an engine keeps once more is asked of its files.
-use Rattle.std.proofs.Common.{◌≡◌, inl, inr, ℕ, ◌+◌, Bool, true, false, List, [], ◌∷◌, ◌++◌, refl, sym, ap, ◌∙◌, subst, arith}
+use Rattle.raft_engine.proofs.Common.{◌≡◌, ℕ, ◌+◌, Bool, true, List, [], ◌∷◌, ◌++◌, refl, sym, ap, ◌∙◌, subst, arith, LogQueue, Append, Rewrite, Version, Batch, empty_batch, Accessor, Ask, Begin, NoSyncFailed, Sync, ask, IsLastFile, KeptEngine, AreFilesOf, IsKeptBy}
+use Rattle.raft_engine.proofs.Common.{AreKeptStored, FirstFilesAreStored, NewFilesAreStored, SyncsAreStored, IsRotated, QueueFiles, IsReadBackAlone, next_asks}
 use Rattle.std.specs.FinMap as finite
-use Rattle.raft_base.specs.declared.pipe_log.LogQueue.{LogQueue}
-use Rattle.raft_base.specs.declared.pipe_log.LogQueue.TheVariants.{Append, Rewrite}
-use Rattle.raft_base.specs.declared.pipe_log.Version.{Version}
-use Rattle.raft_records.specs.LogBatch.{Batch, empty_batch}
-use Rattle.raft_accessor.specs.Accessor.{Accessor}
-use Rattle.raft_files.specs.Asks.{Ask, Begin, IsTrusted, MayBeAsked, NoSyncFailed, Sync, Unsynced, ask}
-use Rattle.raft_engine.specs.KeptEngine.{IsLastFile, KeptEngine}
-use Rattle.raft_engine.specs.KeptEngineView.{AreFilesOf, IsKeptBy}
-use Rattle.raft_engine.specs.Stored.{AreKeptStored}
-use Rattle.raft_engine.specs.StoredAsks.{FailedSyncsAreStored, FirstFilesAreStored, NewFilesAreStored, SyncsAreStored}
-use Rattle.raft_engine.specs.WrittenBatch.{IsHalfRotated, IsRotated}
-use Rattle.raft_engine.specs.declared.queue_files.QueueFiles.{QueueFiles}
-use Rattle.raft_engine.specs.ReadBack.{IsReadBackAlone}
-use Rattle.raft_engine.proofs.AskedLemmas.{AreAskedInPart, asked_of_two}
+use Rattle.raft_engine.proofs.BrokenLemmas.{AreEver, AreSafe}
 use Rattle.raft_engine.proofs.FilesLemmas.{files_begun, files_last, files_same, first_append, first_rewrite}
 use Rattle.raft_engine.proofs.ReadBackLemmas.{begun_read_back, first_read_back, same_read_back}
-use Rattle.raft_engine.proofs.TrustLemmas.{may_trusted, part_trusted, unfailed_trusted}
+use Rattle.raft_engine.proofs.TrustLemmas.{unfailed_trusted}
 
 -- an engine at first
 pub kept_new : FirstFilesAreStored → (version : Version) (asks : List Ask) (append rewrite : QueueFiles) (untold : Batch) (accessor : Accessor)
@@ -46,20 +34,13 @@ module _ (version : Version) (asks : List Ask) (append rewrite : QueueFiles) (un
   abbrev engine : KeptEngine
   engine = record { version = version; asks = asks; untold = untold; accessor = accessor; intact = intact }
 
-  -- one of which a sync failed
-  pub kept_unsynced : FailedSyncsAreStored → intact ≡ true → (queue : LogQueue) (new : List Ask) (append' rewrite' : QueueFiles) (untold' : Batch) (accessor' : Accessor) → MayBeAsked (ask queue Unsynced) asks new
-      → IsKeptBy version new append' rewrite' untold' accessor' false
-  kept_unsynced unsynced is_intact queue new append' rewrite' untold' accessor' may = record {
-    base = k.base;
-    untold = k.untold;
-    tables = k.tables;
-    stored = elim may [
-      | inl e ↦ subst (λ (l : List Ask). AreKeptStored version l k.base k.untold k.tables) (sym e) k.stored
-      | inr e ↦ subst (λ (l : List Ask). AreKeptStored version l k.base k.untold k.tables) (sym e) (unsynced queue version asks k.base k.untold k.tables k.stored)
-    ];
-    trusted = may_trusted queue asks new may (k.whole is_intact).unfailed;
-    whole = λ no. absurd cc;
-  }
+  -- so much is stored that was asked of an intact one, with a sync of a queue more, too
+  pub safe_now : intact ≡ true → AreSafe version asks
+  safe_now is_intact = record { base = k.base; untold = k.untold; tables = k.tables; stored = k.stored; none = (k.whole is_intact).unfailed }
+
+  pub synced_ever : SyncsAreStored → intact ≡ true → (queue : LogQueue) → AreEver (AreSafe version) (ask queue Sync ∷ []) asks
+  synced_ever synced is_intact queue =
+      (record { base = k.base; untold = k.untold; tables = k.tables; stored = synced queue version asks k.base k.untold k.tables k.stored; none = (tt, (k.whole is_intact).unfailed) }, safe_now is_intact)
 
   -- one that only lists the same files anew
   pub kept_listed : (append' : QueueFiles) → append'.closed.items ≡ append.closed.items → append'.seq ≡ append.seq → append'.len ≡ append.len → IsKeptBy version asks append' rewrite untold accessor intact
@@ -88,18 +69,9 @@ module _ (version : Version) (asks : List Ask) (append rewrite : QueueFiles) (un
   stored_next synced begun Rewrite seq bytes last = begun Rewrite version (ask Rewrite Sync ∷ asks) k.base k.untold k.tables seq bytes (seq + 1) tt
       (record { closed = last.closed; files = last.files }) (omega arith) (synced Rewrite version asks k.base k.untold k.tables k.stored)
 
-  -- one that isn't intact any more, of which both were asked in part
-  pub kept_between : SyncsAreStored → FailedSyncsAreStored → NewFilesAreStored → intact ≡ true → (queue : LogQueue) (seq : ℕ) (bytes : List ℕ) → IsLastFile queue asks seq bytes → (new : List Ask) (append' rewrite' : QueueFiles)
-      → AreAskedInPart (ask queue (Begin (seq + 1)) ∷ ask queue Sync ∷ []) asks new → IsKeptBy version new append' rewrite' untold accessor false
-  kept_between synced unsynced begun is_intact queue seq bytes last new append' rewrite' p = record {
-    base = k.base;
-    untold = k.untold;
-    tables = k.tables;
-    stored = asked_of_two (λ (l : List Ask). AreKeptStored version l k.base k.untold k.tables) _ _ asks new p (λ q l s. unsynced q version l k.base k.untold k.tables s) k.stored
-        (synced queue version asks k.base k.untold k.tables k.stored) (stored_next synced begun queue seq bytes last);
-    trusted = part_trusted _ asks new (tt, (tt, tt)) (k.whole is_intact).unfailed p;
-    whole = λ no. absurd cc;
-  }
+  pub rotated_ever : SyncsAreStored → NewFilesAreStored → intact ≡ true → (queue : LogQueue) (seq : ℕ) (bytes : List ℕ) → IsLastFile queue asks seq bytes → AreEver (AreSafe version) (next_asks queue seq) asks
+  rotated_ever synced begun is_intact queue seq bytes last =
+      (record { base = k.base; untold = k.untold; tables = k.tables; stored = stored_next synced begun queue seq bytes last; none = (tt, (tt, (k.whole is_intact).unfailed)) }, synced_ever synced is_intact queue)
 
   module _ (is_intact : intact ≡ true) where
     pub last_append : IsLastFile Append asks append.seq ((k.whole is_intact).append_files.bytes)
@@ -127,15 +99,6 @@ module _ (version : Version) (asks : List Ask) (append rewrite : QueueFiles) (un
         })
 
     -- ---- a new file
-
-    -- the sync and the new file were asked in part
-    pub half_rotated : (new : List Ask) → AreAskedInPart (ask Append (Begin (append.seq + 1)) ∷ ask Append Sync ∷ []) asks new → IsHalfRotated engine (record engine { asks = new; intact = false })
-    half_rotated new p = record {
-      seq = append.seq;
-      bytes = (k.whole is_intact).append_files.bytes;
-      last = last_append;
-      half = record { half = record { was = is_intact; is = refl; same = refl; missing = p.missing; made = p.made; split = p.split; asked = p.asked }; tables = refl };
-    }
 
     module _ (new : List Ask) (are_asked : new ≡ ask Append (Begin (append.seq + 1)) ∷ ask Append Sync ∷ asks) where
       pub kept_rotated : SyncsAreStored → NewFilesAreStored → (append' : QueueFiles)

@@ -1,47 +1,15 @@
 -- What an engine keeps while it moves records of a region.
-use Rattle.std.proofs.Common.{◌≡◌, ◌≢◌, ◌⊎◌, inl, inr, ℕ, ◌+◌, ◌^◌, ◌≤◌, Bool, true, false, List, [], ◌∷◌, ◌++◌, length, Option, Some, refl, sym, ap, ◌∙◌, subst, append-nil}
+use Rattle.raft_engine.proofs.Common.{◌≡◌, ◌≢◌, ◌⊎◌, inl, inr, ℕ, ◌+◌, ◌^◌, ◌≤◌, Bool, true, false, List, [], ◌∷◌, ◌++◌, length, Option, Some, refl, sym, ap, ◌∙◌, subst, append-nil, signature_in, EntryIndex, Error, FileBlockHandle, LogFileContext, LogQueue, Append, Rewrite}
+use Rattle.raft_engine.proofs.Common.{Version, log_batch_length, Item, Batch, empty_batch, encoded, encoded_length, Tables, Table, AreTableEntries, Accessor, AreWritten, Rewriting, after_items, Ask, MayBeAsked, NoSyncFailed, Put, Read, acts_on, ask, begun, deletions, bytes_for}
+use Rattle.raft_engine.proofs.Common.{placed_at, IsLastFile, KeptEngine, AreFilesOf, IsKeptBy, AreSynced, IsBatchHalfMoved, IsBatchMoved, IsBatchUnmoved, IsMoving, IsOnlyRead, MovedBatchesAreStored, PutBatchesAreStored, ReadsAreStored, asks_of_items, put_asks, IsReadBack}
+use Rattle.raft_engine.proofs.Common.{IsReadBackAlone, MovedBatchesAreReadBack, NoneFound, AreOnlyRead, AreReads, IsBatchMoving, AreKeptStored, Bases, IsWritableBatch, IsBatchRefused, IsLastFull, QueueFiles, Failures, FailsAmong, AreUntaken}
 use Rattle.std.specs.FinMap as finite
-use Rattle.raft_base.specs.Signature.{signature_in}
-use Rattle.raft_base.specs.declared.entry_index.EntryIndex.{EntryIndex}
-use Rattle.raft_base.specs.declared.errors.Error.{Error}
 use Rattle.raft_base.specs.declared.errors.Error.TheVariants as errors
-use Rattle.raft_base.specs.declared.pipe_log.FileBlockHandle.{FileBlockHandle}
-use Rattle.raft_base.specs.declared.pipe_log.LogFileContext.{LogFileContext}
-use Rattle.raft_base.specs.declared.pipe_log.LogQueue.{LogQueue}
-use Rattle.raft_base.specs.declared.pipe_log.LogQueue.TheVariants.{Append, Rewrite}
-use Rattle.raft_base.specs.declared.pipe_log.Version.{Version}
-use Rattle.raft_records.proofs.FrameLemmas.{log_batch_length}
-use Rattle.raft_records.specs.Item.{Item}
-use Rattle.raft_records.specs.LogBatch.{Batch, empty_batch, encoded, encoded_length}
-use Rattle.raft_history.specs.RegionSteps.{Tables}
-use Rattle.raft_table.specs.Table.{Table}
-use Rattle.raft_table.specs.TableEntries.{AreTableEntries}
-use Rattle.raft_accessor.specs.Accessor.{Accessor}
-use Rattle.raft_accessor.specs.Writes.{AreWritten, Rewriting, after_items}
-use Rattle.raft_files.specs.Asks.{Ask, MayBeAsked, NoSyncFailed, Put, Read, acts_on, ask}
-use Rattle.raft_files.specs.Disk.{begun, deletions}
 use Rattle.raft_engine_laws.specs.Crashes as queue_deeds
-use Rattle.raft_engine.specs.BatchBytes.{bytes_for, placed_at}
-use Rattle.raft_engine.specs.KeptEngine.{IsLastFile, KeptEngine}
-use Rattle.raft_engine.specs.KeptEngineView.{AreFilesOf, IsKeptBy}
-use Rattle.raft_engine.specs.Lasting.{AreSynced}
-use Rattle.raft_engine.specs.Moved.{IsBatchHalfMoved, IsBatchMoved, IsBatchUnmoved, IsMoving, IsOnlyRead}
-use Rattle.raft_engine.specs.MovedAsks.{MovedBatchesAreStored, PutBatchesAreStored, ReadsAreStored}
-use Rattle.raft_engine.specs.Purged.{asks_of_items, put_asks}
-use Rattle.raft_engine.specs.ReadBack.{IsReadBack, IsReadBackAlone, MovedBatchesAreReadBack, NoneFound}
-use Rattle.raft_engine.specs.Reads.{AreOnlyRead, AreReads}
-use Rattle.raft_engine.specs.Rewriting.{IsBatchMoving}
-use Rattle.raft_engine.specs.Stored.{AreKeptStored, Bases}
-use Rattle.raft_engine.specs.StoredAsks.{IsWritableBatch}
-use Rattle.raft_engine.specs.Unmoved.{IsBatchRefused}
-use Rattle.raft_engine.specs.WrittenBatch.{AreFirstWritten, IsLastFull}
-use Rattle.raft_engine.specs.declared.queue_files.QueueFiles.{QueueFiles}
-use Rattle.raft_engine.proofs.DrainLemmas.{none_first}
 use Rattle.raft_engine.proofs.FilesLemmas.{files_last, files_same, files_told}
 use Rattle.raft_engine.proofs.ReadBackLemmas.{none_before, same_read_back}
 use Rattle.raft_engine.proofs.ReadKept.{none_read, read_only}
 use Rattle.raft_engine.proofs.TrustLemmas.{reads_trusted, reads_unfailed, unfailed_trusted}
-use Rattle.raft_engine.specs.FileFailures.{Failures}
 
 -- ---- reads
 
@@ -245,18 +213,18 @@ module _ (read : ReadsAreStored) (version : Version) (asks : List Ask) (append r
       }
       may_broken put new append' rewrite' untold' accessor' (inr e) = put_broken put new append' rewrite' untold' accessor' e
 
-      pub half_moved : (new : List Ask) (accessor' : Accessor)
-          → ((new ≡ between) × (accessor' ≡ accessor))
-          ⊎ ((new ≡ ask Rewrite (Put (bytes_for file batch)) ∷ between) × AreFirstWritten (Rewriting gate rewrite.seq) (placed_at file.id (length its_bytes) batch) accessor accessor')
-          → IsBatchHalfMoved gate left region engine (record engine { asks = new; accessor = accessor'; intact = false })
-      half_moved new accessor' half = record {
+      pub half_moved : {MayFail : Failures} (new : List Ask) (accessor' : Accessor) (e : Error)
+          → (FailsAmong MayFail (put_asks file batch) between new e × (accessor' ≡ accessor))
+          ⊎ ((new ≡ put_asks file batch ++ between) × AreUntaken gate rewrite.seq (placed_at file.id (length its_bytes) batch) accessor accessor' e)
+          → IsBatchHalfMoved MayFail gate left region engine (record engine { asks = new; accessor = accessor'; intact = false }) e
+      half_moved new accessor' e why = record {
         between = between;
         batch = batch;
         moving = is_moving;
         seq = rewrite.seq;
         bytes = its_bytes;
         last = its_last;
-        half = half;
+        why = why;
         others = refl;
       }
 
@@ -317,11 +285,6 @@ module _ (read : ReadsAreStored) (version : Version) (asks : List Ask) (append r
             → IsKeptBy version new append' rewrite' untold' accessor' false
         made_broken put new append' rewrite' untold' accessor' h = may_broken put new append' rewrite' untold' accessor' (subst (λ (a : Ask). MayBeAsked a between new) same_ask h)
 
-        pub made_half : (new : List Ask) → MayBeAsked (ask context.id.queue (Put (bytes_for context made))) between new
-            → IsBatchHalfMoved gate left region engine (record engine { asks = new; intact = false })
-        made_half new (inl e) = half_moved new accessor (inl (e, refl))
-        made_half new (inr e) = half_moved new accessor (inr (e ∙ ap (λ (a : Ask). a ∷ between) same_ask, none_first (Rewriting gate rewrite.seq) (placed_at file.id (length its_bytes) batch) accessor))
-
         pub made_asked : (new : List Ask) → new ≡ ask context.id.queue (Put (bytes_for context made)) ∷ between → new ≡ ask Rewrite (Put (bytes_for file batch)) ∷ between
         made_asked new e = e ∙ ap (λ (a : Ask). a ∷ between) same_ask
 
@@ -333,7 +296,3 @@ module _ (read : ReadsAreStored) (version : Version) (asks : List Ask) (append r
         pub made_applied : (items : List Item) (accessor' : Accessor) → items ≡ placed_at context.id rewrite.len made → AreWritten (Rewriting gate rewrite.seq) items accessor accessor'
             → AreWritten (Rewriting gate rewrite.seq) (placed_at file.id (length its_bytes) batch) accessor accessor'
         made_applied items accessor' e h = subst (λ (l : List Item). AreWritten (Rewriting gate rewrite.seq) l accessor accessor') (made_placed items e) h
-
-        pub made_first : (items : List Item) (accessor' : Accessor) → items ≡ placed_at context.id rewrite.len made → AreFirstWritten (Rewriting gate rewrite.seq) items accessor accessor'
-            → AreFirstWritten (Rewriting gate rewrite.seq) (placed_at file.id (length its_bytes) batch) accessor accessor'
-        made_first items accessor' e h = subst (λ (l : List Item). AreFirstWritten (Rewriting gate rewrite.seq) l accessor accessor') (made_placed items e) h

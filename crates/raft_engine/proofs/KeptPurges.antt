@@ -1,38 +1,14 @@
 -- What an engine keeps once it purges files.
-use Rattle.std.proofs.Common.{◌≡◌, ◌≢◌, inl, inr, ℕ, ◌+◌, ◌-◌, ◌≤◌, Bool, true, false, List, [], ◌∷◌, ◌++◌, length, take, refl, sym, ap, ◌∙◌, subst, arith, append_assoc, append-nil}
-use Rattle.std.specs.List.{AllByRecursion}
-use Rattle.raft_base.specs.Signature.{signature_in}
-use Rattle.raft_base.specs.declared.errors.Error.{Error}
-use Rattle.raft_base.specs.declared.pipe_log.LogFileContext.{LogFileContext}
-use Rattle.raft_base.specs.declared.pipe_log.LogQueue.{LogQueue}
-use Rattle.raft_base.specs.declared.pipe_log.LogQueue.TheVariants.{Append, Rewrite}
-use Rattle.raft_base.specs.declared.pipe_log.Version.{Version}
-use Rattle.raft_records.proofs.FrameLemmas.{log_batch_length}
-use Rattle.raft_records.specs.Item.{Item}
-use Rattle.raft_records.specs.LogBatch.{Batch, empty_batch, encoded, encoded_length}
-use Rattle.raft_history.specs.RegionSteps.{Tables}
-use Rattle.raft_accessor.specs.Accessor.{Accessor}
-use Rattle.raft_files.specs.Asks.{Ask, MayBeAsked, NoSyncFailed, Sync, Unsynced, acts_on, ask}
-use Rattle.raft_files.specs.Disk.{begun, deletions}
-use Rattle.raft_engine_prefixes.specs.Done.{AreRisingFrom, numbers}
-use Rattle.raft_engine_laws.specs.Telling.{TakeAway}
-use Rattle.raft_engine.specs.BatchBytes.{bytes_for}
-use Rattle.raft_engine.specs.KeptEngine.{IsLastFile, KeptEngine}
-use Rattle.raft_engine.specs.KeptEngineView.{AreFilesOf, IsKeptBy}
-use Rattle.raft_engine.specs.Lasting.{AreSynced}
-use Rattle.raft_engine.specs.Moved.{IsReady, IsTold, IsUntold}
-use Rattle.raft_engine.specs.Purged.{AreExpired, AreFilesPurged, AreFilesUnpurged, AreSomeDeleted, IsExpired, IsHalfPurged, IsLeastNeeded, asks_of_items, delete_asks, front_below, purge_asks, put_asks}
-use Rattle.raft_engine.specs.Purged.{AreDeleted, AreHalfDeleted}
-use Rattle.raft_engine.specs.QueueFilesOf.{IsQueueShorterBy, files_known}
-use Rattle.raft_engine.specs.ReadBack.{IsReadBackAlone}
-use Rattle.raft_engine.specs.Stored.{AreKeptStored, Bases}
-use Rattle.raft_engine.specs.StoredAsks.{DeletionsAreStored, IsWritableBatch, SyncsAreStored, ToldBatchesAreStored}
-use Rattle.raft_engine.specs.WrittenBatch.{AreMissing, IsHalfDone, file_of}
-use Rattle.raft_engine.specs.declared.queue_files.QueueFiles.{QueueFiles}
+use Rattle.raft_engine.proofs.Common.{◌≡◌, ◌≢◌, inl, inr, ℕ, ◌+◌, ◌≤◌, Bool, true, false, List, [], ◌∷◌, ◌++◌, length, take, refl, sym, ap, ◌∙◌, subst, arith, append_assoc, AllByRecursion, signature_in, Error, LogFileContext, LogQueue, Append, Rewrite, Version, log_batch_length}
+use Rattle.raft_engine.proofs.Common.{Item, Batch, empty_batch, encoded, encoded_length, Tables, Accessor, Ask, NoSyncFailed, Sync, acts_on, ask, begun, deletions, AreRisingFrom, numbers, TakeAway, bytes_for, IsLastFile, KeptEngine, AreFilesOf, IsKeptBy, AreSynced, IsReady}
+use Rattle.raft_engine.proofs.Common.{IsTold, IsUntold, AreExpired, AreFilesPurged, AreFilesUnpurged, IsExpired, IsHalfPurged, IsLeastNeeded, asks_of_items, delete_asks, front_below, purge_asks, put_asks, AreDeleted, IsQueueShorterBy, files_known, IsReadBackAlone, AreKeptStored}
+use Rattle.raft_engine.proofs.Common.{Bases, DeletionsAreStored, IsWritableBatch, SyncsAreStored, ToldBatchesAreStored, file_of, QueueFiles, IsBroken, IsBrokenTelling, Failures}
 use Rattle.raft_engine.proofs.FilesLemmas.{files_same, files_told}
 use Rattle.raft_engine.proofs.ReadBackLemmas.{append_deletes_begun, rewrite_deletes_begun, same_read_back}
-use Rattle.raft_engine.proofs.PurgeLemmas.{all_deleted, append_deletes_others, are_expired, closed_expired, closed_few, delete_fewer, few_expired, files_deleted, rewrite_deletes_others, take_fewer}
-use Rattle.raft_engine.proofs.AskedLemmas.{more_missing, sync_missing}
+use Rattle.raft_engine.proofs.PurgeLemmas.{all_deleted, append_deletes_others, are_expired, closed_expired, closed_few, few_expired, files_deleted, rewrite_deletes_others, take_fewer}
+use Rattle.raft_engine.proofs.AskedLemmas.{more_failed, part_failed}
+use Rattle.raft_engine.proofs.BrokenLemmas.{AreEver, AreSafe, deletes_ever, more_ever}
+use Rattle.raft_engine.proofs.KeptLemmas.{synced_ever}
 use Rattle.raft_engine.proofs.TrustLemmas.{delete_unfailed, unfailed_trusted}
 
 -- a file of the rewrite queue
@@ -103,7 +79,7 @@ its_expired queue version asks append rewrite untold accessor intact k is_intact
     rising Append = k.stored.now.append_done.done.done.rising
     rising Rewrite = k.stored.now.rewrite_done.done.done.rising
 
--- so many asks of a purge that are half done go on from those of a telling, or stand in it
+-- what is asked of a purge stands in the telling, or goes on from it
 module _ (queue : LogQueue) (count : ℕ) (old : KeptEngine) (expired : AreExpired queue old count) (some : count ≢ 0) where
   abbrev rest : List Ask
   rest = delete_asks queue count ++ ask Rewrite Sync ∷ []
@@ -114,50 +90,34 @@ module _ (queue : LogQueue) (count : ℕ) (old : KeptEngine) (expired : AreExpir
   parts : (seq : ℕ) → purge_asks queue (file_of Rewrite old seq) old.untold count ≡ rest ++ telling seq
   parts seq = sym (append_assoc (delete_asks queue count) (ask Rewrite Sync ∷ []) (telling seq))
 
-  half_by : (seq : ℕ) (bytes : List ℕ) → IsLastFile Rewrite old.asks seq bytes → (new : KeptEngine) → IsHalfDone (rest ++ telling seq) old new → IsHalfPurged queue old new
-  half_by seq bytes last new half = record {
-    count = count;
-    some = omega (arith, some);
-    expired = expired;
-    seq = seq;
-    bytes = bytes;
-    last = last;
-    half = subst (λ (l : List Ask). IsHalfDone l old new) (sym (parts seq)) half;
-  }
+  module _ {MayFail : Failures} where
+    half_by : (seq : ℕ) (bytes : List ℕ) → IsLastFile Rewrite old.asks seq bytes → (new : KeptEngine) (e : Error) → IsBrokenTelling MayFail (rest ++ telling seq) old new e → IsHalfPurged MayFail queue old new e
+    half_by seq bytes last new e broken = record {
+      count = count;
+      some = omega (arith, some);
+      expired = expired;
+      seq = seq;
+      bytes = bytes;
+      last = last;
+      broken = subst (λ (l : List Ask). IsBrokenTelling MayFail l old new e) (sym (parts seq)) broken;
+    }
 
-  -- where telling fails, the purge does
-  pub untold_unpurged : (new : KeptEngine) (e : Error) → IsUntold old new e → AreFilesUnpurged queue old new e
-  untold_unpurged new e (inl h) = inl (h.0, h.1, λ full. (count, expired, omega (arith, some)))
-  untold_unpurged new e (inr h) = let half = h.half.half in inr (half_by h.seq h.bytes h.last new (record {
-    half = record {
-      was = half.was;
-      is = half.is;
-      same = half.same;
-      missing = rest ++ half.missing;
-      made = half.made;
-      split = ap (λ (l : List Ask). rest ++ l) half.split ∙ sym (append_assoc rest half.missing half.made);
-      asked = more_missing rest half.missing (half.made ++ old.asks) new.asks half.asked;
-    };
-    tables = h.half.tables;
-  }))
+    -- where telling fails, the purge does
+    pub untold_unpurged : (new : KeptEngine) (e : Error) → IsUntold MayFail old new e → AreFilesUnpurged MayFail queue old new e
+    untold_unpurged new e (inl h) = inl (h.0, h.1, λ full. (count, expired, omega (arith, some)))
+    untold_unpurged new e (inr h) = inr (half_by h.seq h.bytes h.last new e
+        (record { was = h.broken.was; failed = part_failed MayFail rest (telling h.seq) old.asks new.asks e h.broken.failed; others = h.broken.others }))
 
   -- once all is told
   module _ (told : KeptEngine) (t : IsTold old told) where
     told_asks : told.asks ≡ telling t.seq ++ old.asks
     told_asks = ap (λ (o : KeptEngine). o.asks) t.told ∙ sym (append_assoc (put_asks (file_of Rewrite old t.seq) old.untold) (ask Append Sync ∷ []) old.asks)
 
-    pub told_half : (new : KeptEngine) → AreHalfDeleted queue count told new → IsHalfPurged queue old new
-    told_half new h = let half = h.half in half_by t.seq t.bytes t.last new (record {
-      half = record {
-        was = ap (λ (o : KeptEngine). o.intact) (sym t.told) ∙ half.was;
-        is = half.is;
-        same = half.same ∙ ap (λ (o : KeptEngine). o.version) t.told;
-        missing = half.missing;
-        made = half.made ++ telling t.seq;
-        split = ap (λ (l : List Ask). l ++ telling t.seq) half.split ∙ append_assoc half.missing half.made (telling t.seq);
-        asked = subst (λ (l : List Ask). AreMissing half.missing l new.asks) (ap (λ (l : List Ask). half.made ++ l) told_asks ∙ sym (append_assoc half.made (telling t.seq) old.asks)) half.asked;
-      };
-      tables = h.tables ∙ ap (λ (o : KeptEngine). o.accessor) t.told;
+    pub told_half : {MayFail : Failures} (new : KeptEngine) (e : Error) → IsBroken MayFail rest told new e → IsHalfPurged MayFail queue old new e
+    told_half {MayFail} new e b = half_by t.seq t.bytes t.last new e (record {
+      was = ap (λ (o : KeptEngine). o.intact) (sym t.told) ∙ b.was;
+      failed = more_failed MayFail rest (telling t.seq) old.asks told.asks new.asks e told_asks b.failed;
+      others = ap (λ (o : KeptEngine). record o { untold = old.untold }) b.others ∙ ap (λ (o : KeptEngine). record o { asks = new.asks; untold = old.untold; intact = false }) t.told;
     })
 
     pub told_purged : (new : KeptEngine) → AreDeleted queue count told new → AreFilesPurged queue count old new
@@ -250,34 +210,14 @@ module _
       all_deleted queue (deleted queue) version k.base k.tables made one f.gone f.closed (files.seq, f.bytes) ready.synced tt (same.0 ∙ f.are) (same.1 ∙ f.deleted)
       (take_fewer (IsExpired queue k.tables) made count (numbers f.closed) low all_expired) (omega (arith, low, fits)) stored_one
 
-  -- ---- where it fails
-
-  half_deleted : (new missing made : List Ask) → delete_asks queue count ++ (ask Rewrite Sync ∷ []) ≡ missing ++ made → AreMissing missing (made ++ asks) new → AreHalfDeleted queue count engine (record engine { asks = new; intact = false })
-  half_deleted new missing made split asked = record { half = record { was = ready.intact; is = refl; same = refl; missing = missing; made = made; split = split; asked = asked }; tables = refl }
-
-  -- not even the sync was asked, or it failed
-  pub none_half : (new : List Ask) → MayBeAsked (ask Rewrite Unsynced) asks new → AreHalfDeleted queue count engine (record engine { asks = new; intact = false })
-  none_half new may = half_deleted new (delete_asks queue count ++ (ask Rewrite Sync ∷ [])) [] (sym (append-nil _)) (sync_missing Rewrite (delete_asks queue count) asks new may)
+  -- each first part of it is stored
+  pub deleted_ever : AreEver (AreSafe version) (delete_asks queue count ++ ask Rewrite Sync ∷ []) asks
+  deleted_ever =
+      more_ever (AreSafe version) (delete_asks queue count) (ask Rewrite Sync ∷ []) asks
+      (deletes_ever (AreSafe version) queue count one (λ m low. record { base = k.base; untold = []; tables = k.tables; stored = stored_deleted m low; none = delete_unfailed queue m one one_unfailed }))
+      (synced_ever version asks append rewrite untold accessor intact k synced ready.intact Rewrite)
 
   module _ (first : List Ask) (is_first : first ≡ one) where
-    -- some files were deleted
-    pub some_broken : (new : List Ask) (append' rewrite' : QueueFiles) (untold' : Batch) (accessor' : Accessor) → AreSomeDeleted queue count first new → IsKeptBy version new append' rewrite' untold' accessor' false
-    some_broken new append' rewrite' untold' accessor' d = record {
-      base = k.base;
-      untold = [];
-      tables = k.tables;
-      stored = subst (λ (l : List Ask). AreKeptStored version l k.base [] k.tables) (sym (d.asked ∙ ap (λ (l : List Ask). delete_asks queue d.made ++ l) is_first)) (stored_deleted d.made d.at_most);
-      trusted = unfailed_trusted new (subst NoSyncFailed (sym (d.asked ∙ ap (λ (l : List Ask). delete_asks queue d.made ++ l) is_first)) (delete_unfailed queue d.made one one_unfailed));
-      whole = λ no. absurd cc;
-    }
-
-    pub some_half : (new : List Ask) → AreSomeDeleted queue count first new → AreHalfDeleted queue count engine (record engine { asks = new; intact = false })
-    some_half new d =
-        let last : List Ask = ask Rewrite Sync ∷ [] in
-        half_deleted new (delete_asks queue (count - d.made)) (delete_asks queue d.made ++ last)
-        (ap (λ (l : List Ask). l ++ last) (delete_fewer queue d.made count d.at_most) ∙ append_assoc (delete_asks queue (count - d.made)) (delete_asks queue d.made) last)
-        (inl (d.asked ∙ ap (λ (l : List Ask). delete_asks queue d.made ++ l) is_first ∙ sym (append_assoc (delete_asks queue d.made) last asks)))
-
     -- ---- where it succeeds
 
     module _ (new : List Ask) (is_new : new ≡ delete_asks queue count ++ first) where

@@ -1,27 +1,11 @@
 -- What an engine keeps once it tells the rewrite queue what is untold.
-use Rattle.std.proofs.Common.{◌≡◌, ◌≢◌, ◌⊎◌, inl, inr, ℕ, ◌+◌, Bool, true, false, List, [], ◌∷◌, ◌++◌, refl, sym, ap, ◌∙◌, subst, append_assoc, append-nil}
-use Rattle.raft_base.specs.declared.pipe_log.LogFileContext.{LogFileContext}
-use Rattle.raft_base.specs.declared.pipe_log.LogQueue.TheVariants.{Append, Rewrite}
-use Rattle.raft_base.specs.declared.pipe_log.Version.{Version}
-use Rattle.raft_records.specs.Item.{Item}
-use Rattle.raft_records.specs.LogBatch.{Batch, empty_batch, encoded, encoded_length}
-use Rattle.raft_accessor.specs.Accessor.{Accessor}
-use Rattle.raft_files.specs.Asks.{Ask, MayBeAsked, NoSyncFailed, Sync, Unsynced, ask}
-use Rattle.raft_engine.specs.WrittenBatch.{AreMissing}
-use Rattle.raft_files.specs.Disk.{begun, deletions}
-use Rattle.raft_engine_laws.specs.Telling.{TakeAway}
-use Rattle.raft_engine.specs.KeptEngine.{IsLastFile, KeptEngine}
-use Rattle.raft_engine.specs.KeptEngineView.{AreFilesOf, IsKeptBy}
-use Rattle.raft_engine.specs.Moved.{IsHalfTold, IsTold}
-use Rattle.raft_engine.specs.Purged.{put_asks}
-use Rattle.raft_engine.specs.Stored.{AreKeptStored}
-use Rattle.raft_engine.specs.StoredAsks.{IsWritableBatch, SyncsAreStored, ToldBatchesAreStored}
-use Rattle.raft_engine.specs.declared.queue_files.QueueFiles.{QueueFiles}
+use Rattle.raft_engine.proofs.Common.{◌≡◌, ◌≢◌, ℕ, ◌+◌, Bool, true, false, List, [], ◌∷◌, ◌++◌, refl, sym, ap, ◌∙◌, subst, LogFileContext, Append, Rewrite, Version, Item, Batch, empty_batch, encoded, encoded_length, Accessor, Ask, NoSyncFailed, Sync, ask, begun, deletions}
+use Rattle.raft_engine.proofs.Common.{TakeAway, IsLastFile, KeptEngine, AreFilesOf, IsKeptBy, IsHalfTold, IsTold, put_asks, AreKeptStored, IsWritableBatch, SyncsAreStored, ToldBatchesAreStored, QueueFiles, IsReadBackAlone, Error, Failures, FailsAmong}
 use Rattle.raft_engine.proofs.FilesLemmas.{files_last, files_same}
-use Rattle.raft_engine.specs.ReadBack.{IsReadBackAlone}
 use Rattle.raft_engine.proofs.ReadBackLemmas.{same_read_back, told_read_back}
 use Rattle.raft_engine.proofs.KeptPurges.{items_made, items_others, rewrite_file, told_files, told_stored}
-use Rattle.raft_engine.proofs.AskedLemmas.{sync_missing}
+use Rattle.raft_engine.proofs.BrokenLemmas.{AreEver, AreSafe, more_ever, put_ever}
+use Rattle.raft_engine.proofs.KeptLemmas.{safe_now}
 use Rattle.raft_engine.proofs.TrustLemmas.{put_unfailed, unfailed_trusted}
 
 module _
@@ -55,45 +39,35 @@ module _
       told_stored told version one k.base k.tables rewrite.seq _ untold tt (record { closed = its_last.closed; files = its_last.files }) writable
       (subst TakeAway (sym same_items) (k.whole is_intact).take_away) stored_one
 
-  broken : (new : List Ask) (append' rewrite' : QueueFiles) (untold' : Batch) (accessor' : Accessor) (items : List Item) → AreKeptStored version new k.base items k.tables → NoSyncFailed new
-      → IsKeptBy version new append' rewrite' untold' accessor' false
-  broken new append' rewrite' untold' accessor' items s none = record { base = k.base; untold = items; tables = k.tables; stored = s; trusted = unfailed_trusted new none; whole = λ no. absurd cc }
-
   one_unfailed : NoSyncFailed one
   one_unfailed = (tt, (k.whole is_intact).unfailed)
 
   two_unfailed : NoSyncFailed two
   two_unfailed = put_unfailed file untold one one_unfailed
 
-  half_by : (new : List Ask) (untold' : Batch) (missing made : List Ask) → put_asks file untold ++ ask Append Sync ∷ [] ≡ missing ++ made → AreMissing missing (made ++ asks) new
-      → IsHalfTold engine (record { version = version; asks = new; untold = untold'; accessor = accessor; intact = false })
-  half_by new untold' missing made split asked = record {
+  -- each first part of it is stored
+  pub told_ever : AreEver (AreSafe version) (put_asks file untold ++ ask Append Sync ∷ []) asks
+  told_ever =
+      let safe_one : AreSafe version one = record { base = k.base; untold = untold.items; tables = k.tables; stored = stored_one; none = one_unfailed } in
+      let safe_two : AreSafe version two = record { base = k.base; untold = []; tables = k.tables; stored = stored_two; none = two_unfailed } in
+      more_ever (AreSafe version) (put_asks file untold) (ask Append Sync ∷ []) asks
+      (put_ever (AreSafe version) file untold untold.items one safe_two safe_one) (safe_one, safe_now version asks append rewrite untold accessor intact k is_intact)
+
+  -- the files failed in the midst of it
+  pub half_told : (MayFail : Failures) (new : List Ask) (untold' : Batch) (e : Error) → FailsAmong MayFail (put_asks file untold ++ ask Append Sync ∷ []) asks new e
+      → IsHalfTold MayFail engine (record { version = version; asks = new; untold = untold'; accessor = accessor; intact = false }) e
+  half_told MayFail new untold' e f = record {
     seq = rewrite.seq;
     bytes = (k.whole is_intact).rewrite_files.bytes;
     last = its_last;
-    half = record { half = record { was = is_intact; is = refl; same = refl; missing = missing; made = made; split = split; asked = asked }; tables = refl };
+    broken = record { was = is_intact; failed = f; others = refl };
   }
-
-  -- not even the sync was asked, or it failed
-  pub none_told : (new : List Ask) (untold' : Batch) → MayBeAsked (ask Append Unsynced) asks new → IsHalfTold engine (record { version = version; asks = new; untold = untold'; accessor = accessor; intact = false })
-  none_told new untold' may = half_by new untold' (put_asks file untold ++ ask Append Sync ∷ []) [] (sym (append-nil _)) (sync_missing Append (put_asks file untold) asks new may)
 
   module _ (context : LogFileContext) (is_file : context ≡ rewrite_file version rewrite.seq) (made : Batch) (is_made : made ≡ record untold { stage = encoded }) (first : List Ask) (is_first : first ≡ one) where
     put_made : put_asks context made ++ first ≡ two
     put_made =
         ap (λ (f : LogFileContext). put_asks f made ++ first) is_file ∙ ap (λ (b : Batch). put_asks file b ++ first) is_made
         ∙ ap (λ (puts : List Ask). puts ++ first) (items_made file untold untold.items) ∙ ap (λ (l : List Ask). put_asks file untold ++ l) is_first
-
-    -- what is untold was put or not
-    pub tell_broken : (new : List Ask) (append' rewrite' : QueueFiles) (untold' : Batch) (accessor' : Accessor) → (new ≡ first) ⊎ (new ≡ put_asks context made ++ first) → IsKeptBy version new append' rewrite' untold' accessor' false
-    tell_broken new append' rewrite' untold' accessor' (inl e) =
-        broken new append' rewrite' untold' accessor' untold.items (subst (λ (l : List Ask). AreKeptStored version l k.base untold.items k.tables) (sym (e ∙ is_first)) stored_one) (subst NoSyncFailed (sym (e ∙ is_first)) one_unfailed)
-    tell_broken new append' rewrite' untold' accessor' (inr e) =
-        broken new append' rewrite' untold' accessor' [] (subst (λ (l : List Ask). AreKeptStored version l k.base [] k.tables) (sym (e ∙ put_made)) stored_two) (subst NoSyncFailed (sym (e ∙ put_made)) two_unfailed)
-
-    pub half_told : (new : List Ask) (untold' : Batch) → (new ≡ first) ⊎ (new ≡ put_asks context made ++ first) → IsHalfTold engine (record { version = version; asks = new; untold = untold'; accessor = accessor; intact = false })
-    half_told new untold' (inl e) = half_by new untold' (put_asks file untold) (ask Append Sync ∷ []) refl (inl (e ∙ is_first))
-    half_told new untold' (inr e) = half_by new untold' [] (put_asks file untold ++ ask Append Sync ∷ []) refl (inl (e ∙ put_made ∙ sym (append_assoc (put_asks file untold) (ask Append Sync ∷ []) asks)))
 
     module _ (second : List Ask) (is_second : second ≡ put_asks context made ++ first) (untold' : Batch) (emptied : untold' ≡ empty_batch) where
       are_two : second ≡ two

@@ -1,29 +1,11 @@
 -- What is done to both queues lasts.
-use Rattle.std.proofs.Common.{◌≡◌, inl, inr, List, [], ◌∷◌, ◌++◌, refl, sym, ap, ◌∙◌, subst, append_assoc, append-nil}
-use Rattle.raft_base.specs.declared.pipe_log.LogQueue.{LogQueue}
-use Rattle.raft_base.specs.declared.pipe_log.LogQueue.TheVariants.{Append, Rewrite}
-use Rattle.raft_base.specs.declared.pipe_log.Version.{Version}
-use Rattle.raft_history.specs.Batches.{Event}
+use Rattle.raft_engine.proofs.Common.{◌≡◌, inl, inr, List, [], ◌∷◌, ◌++◌, refl, sym, ap, ◌∙◌, subst, append_assoc, append-nil, LogQueue, Append, Rewrite, Version, Event, Act, Ask, Begin, Cut, Found, NumberedBytes, Put, Read, Sync, Unsynced, acts_on, begun, IsLeftOf, Deed, Write}
+use Rattle.raft_engine.proofs.Common.{Crash, in_files_from, written, FilesEndWithin, FoundEndWithin, ArePut, IsPrefixWith, left_within, AreUndamaged, FilesHoldTorn, FoundUndamaged, one_reading, whole_torn, left_undamaged, IsUnforgedLeftOf, AreTold, AreToldByFiles, AreDone}
+use Rattle.raft_engine.proofs.Common.{HoldLeft, AreCut, BatchesJoin, AreSynced, before_sync, WhatIsDoneLasts, rows_left}
 use Rattle.raft_files.specs.Asks as asks
-use Rattle.raft_files.specs.Asks.{Act, Ask, Begin, Cut, Found, NumberedBytes, Put, Read, Sync, Unsynced, acts_on}
-use Rattle.raft_files.specs.Disk.{begun, IsLeftOf}
 use Rattle.raft_engine_laws.specs.Crashes as queue_deeds
-use Rattle.raft_engine_laws.specs.Crashes.{Deed, Write, Delete, Crash, in_files_from, written, MayStand}
-use Rattle.raft_engine_prefixes.specs.EntryPlaces.{FilesEndWithin, FoundEndWithin}
-use Rattle.raft_engine_prefixes.specs.Prefixes.{ArePut, IsPrefixWith}
-use Rattle.raft_engine_prefixes.proofs.EndLemmas.{left_within}
-use Rattle.raft_engine_prefixes.specs.TornTails.{AreUndamaged, FilesHoldTorn, FoundUndamaged}
-use Rattle.raft_engine_prefixes.proofs.TornLemmas.{one_reading, whole_torn}
-use Rattle.raft_engine_prefixes.proofs.UndamagedLemmas.{left_undamaged}
-use Rattle.raft_engine_prefixes.specs.AnyTails.{IsUnforgedLeftOf}
-use Rattle.raft_engine_prefixes.specs.Contents.{AreTold, AreToldByFiles}
-use Rattle.raft_engine_prefixes.specs.Done.{AreDone, HoldLeft}
-use Rattle.raft_engine.specs.CutFiles.{AreCut}
-use Rattle.raft_engine.specs.JoinedFiles.{BatchesJoin}
-use Rattle.raft_engine.specs.Lasting.{AreSynced, before_sync}
-use Rattle.raft_engine.specs.StoredAsks.{WhatIsDoneLasts}
+use Rattle.raft_engine_laws.specs.Crashes.{Delete, MayStand}
 use Rattle.raft_engine.proofs.LeftBytes.{left_tells}
-use Rattle.raft_engine_laws.proofs.InRows.{rows_left}
 use Rattle.raft_engine.proofs.OfVersionLemmas.{left_not_other}
 use Rattle.raft_engine.proofs.SealedLemmas.{left_sound}
 use Rattle.raft_engine.proofs.WholeLemmas.{whole_of}

@@ -1,27 +1,8 @@
 -- What is left of files, once they are cut where reading stops, has the bytes that were put.
-use Rattle.std.proofs.Common.{◌≡◌, inl, inr, ℕ, ◌≤◌, List, [], ◌∷◌, ◌++◌, length, take, drop, None, Some, refl, sym, ap, ◌∙◌, subst, arith, append_assoc, length-append, length-drop}
-use Rattle.std.proofs.lemmas.List.{append_cancel_left, drop-append-le, drop_all, length-take, length-take-le, take-append-drop, take-append-le, take-take}
-use Rattle.raft_base.specs.declared.entry_index.EntryIndex.{EntryIndex}
-use Rattle.raft_base.specs.declared.pipe_log.LogQueue.{LogQueue}
-use Rattle.raft_base.specs.declared.pipe_log.Version.{Version}
-use Rattle.raft_records.specs.FilePart.{AreBatchesUpTo, Part, StandBetween}
-use Rattle.raft_records.specs.Item.{Item}
-use Rattle.raft_records.proofs.PartLemmas.{batch_inside}
-use Rattle.raft_history.specs.Batches.{Event}
-use Rattle.raft_files.specs.Asks.{Act, Ask, Begin, Cut, Delete, Found, NumberedBytes, Put, Read, Sync, Unsynced, acts_on}
-use Rattle.raft_files.specs.Disk.{IsLeftOf, MayStand, begun, cut_last, put_behind}
-use Rattle.raft_files.proofs.HeldLemmas.{length_on_last}
-use Rattle.raft_files.proofs.LastLemmas.{last_of}
-use Rattle.raft_replay.specs.Stops.{IsUnreadableAt}
-use Rattle.raft_replay.proofs.SegmentLemmas.{batch_none, batch_unique, part_unique}
-use Rattle.raft_recover.specs.Files.{whole_file}
-use Rattle.raft_engine_prefixes.specs.Contents.{AreToldByFiles}
-use Rattle.raft_engine_prefixes.specs.Done.{AreRisingFrom, numbers}
-use Rattle.raft_engine_prefixes.specs.Prefixes.{ArePut}
-use Rattle.raft_engine_prefixes.specs.TornTails.{FilesHoldTorn, HoldsTornFrom}
-use Rattle.raft_engine_prefixes.proofs.PrefixLemmas.{all_held}
-use Rattle.raft_engine_prefixes.proofs.TornLemmas.{items_of, more_torn, stand_up_to, stands_as, with_all}
-use Rattle.raft_engine.specs.CutFiles.{AreCut, IsLastCut}
+use Rattle.raft_engine.proofs.Common.{◌≡◌, inl, inr, ℕ, ◌≤◌, List, [], ◌∷◌, ◌++◌, length, take, drop, None, Some, refl, sym, ap, ◌∙◌, subst, arith, append_assoc, length-append, length-drop, append_cancel_left, drop-append-le, drop_all, length-take, length-take-le}
+use Rattle.raft_engine.proofs.Common.{take-append-drop, take-append-le, take-take, EntryIndex, LogQueue, Version, AreBatchesUpTo, Part, StandBetween, Item, batch_inside, Event, Act, Ask, Begin, Cut, Delete, Found, NumberedBytes, Put, Read, Sync, Unsynced, acts_on, IsLeftOf}
+use Rattle.raft_engine.proofs.Common.{MayStand, begun, cut_last, put_behind, length_on_last, last_of, IsUnreadableAt, batch_none, batch_unique, part_unique, whole_file, AreToldByFiles, AreRisingFrom, numbers, ArePut, FilesHoldTorn, HoldsTornFrom, all_held, items_of, more_torn}
+use Rattle.raft_engine.proofs.Common.{stand_up_to, stands_as, with_all, AreCut, IsLastCut}
 use Rattle.raft_engine.proofs.PrefixFiles.{ArePrefixes, at_prefixes, at_later, prefixes_begun, prefixes_cut, prefixes_drop, prefixes_of_cut, prefixes_of_put, prefixes_put, prefixes_self}
 
 -- ---- batches that stand in a part

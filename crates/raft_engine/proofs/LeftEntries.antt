@@ -1,14 +1,6 @@
 -- What a batch that moves records of a region leaves of them.
-use Rattle.std.proofs.Common.{◌≡◌, ◌≢◌, ℕ, List, [], ◌++◌, length, Option, Some, None, refl, sym, ap, subst, ◌∙◌}
+use Rattle.raft_engine.proofs.Common.{◌≡◌, ◌≢◌, ℕ, List, [], ◌++◌, length, Option, Some, None, refl, sym, ap, subst, ◌∙◌, EntryIndex, IsConsecutive, Tables, Table, AreTableEntries, KeptEngine, AreToMove, IsBatchMoved, IsNextPart, moving_entries}
 use Rattle.std.specs.FinMap as finite
-use Rattle.raft_base.specs.declared.entry_index.EntryIndex.{EntryIndex}
-use Rattle.raft_base.specs.Runs.{IsConsecutive}
-use Rattle.raft_history.specs.RegionSteps.{Tables}
-use Rattle.raft_table.specs.Table.{Table}
-use Rattle.raft_table.specs.TableEntries.{AreTableEntries}
-use Rattle.raft_engine.specs.KeptEngine.{KeptEngine}
-use Rattle.raft_engine.specs.Moved.{AreToMove, IsBatchMoved}
-use Rattle.raft_engine.specs.Rewriting.{IsNextPart, moving_entries}
 use Rattle.raft_engine.proofs.FetchedLemmas.{fetched_consecutive}
 use Rattle.raft_engine.proofs.MovingPuts.{batch_taken}
 use Rattle.raft_engine.proofs.PartLemmas.{part_consecutive}

@@ -1,3 +1,5 @@
+mod Common
+mod BrokenLemmas
 mod RefusedLemmas
 pub mod FoundLemmas
 pub mod FileNumbers
@@ -74,7 +76,7 @@ mod ReadBackLemmas
 mod AloneLemmas
 mod RoundTripLemmas
 mod FaultLemmas
-mod MovingFaultLemmas
+mod UntakenLemmas
 mod MomentLemmas
 mod EntryLemmas
 mod LifeLemmas

@@ -1,30 +1,8 @@
 -- What one life of an engine leaves, and what the next ones find of it.
-use Rattle.std.proofs.Common.{◌≡◌, ℕ, zero, suc, ◌<◌, ◌≤◌, Bool, true, false, cond, List, [], ◌∷◌, ◌++◌, length, take, filter, map, inl, inr, refl, sym, ap, ◌∙◌, subst, arith}
-use Rattle.std.specs.List.{AllByRecursion}
-use Rattle.std.proofs.lemmas.Bool.{cases_lt}
-use Rattle.std.proofs.lemmas.List.{nil_from_length}
-use Rattle.raft_base.specs.declared.pipe_log.LogQueue.{LogQueue}
-use Rattle.raft_base.specs.declared.pipe_log.LogQueue.TheVariants.{Append, Rewrite}
-use Rattle.raft_base.specs.declared.pipe_log.Version.{Version}
-use Rattle.raft_history.specs.Batches.{Event}
-use Rattle.raft_history.proofs.EffectLemmas.{each_weaker}
-use Rattle.raft_files.specs.Asks.{Act, Ask, Begin, Cut, Delete, Found, NumberedBytes, Put, Read, Sync, Unsynced, acts_on, ask, is_same_queue}
-use Rattle.raft_files.specs.Disk.{begun, deletions}
-use Rattle.raft_engine_laws.specs.Crashes.{in_files_from}
-use Rattle.raft_engine_laws.proofs.CrashLemmas.{from_none}
-use Rattle.raft_engine_prefixes.specs.Done.{numbers}
-use Rattle.raft_engine_prefixes.specs.EntryPlaces.{FoundEndWithin}
-use Rattle.raft_engine_prefixes.specs.Prefixes.{AreFirstOf, GoesOn, HoldRestOfPrefix}
-use Rattle.raft_engine_prefixes.specs.TornTails.{FilesHoldTorn}
-use Rattle.raft_engine_prefixes.proofs.EventLemmas.{files_low, from_both}
-use Rattle.raft_engine_prefixes.proofs.PrefixLemmas.{all_front}
-use Rattle.raft_engine_prefixes.proofs.RestLemmas.{rest_left}
-use Rattle.raft_engine_prefixes.proofs.TornLemmas.{one_reading}
-use Rattle.raft_engine.specs.Lasting.{HaveBothBegun, IsLastingAfter}
-use Rattle.raft_engine.specs.Lives.{EntriesAreFound, FollowEachOther, IsFirstLife, IsNextLife, Life, SyncedStaysSynced, WhatLastsIsALife, WrittenEntriesAreFound, at_stop}
-use Rattle.raft_engine.specs.Moments.{FindNoFiles}
-use Rattle.raft_engine.specs.Restarts.{FoundEntriesStay}
-use Rattle.raft_engine.specs.StoredFound.{found_asks}
+use Rattle.raft_engine.proofs.Common.{◌≡◌, ℕ, zero, suc, ◌<◌, ◌≤◌, Bool, true, false, cond, List, [], ◌∷◌, ◌++◌, length, take, filter, map, inl, inr, refl, sym, ap, ◌∙◌, subst, arith, AllByRecursion, cases_lt, nil_from_length, LogQueue, Append, Rewrite, Version, Event}
+use Rattle.raft_engine.proofs.Common.{each_weaker, Act, Ask, Begin, Cut, Delete, Found, NumberedBytes, Put, Read, Sync, Unsynced, acts_on, ask, is_same_queue, begun, deletions, in_files_from, from_none, numbers, FoundEndWithin, AreFirstOf, GoesOn, HoldRestOfPrefix, FilesHoldTorn}
+use Rattle.raft_engine.proofs.Common.{files_low, from_both, all_front, rest_left, one_reading, HaveBothBegun, IsLastingAfter, EntriesAreFound, FollowEachOther, IsFirstLife, IsNextLife, Life, SyncedStaysSynced, WhatLastsIsALife, WrittenEntriesAreFound, at_stop, FindNoFiles}
+use Rattle.raft_engine.proofs.Common.{FoundEntriesStay, found_asks}
 use Rattle.raft_engine.proofs.MomentLemmas.{first_begun, first_first, moments_of}
 
 pub what_lasts : WhatLastsIsALife

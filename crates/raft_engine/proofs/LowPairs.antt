@@ -1,26 +1,7 @@
 -- The rewritten pairs of kept tables are in files up to the last one.
-use Rattle.std.proofs.Common.{◌≡◌, ℕ, suc, ◌<◌, ◌≤◌, Bool, true, false, cond, List, [], ◌∷◌, Some, sym, ap, ◌∙◌, arith}
-use Rattle.std.specs.Prelude.{filter}
+use Rattle.raft_engine.proofs.Common.{◌≡◌, ℕ, suc, ◌<◌, ◌≤◌, Bool, true, false, cond, List, [], ◌∷◌, Some, sym, ap, ◌∙◌, arith, filter, EntryIndex, LogQueue, Rewrite, Stored, table_of, last_pair_stands, Event, batches, steps_of, FilesFrom, last_from, Tables, own_none}
+use Rattle.raft_engine.proofs.Common.{AreFilesBelow, AreKept, Records, pair_left, Deed, IsSafe, deleted, in_files_from, written, steps_below, pair_below, all_gone, keeps}
 use Rattle.std.specs.FinMap as finite
-use Rattle.raft_base.specs.declared.entry_index.EntryIndex.{EntryIndex}
-use Rattle.raft_base.specs.declared.pipe_log.LogQueue.{LogQueue}
-use Rattle.raft_base.specs.declared.pipe_log.LogQueue.TheVariants.{Rewrite}
-use Rattle.raft_table.specs.KeyValues.{Stored}
-use Rattle.raft_table.specs.Steps.{table_of}
-use Rattle.raft_table.proofs.LastWordLemmas.{last_pair_stands}
-use Rattle.raft_history.specs.Batches.{Event, batches}
-use Rattle.raft_history.specs.Effects.{steps_of}
-use Rattle.raft_history.specs.Histories.{FilesFrom, last_from}
-use Rattle.raft_history.specs.RegionSteps.{Tables}
-use Rattle.raft_history.proofs.StepListLemmas.{own_none}
-use Rattle.raft_engine_laws.specs.DeletedFiles.{AreFilesBelow}
-use Rattle.raft_engine_laws.specs.KeptTables.{AreKept}
-use Rattle.raft_engine_laws.specs.Records.{Records}
-use Rattle.raft_engine_laws.specs.Speaking.{pair_left}
-use Rattle.raft_engine_laws.specs.Crashes.{Deed, IsSafe, deleted, in_files_from, written}
-use Rattle.raft_engine_laws.proofs.FileSteps.{steps_below}
-use Rattle.raft_engine_laws.proofs.LowEntries.{pair_below}
-use Rattle.raft_engine_laws.proofs.CrashLemmas.{all_gone, keeps}
 
 -- ---- batches whose last file isn't above a number
 

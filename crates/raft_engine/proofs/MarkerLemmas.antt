@@ -1,16 +1,6 @@
 -- The first group marker of items.
-use Rattle.std.proofs.Common.{◌≡◌, true, false, ℕ, ◌≤◌, List, [], ◌∷◌, Option, Some, None, refl, sym, ap, ◌∙◌, arith}
-use Rattle.std.proofs.lemmas.Bool.{false≢true}
-use Rattle.std.specs.Option.{is_some, option_or}
-use Rattle.raft_base.specs.declared.errors.Error.{Error}
-use Rattle.raft_base.specs.declared.pipe_log.LogQueue.TheVariants.{Rewrite}
-use Rattle.raft_records.specs.Group.{IsGroupMarkerFault, IsGroupMarkerRead, first_marker, marker_of}
-use Rattle.raft_records.specs.Item.{Item}
-use Rattle.raft_records.specs.declared.atomic_group.AtomicGroupStatus.{AtomicGroupStatus}
-use Rattle.raft_records.proofs.GroupLemmas.{marker_is}
-use Rattle.raft_history.specs.Batches.{marker_in}
-use Rattle.raft_history.specs.Histories.{HaveStatus}
-use Rattle.raft_engine.specs.RowsShown.{marker_shown}
+use Rattle.raft_engine.proofs.Common.{◌≡◌, true, false, ℕ, ◌≤◌, List, [], ◌∷◌, Option, Some, None, refl, sym, ap, ◌∙◌, arith, false≢true, is_some, option_or, Error, Rewrite, IsGroupMarkerFault, IsGroupMarkerRead, first_marker, marker_of, Item, AtomicGroupStatus, marker_is}
+use Rattle.raft_engine.proofs.Common.{marker_in, HaveStatus, marker_shown}
 
 -- the first marker of all items is that of those that are left
 pub record IsMarkerAhead (all rest : List Item) : Type 0 where

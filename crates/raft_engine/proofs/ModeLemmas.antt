@@ -1,25 +1,8 @@
 -- What recovery modes accept.
-use Rattle.std.proofs.Common.{◌≡◌, ◌⊎◌, Result, Ok, Err, OnOk, inl, inr, ℕ, ◌<◌, List, [], ◌∷◌, ◌++◌, length, sym, ap, ◌∙◌, subst, arith}
-use Rattle.std.proofs.lemmas.Bool.{cases_lt}
-use Rattle.std.proofs.lemmas.List.{length-drop}
-use Rattle.raft_base.specs.declared.pipe_log.LogQueue.{LogQueue}
-use Rattle.raft_base.specs.declared.pipe_log.LogQueue.TheVariants.{Append, Rewrite}
-use Rattle.raft_base.specs.declared.pipe_log.Version.{Version}
-use Rattle.raft_records.specs.FilePart.{Part}
-use Rattle.raft_records.specs.Item.{Item}
-use Rattle.raft_records.specs.LogBatch.{Batch}
-use Rattle.raft_files.specs.Asks.{Act, Ask, Begin, Cut, Delete, Found, NumberedBytes, Put, Read, Sync, Unsynced, acts_on, ask}
-use Rattle.raft_recover.specs.Files.{whole_file}
-use Rattle.raft_engine_prefixes.specs.Prefixes.{GoesOn}
-use Rattle.raft_engine_prefixes.specs.TornTails.{AreUndamaged, FoundUndamaged, IsDamagedAt, StopsAt}
-use Rattle.raft_engine.specs.BatchBytes.{bytes_for}
-use Rattle.raft_engine.specs.FoundFiles.{AreAccepted, IsCut, IsFirstBegun, IsLastRefused, IsReady, IsUntorn}
-use Rattle.raft_engine.specs.Opened.{IsOpened}
-use Rattle.raft_engine.specs.OpeningAsks.{asks_that_tell}
-use Rattle.raft_engine.specs.Restarts.{ModesAcceptMore, OpenedFoundUndamaged}
-use Rattle.raft_engine.specs.StoredFound.{found_asks}
-use Rattle.raft_engine.specs.declared.recovery_mode.RecoveryMode.{RecoveryMode}
-use Rattle.raft_engine.specs.declared.recovery_mode.RecoveryMode.TheVariants.{AbsoluteConsistency, TolerateTailCorruption, TolerateTornTail}
+use Rattle.raft_engine.proofs.Common.{◌≡◌, ◌⊎◌, Result, Ok, Err, OnOk, inl, inr, ℕ, ◌<◌, List, [], ◌∷◌, ◌++◌, length, sym, ap, ◌∙◌, subst, arith, cases_lt, length-drop, LogQueue, Append, Rewrite, Version, Part, Item, Batch, Act, Ask, Begin, Cut, Delete, Found, NumberedBytes, Put}
+use Rattle.raft_engine.proofs.Common.{Read, Sync, Unsynced, acts_on, ask, whole_file, GoesOn, AreUndamaged, FoundUndamaged, IsDamagedAt, StopsAt, bytes_for, AreAccepted, IsCut, IsFirstBegun, IsLastRefused, IsUntorn, asks_that_tell, ModesAcceptMore, OpenedFoundUndamaged}
+use Rattle.raft_engine.proofs.Common.{found_asks, RecoveryMode, AbsoluteConsistency, TolerateTailCorruption, TolerateTornTail}
+use Rattle.raft_engine.specs.FoundFiles.{IsReady}
 use Rattle.raft_engine.proofs.FoundLemmas.{one_stopped}
 use Rattle.raft_engine.proofs.ReadyLemmas.{opening_split}
 

@@ -1,20 +1,6 @@
 -- What was put and synced goes on.
-use Rattle.std.proofs.Common.{◌≡◌, ◌≢◌, ℕ, Bool, true, false, cond, List, [], ◌∷◌, ◌++◌, filter, map, inl, inr, refl, sym, ap, ◌∙◌, subst, append_assoc, append-nil}
-use Rattle.raft_base.specs.declared.entry_index.EntryIndex.{EntryIndex}
-use Rattle.raft_base.specs.declared.pipe_log.LogQueue.{LogQueue}
-use Rattle.raft_base.specs.declared.pipe_log.LogQueue.TheVariants.{Append, Rewrite}
-use Rattle.raft_base.specs.declared.pipe_log.Version.{Version}
-use Rattle.raft_history.specs.Batches.{Event}
-use Rattle.raft_files.specs.Asks.{Act, Ask, Begin, Found, NumberedBytes, acts_on, ask, is_same_queue}
-use Rattle.raft_files.specs.Disk.{begun}
-use Rattle.raft_engine_laws.specs.Records.{Records}
-use Rattle.raft_engine_prefixes.specs.Prefixes.{AreFirstOf, GoesOn}
-use Rattle.raft_engine_prefixes.specs.TornTails.{FilesHoldTorn}
-use Rattle.raft_engine_prefixes.proofs.GoingOnLemmas.{puts_go_on}
-use Rattle.raft_engine_prefixes.proofs.TornLemmas.{one_reading}
-use Rattle.raft_engine.specs.KeptEngine.{KeptEngine}
-use Rattle.raft_engine.specs.Lasting.{HaveBothBegun, IsBegunOrFound, IsLasting, IsLastingAfter, before_sync}
-use Rattle.raft_engine.specs.Moments.{CallsGoOn, FindNoFiles, MomentsGoOn}
+use Rattle.raft_engine.proofs.Common.{◌≡◌, ◌≢◌, ℕ, Bool, true, false, cond, List, [], ◌∷◌, ◌++◌, filter, map, inl, inr, refl, sym, ap, ◌∙◌, subst, append_assoc, append-nil, EntryIndex, LogQueue, Append, Rewrite, Version, Event, Act, Ask, Begin, Found, NumberedBytes, acts_on, ask}
+use Rattle.raft_engine.proofs.Common.{is_same_queue, begun, Records, AreFirstOf, GoesOn, FilesHoldTorn, puts_go_on, one_reading, KeptEngine, HaveBothBegun, IsBegunOrFound, IsLasting, IsLastingAfter, before_sync, CallsGoOn, FindNoFiles, MomentsGoOn}
 
 -- ---- first batches
 

@@ -1,52 +1,16 @@
 -- What a read, and a batch that moves records, make of what is stored of an engine.
-use Rattle.std.proofs.Common.{◌≡◌, ℕ, false, cond, List, [], ◌∷◌, ◌++◌, Option, Some, None, option_map, length, map, refl, sym, ap, ◌∙◌, subst}
+use Rattle.raft_engine.proofs.Common.{◌≡◌, ℕ, false, cond, List, [], ◌∷◌, ◌++◌, Option, Some, None, option_map, length, map, refl, sym, ap, ◌∙◌, subst, AllByRecursion, option_or, option_and_then, EntryIndex, FileBlockHandle, FileId, LogQueue, Append, Rewrite, Version}
+use Rattle.raft_engine.proofs.Common.{first_marker, is_reserved, marker_byte, marker_byte_in, status_of, Item, with_lengths, placed_item, with_offsets_from, Batch, entry_place, Event, marker_in, PlacedItemsAreInFile, HaveStatus, RegionStep, Tables, table_of, Table}
+use Rattle.raft_engine.proofs.Common.{AreTableEntries, placed_in, Rewriting, after_items, none_some, Act, Ask, NumberedBytes, Put, Read, acts_on, ask, begun, written_event, whole_file, HasNoMarker, AreOrdinary, IsMovingBatch, MoveAgain, moving_items, put_items, Records, Deed}
+use Rattle.raft_engine.proofs.Common.{Write, IsNextIn, IsSafe, IsSynced, LoseNothing, written, AddedEntriesAreTold, AreBothTold, HaveContents, KeepsBytes, ReadEntryIsTold, placed_entries, AreDoneWhole, LastFileIsNext, bytes_for, place_at, placed_at, IsLastFile, AreSynced}
+use Rattle.raft_engine.proofs.Common.{ReadsAreStored, IsBatchMoving, AreAllDone, AreKeptStored, AreStored, Bases, IsWritableBatch, WhatIsDoneLasts, rows_alone}
 use Rattle.std.specs.FinMap as finite
-use Rattle.std.specs.List.{AllByRecursion}
-use Rattle.std.specs.Option.{option_or, option_and_then}
 use Rattle.raft_base.specs.declared.compression_type.CompressionType.TheVariants as compressions
-use Rattle.raft_base.specs.declared.entry_index.EntryIndex.{EntryIndex}
-use Rattle.raft_base.specs.declared.pipe_log.FileBlockHandle.{FileBlockHandle}
-use Rattle.raft_base.specs.declared.pipe_log.FileId.{FileId}
-use Rattle.raft_base.specs.declared.pipe_log.LogQueue.{LogQueue}
-use Rattle.raft_base.specs.declared.pipe_log.LogQueue.TheVariants.{Append, Rewrite}
-use Rattle.raft_base.specs.declared.pipe_log.Version.{Version}
-use Rattle.raft_records.specs.Group.{first_marker, is_reserved, marker_byte, marker_byte_in, status_of}
-use Rattle.raft_records.specs.Item.{Item}
-use Rattle.raft_records.specs.Entries.{with_lengths}
-use Rattle.raft_records.specs.ItemBatch.{placed_item, with_offsets_from}
-use Rattle.raft_records.specs.LogBatch.{Batch, entry_place}
 use Rattle.raft_records.specs.declared.key_value.OpType.TheVariants as operations
-use Rattle.raft_history.specs.Batches.{Event, marker_in}
-use Rattle.raft_history.specs.GoingOn.{PlacedItemsAreInFile}
-use Rattle.raft_history.specs.Histories.{HaveStatus}
-use Rattle.raft_history.specs.RegionSteps.{RegionStep, Tables}
-use Rattle.raft_table.specs.Steps.{table_of}
-use Rattle.raft_table.specs.Table.{Table}
-use Rattle.raft_table.specs.TableEntries.{AreTableEntries, placed_in}
-use Rattle.raft_accessor.specs.Writes.{Rewriting, after_items}
-use Rattle.raft_accessor.proofs.MapLemmas.{none_some}
-use Rattle.raft_files.specs.Asks.{Act, Ask, NumberedBytes, Put, Read, acts_on, ask}
-use Rattle.raft_files.specs.Disk.{begun}
-use Rattle.raft_replay.specs.WrittenParts.{written_event}
-use Rattle.raft_recover.specs.Files.{whole_file}
-use Rattle.raft_engine_laws.specs.Groups.{HasNoMarker}
-use Rattle.raft_engine_laws.specs.Moving.{AreOrdinary, IsMovingBatch, MoveAgain, moving_items, put_items}
-use Rattle.raft_engine_laws.specs.Records.{Records}
-use Rattle.raft_engine_laws.specs.Crashes.{Deed, Write, IsNextIn, IsSafe, IsSynced, LoseNothing, written}
-use Rattle.raft_engine_prefixes.specs.Contents.{AddedEntriesAreTold, AreBothTold, HaveContents, KeepsBytes, ReadEntryIsTold, placed_entries}
-use Rattle.raft_engine_prefixes.specs.Done.{AreDoneWhole, LastFileIsNext}
-use Rattle.raft_engine.specs.BatchBytes.{bytes_for, place_at, placed_at}
-use Rattle.raft_engine.specs.KeptEngine.{IsLastFile}
-use Rattle.raft_engine.specs.Lasting.{AreSynced}
-use Rattle.raft_engine.specs.MovedAsks.{ReadsAreStored}
-use Rattle.raft_engine.specs.Rewriting.{IsBatchMoving}
-use Rattle.raft_engine.specs.Stored.{AreAllDone, AreKeptStored, AreStored, Bases}
-use Rattle.raft_engine.specs.StoredAsks.{IsWritableBatch, WhatIsDoneLasts}
 use Rattle.raft_engine.proofs.DoneLemmas.{deeds_synced}
 use Rattle.raft_engine.proofs.LowPairs.{safe_low}
 use Rattle.raft_engine.proofs.MovesAgain.{again_batch_taken, all_in_part, all_moving, move_again}
 use Rattle.raft_engine.proofs.MovingPuts.{batch_taken, contents_told, is_moving, placed_moving}
-use Rattle.raft_engine_laws.proofs.InRows.{rows_alone}
 use Rattle.raft_engine.proofs.WellPutLemmas.{read_well}
 use Rattle.raft_engine.proofs.StoredLemmas.{goes_on}
 

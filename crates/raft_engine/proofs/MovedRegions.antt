@@ -1,27 +1,14 @@
 -- Regions whose rewritten records move, one after another, in a batch or in a group each.
-use Rattle.std.proofs.Common.{◌≡◌, ◌⊎◌, inl, inr, ℕ, ◌+◌, ◌<◌, ◌≤◌, List, [], ◌∷◌, ◌++◌, get_or, length, take, drop, Option, Some, None, refl, sym, ap, ◌∙◌, subst, arith}
-use Rattle.std.proofs.lemmas.Bool.{cases_lt}
-use Rattle.std.proofs.lemmas.List.{drop_more, take-append-drop, take_all, take_more}
+use Rattle.raft_engine.proofs.Common.{◌≡◌, ◌⊎◌, inl, inr, ℕ, ◌+◌, ◌<◌, ◌≤◌, List, [], ◌∷◌, ◌++◌, get_or, length, take, drop, Option, Some, None, refl, sym, ap, ◌∙◌, subst, arith, cases_lt, drop_more, take-append-drop, take_all, take_more, EntryIndex, Error, block_count, table_of}
+use Rattle.raft_engine.proofs.Common.{Table, placed_in, AreOnePart, IsFirstPart, bytes_of_entries, KeptEngine, AreSynced, IsReady, AreRegionsMovedAgain, AreSomeRegionsMovedAgain, IsGroupMoved, IsGroupUnmoved, IsOnePartOf, IsRegionMovedAgain, IsRegionUnmovedAgain, moving_entries}
+use Rattle.raft_engine.proofs.Common.{Failures}
 use Rattle.std.specs.FinMap as finite
-use Rattle.raft_base.specs.declared.entry_index.EntryIndex.{EntryIndex}
-use Rattle.raft_base.specs.declared.errors.Error.{Error}
-use Rattle.raft_table.specs.Fetches.{block_count}
-use Rattle.raft_table.specs.Steps.{table_of}
-use Rattle.raft_table.specs.Table.{Table}
-use Rattle.raft_table.specs.TableEntries.{placed_in}
-use Rattle.raft_engine.specs.Parts.{AreOnePart, IsFirstPart, bytes_of_entries}
-use Rattle.raft_engine.specs.KeptEngine.{KeptEngine}
-use Rattle.raft_engine.specs.Lasting.{AreSynced}
-use Rattle.raft_engine.specs.Moved.{IsReady}
-use Rattle.raft_engine.specs.MovedGroups.{AreRegionsMovedAgain, AreSomeRegionsMovedAgain, IsGroupMoved, IsGroupUnmoved, IsOnePartOf, IsRegionMovedAgain, IsRegionUnmovedAgain}
-use Rattle.raft_engine.specs.Rewriting.{moving_entries}
 use Rattle.raft_engine.proofs.GroupReadBack.{puts_append}
 use Rattle.raft_engine.proofs.KeptMoves.{read_synced}
 use Rattle.raft_engine.proofs.BlockCounts.{prefix_count}
 use Rattle.raft_engine.proofs.PartLemmas.{parts_only}
 use Rattle.raft_engine.proofs.PartLengths.{bytes_append}
 use Rattle.raft_engine.proofs.RewrittenRegions.{rewritten_ready}
-use Rattle.raft_engine.specs.FileFailures.{Failures}
 
 -- ---- entries that are one part
 

@@ -1,33 +1,11 @@
 -- A batch of what was read of a region's rewritten records moves them within the rewrite queue, once it stands in its last file.
-use Rattle.std.proofs.Common.{◌≡◌, ◌⊎◌, inl, inr, ℕ, cond, List, [], ◌∷◌, ◌++◌, map, Option, Some, None, refl, sym, ap, subst, ◌∙◌, append-nil}
-use Rattle.std.specs.Prelude.{flat_map}
+use Rattle.raft_engine.proofs.Common.{◌≡◌, ◌⊎◌, inl, inr, ℕ, cond, List, [], ◌∷◌, ◌++◌, map, Option, Some, None, refl, sym, ap, subst, ◌∙◌, append-nil, flat_map, AllByRecursion, EntryIndex, FileBlockHandle, FileId, Rewrite, with_lengths, Item, placed_item, with_offsets_from}
+use Rattle.raft_engine.proofs.Common.{Batch, entry_place, pairs_up_to, Run, Step, table_of, Table, AreTableEntries, placed_in, RegionStep, Tables, pair_step, steps_of_items, steps_on, by_region, own_head, own_none, own_other, with_step, Rewriting, after_items, Ask, HaveContents}
+use Rattle.raft_engine.proofs.Common.{placed_entries, AreCopies, AreOrdinary, MoveAgain, MovesAgain, entries_on, moving_items, put_items, run_of, place_at, placed_at, AreReadByBlocks, IsBatchMoving, batch_of, pairs_with}
 use Rattle.std.specs.FinMap as finite
-use Rattle.std.specs.List.{AllByRecursion}
 use Rattle.raft_base.specs.declared.compression_type.CompressionType.TheVariants as compressions
-use Rattle.raft_base.specs.declared.entry_index.EntryIndex.{EntryIndex}
-use Rattle.raft_base.specs.declared.pipe_log.FileBlockHandle.{FileBlockHandle}
-use Rattle.raft_base.specs.declared.pipe_log.FileId.{FileId}
-use Rattle.raft_base.specs.declared.pipe_log.LogQueue.TheVariants.{Rewrite}
-use Rattle.raft_records.specs.Entries.{with_lengths}
-use Rattle.raft_records.specs.Item.{Item}
-use Rattle.raft_records.specs.ItemBatch.{placed_item, with_offsets_from}
-use Rattle.raft_records.specs.LogBatch.{Batch, entry_place}
-use Rattle.raft_table.specs.KeyValues.{pairs_up_to}
-use Rattle.raft_table.specs.Steps.{Put, Run, Step, table_of}
-use Rattle.raft_table.specs.Table.{Table}
-use Rattle.raft_table.specs.TableEntries.{AreTableEntries, placed_in}
-use Rattle.raft_history.specs.RegionSteps.{RegionStep, Tables, pair_step, steps_of_items, steps_on}
-use Rattle.raft_history.proofs.MapLemmas.{by_region}
-use Rattle.raft_history.proofs.StepListLemmas.{own_head, own_none, own_other}
-use Rattle.raft_history.proofs.Words.{with_step}
+use Rattle.raft_table.specs.Steps.{Put}
 use Rattle.raft_records.specs.declared.key_value.OpType.TheVariants as operations
-use Rattle.raft_accessor.specs.Writes.{Rewriting, after_items}
-use Rattle.raft_files.specs.Asks.{Ask}
-use Rattle.raft_engine_prefixes.specs.Contents.{HaveContents, placed_entries}
-use Rattle.raft_engine_laws.specs.Moving.{AreCopies, AreOrdinary, MoveAgain, MovesAgain, entries_on, moving_items, put_items, run_of}
-use Rattle.raft_engine.specs.BatchBytes.{place_at, placed_at}
-use Rattle.raft_engine.specs.Reads.{AreReadByBlocks}
-use Rattle.raft_engine.specs.Rewriting.{IsBatchMoving, batch_of, pairs_with}
 use Rattle.raft_engine.proofs.FetchedLemmas.{IsRewrittenPair, all_rewritten}
 use Rattle.raft_engine.proofs.MovingPuts.{are_copies, placed_moving, same_copies}
 use Rattle.raft_engine.proofs.TakenMoves.{AreLow, again_taken}

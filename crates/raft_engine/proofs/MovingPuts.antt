@@ -1,33 +1,10 @@
 -- A batch of what was read of a region's records moves them, once it stands in a file of the rewrite queue.
-use Rattle.std.proofs.Common.{◌≡◌, ◌≢◌, ℕ, ◌+◌, true, List, [], ◌∷◌, map, length, Option, Some, refl, sym, ap, ◌∙◌, append-nil}
+use Rattle.raft_engine.proofs.Common.{◌≡◌, ◌≢◌, ℕ, ◌+◌, true, List, [], ◌∷◌, map, length, Option, Some, refl, sym, ap, ◌∙◌, append-nil, AllZip, concat, EntryIndex, FileBlockHandle, FileId, Append, Rewrite, Version, signature_of, with_lengths, entries_item, placed_item}
+use Rattle.raft_engine.proofs.Common.{with_offsets_from, Batch, entry_place, appended_before, pairs_up_to, Table, AreTableEntries, is_placed_in, Tables, Rewriting, after_items, Ask, Put, acts_on, ask, begun, AddedEntriesAreTold, AreBothTold, HaveContents, KeepsBytes}
+use Rattle.raft_engine.proofs.Common.{ReadEntryIsTold, placed_entries, AreRisingFrom, numbers, AreCopies, IsMovingBatch, moving_items, put_item, put_items, bytes_for, event_at, place_at, placed_at, IsLastFile, IsReadAmong, IsBatchMoving, batch_of, moving_pairs, pairs_with}
+use Rattle.raft_engine.proofs.Common.{puts_of}
 use Rattle.std.specs.FinMap as finite
-use Rattle.std.specs.List.{AllZip, concat}
 use Rattle.raft_base.specs.declared.compression_type.CompressionType.TheVariants as compressions
-use Rattle.raft_base.specs.declared.entry_index.EntryIndex.{EntryIndex}
-use Rattle.raft_base.specs.declared.pipe_log.FileBlockHandle.{FileBlockHandle}
-use Rattle.raft_base.specs.declared.pipe_log.FileId.{FileId}
-use Rattle.raft_base.specs.declared.pipe_log.LogQueue.TheVariants.{Append, Rewrite}
-use Rattle.raft_base.specs.declared.pipe_log.Version.{Version}
-use Rattle.raft_base.specs.Signature.{signature_of}
-use Rattle.raft_records.specs.Entries.{with_lengths}
-use Rattle.raft_records.specs.Item.{entries_item}
-use Rattle.raft_records.specs.ItemBatch.{placed_item, with_offsets_from}
-use Rattle.raft_records.specs.LogBatch.{Batch, entry_place}
-use Rattle.raft_table.specs.Fetches.{appended_before}
-use Rattle.raft_table.specs.KeyValues.{pairs_up_to}
-use Rattle.raft_table.specs.Table.{Table}
-use Rattle.raft_table.specs.TableEntries.{AreTableEntries, is_placed_in}
-use Rattle.raft_history.specs.RegionSteps.{Tables}
-use Rattle.raft_accessor.specs.Writes.{Rewriting, after_items}
-use Rattle.raft_files.specs.Asks.{Ask, Put, acts_on, ask}
-use Rattle.raft_files.specs.Disk.{begun}
-use Rattle.raft_engine_prefixes.specs.Contents.{AddedEntriesAreTold, AreBothTold, HaveContents, KeepsBytes, ReadEntryIsTold, placed_entries}
-use Rattle.raft_engine_prefixes.specs.Done.{AreRisingFrom, numbers}
-use Rattle.raft_engine_laws.specs.Moving.{AreCopies, IsMovingBatch, moving_items, put_item, put_items}
-use Rattle.raft_engine.specs.BatchBytes.{bytes_for, event_at, place_at, placed_at}
-use Rattle.raft_engine.specs.KeptEngine.{IsLastFile}
-use Rattle.raft_engine.specs.Reads.{IsReadAmong}
-use Rattle.raft_engine.specs.Rewriting.{IsBatchMoving, batch_of, moving_pairs, pairs_with, puts_of}
 use Rattle.raft_engine.proofs.NextParts.{back_of, left_before, part_may_move, parted, with_fetched}
 use Rattle.raft_engine.proofs.TakenMoves.{moving_taken}
 use Rattle.raft_engine.proofs.ToldReads.{entries_have}

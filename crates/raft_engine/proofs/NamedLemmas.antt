@@ -1,36 +1,8 @@
 -- Entries of the last append file can be read, or are named.
-use Rattle.std.proofs.Common.{◌≡◌, ◌≢◌, ◌⊎◌, inl, inr, ℕ, suc, ◌+◌, ◌-◌, ◌<◌, ◌≤◌, List, [], ◌∷◌, ◌++◌, Some, length, map, take, drop, refl, sym, ap, ◌∙◌, subst, arith, append_assoc, length-append}
-use Rattle.std.specs.List.{AllByRecursion}
-use Rattle.std.proofs.lemmas.List.{drop-drop, drop_at, length-take-le, take-take}
-use Rattle.raft_base.specs.declared.compression_type.CompressionType.{CompressionType}
-use Rattle.raft_base.specs.declared.entry_index.EntryIndex.{EntryIndex}
-use Rattle.raft_base.specs.declared.pipe_log.FileBlockHandle.{FileBlockHandle}
-use Rattle.raft_base.specs.declared.pipe_log.FileId.{FileId}
-use Rattle.raft_base.specs.declared.pipe_log.LogQueue.{LogQueue}
-use Rattle.raft_base.specs.declared.pipe_log.LogQueue.TheVariants.{Append, Rewrite}
-use Rattle.raft_base.specs.declared.pipe_log.Version.{Version}
-use Rattle.raft_records.specs.EntryBlock.{HasEntryBlock}
-use Rattle.raft_records.specs.FilePart.{AreBatchesUpTo, IsBatchAt, Part}
-use Rattle.raft_records.specs.Header.{IsEntryBlockOf}
-use Rattle.raft_records.specs.Item.{Content, Item, command, entries, pair}
-use Rattle.raft_records.specs.ItemBatch.{placed_content, placed_item}
-use Rattle.raft_records.specs.LogBatch.{header_bytes}
-use Rattle.raft_records.proofs.BufferLemmas.{header_len}
-use Rattle.raft_records.proofs.PartLemmas.{batch_inside, one_batch_more}
-use Rattle.raft_history.specs.Batches.{Event}
-use Rattle.raft_files.specs.Asks.{NumberedBytes}
-use Rattle.raft_recover.specs.Files.{whole_file}
-use Rattle.raft_replay.specs.Cuts.{bytes_before}
-use Rattle.raft_replay.specs.Segments.{HoldsFrom}
-use Rattle.raft_engine_prefixes.specs.Done.{AreRisingFrom, numbers}
-use Rattle.raft_engine_prefixes.specs.EntryPlaces.{EachEntryAmong, EachEntryIn, EachEntryOf}
-use Rattle.raft_engine_prefixes.specs.TornTails.{FilesHoldTorn}
-use Rattle.raft_engine_prefixes.proofs.NumberLemmas.{consecutive_rise}
-use Rattle.raft_engine_prefixes.proofs.TableEntryLemmas.{both_so}
-use Rattle.raft_engine.specs.DamagedBatches.{AreDamagedBatches}
-use Rattle.raft_engine.specs.NamedEntries.{EntriesAreSoundOrNamed, IsSoundOrNamed}
-use Rattle.raft_engine.specs.SoundBlocks.{HasSoundBlock}
-use Rattle.raft_engine.specs.declared.recovered.DamagedBatch.{DamagedBatch}
+use Rattle.raft_engine.proofs.Common.{◌≡◌, ◌≢◌, inl, inr, ℕ, suc, ◌+◌, ◌-◌, ◌<◌, ◌≤◌, List, [], ◌∷◌, ◌++◌, Some, length, map, take, drop, refl, sym, ap, ◌∙◌, subst, arith, append_assoc, length-append, AllByRecursion, drop-drop, drop_at, length-take-le, take-take, CompressionType}
+use Rattle.raft_engine.proofs.Common.{EntryIndex, FileBlockHandle, FileId, LogQueue, Append, Rewrite, Version, HasEntryBlock, AreBatchesUpTo, IsBatchAt, Part, IsEntryBlockOf, Content, Item, command, entries, pair, placed_content, placed_item, header_bytes, header_len}
+use Rattle.raft_engine.proofs.Common.{batch_inside, one_batch_more, Event, NumberedBytes, whole_file, bytes_before, HoldsFrom, AreRisingFrom, numbers, EachEntryAmong, EachEntryIn, EachEntryOf, FilesHoldTorn, consecutive_rise, both_so, AreDamagedBatches, EntriesAreSoundOrNamed}
+use Rattle.raft_engine.proofs.Common.{IsSoundOrNamed, HasSoundBlock, DamagedBatch}
 use Rattle.raft_engine.proofs.BlockLemmas.{block_of, moved_batch}
 
 -- a file by its number

@@ -1,28 +1,10 @@
 -- The least number of a file that tables need.
-use Rattle.std.proofs.Common.{◌≡◌, ℕ, ◌+◌, ◌≤◌, Bool, true, false, cond, eqb, ltb, List, [], ◌∷◌, map, length, Option, Some, None, IsPermutation, refl, sym, ap, ◌∙◌, subst, arith}
+use Rattle.raft_engine.proofs.Common.{◌≡◌, ℕ, ◌+◌, ◌≤◌, Bool, true, false, cond, eqb, ltb, List, [], ◌∷◌, map, length, Option, Some, None, IsPermutation, refl, sym, ap, ◌∙◌, subst, arith, eq-eqb, nat_tests, All-from_recursion, recursion_from_All, All-permutation}
+use Rattle.raft_engine.proofs.Common.{IsPermutation-sym, Less, Equal, Greater, slice_cmp, unsigned_tied, below_all, AllByRecursion, nat_cmp, eq_by_cmp, is_eq, is_lt, LogQueue, Append, Rewrite, first_of_both, second_of_both, Stored, least_of, table_of, Table, placed_in, Tables}
+use Rattle.raft_engine.proofs.Common.{AreLeastFrom, IsLeastNeeded, least_among, lowered}
 use lib.Dec.{T}
-use Rattle.std.proofs.lemmas.Bool.{eq-eqb}
-use Rattle.std.proofs.lemmas.Bool.Decides.{nat_tests}
-use Rattle.std.proofs.lemmas.List.Elements.{All-from_recursion, recursion_from_All}
-use Rattle.std.proofs.lemmas.List.Sorted.{All-permutation, IsPermutation-sym}
-use Rattle.std.specs.declared.cmp.Ordering.TheVariants.{Less, Equal, Greater}
-use Rattle.std.specs.Cmp.Lexicographic.{slice_cmp}
-use Rattle.std.specs.Cmp.{unsigned_tied}
 use Rattle.std.specs.FinMap as finite
-use Rattle.std.specs.FinMap.Entries.{find, below_all, is_sorted}
-use Rattle.std.specs.List.{AllByRecursion}
-use Rattle.std.specs.Ordering.{nat_cmp, eq_by_cmp, is_eq, is_lt}
-use Rattle.raft_base.specs.declared.pipe_log.LogQueue.{LogQueue}
-use Rattle.raft_base.specs.declared.pipe_log.LogQueue.TheVariants.{Append, Rewrite}
-use Rattle.raft_table.proofs.Shown.{first_of_both, second_of_both}
-use Rattle.raft_table.specs.KeyValues.{Stored}
-use Rattle.raft_table.specs.Least.{least_of}
-use Rattle.raft_table.specs.Steps.{table_of}
-use Rattle.raft_table.specs.Table.{Table}
-use Rattle.raft_table.specs.TableEntries.{placed_in}
-use Rattle.raft_history.specs.RegionSteps.{Tables}
-use Rattle.raft_engine_laws.specs.DeletedFiles.{AreLeastFrom}
-use Rattle.raft_engine.specs.Purged.{IsLeastNeeded, least_among, lowered}
+use Rattle.std.specs.FinMap.Entries.{find, is_sorted}
 
 -- ---- the least among tables
 

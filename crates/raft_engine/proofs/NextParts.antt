@@ -1,20 +1,7 @@
 -- The next part of the entries of a table that move past a gate, and what is left behind it.
-use Rattle.std.proofs.Common.{◌≡◌, ◌≢◌, ℕ, zero, suc, ◌+◌, ◌<◌, Bool, true, List, [], ◌∷◌, ◌++◌, drop, length, take, Option, Some, None, refl, sym, ap, subst, ◌∙◌, append_assoc, arith}
-use Rattle.std.proofs.lemmas.List.{append_cancel_left, length-drop, length-take-le, take-append-drop}
-use Rattle.std.specs.List.{AllByRecursion, prefix_len}
-use Rattle.raft_base.specs.declared.entry_index.EntryIndex.{EntryIndex}
-use Rattle.raft_base.specs.declared.pipe_log.LogQueue.TheVariants.{Append, Rewrite}
-use Rattle.raft_history.proofs.EffectLemmas.{each_left, each_right}
-use Rattle.raft_table.specs.Fetches.{appended_before}
-use Rattle.raft_table.specs.KeyValues.{Keys, pairs_up_to}
-use Rattle.raft_table.specs.Rewriting.{is_placed_before, may_move}
-use Rattle.raft_table.specs.TableEntries.{is_placed_in, placed_in}
-use Rattle.raft_table.proofs.PlaceLemmas.{each_placed, placed_each, placed_in_other}
-use Rattle.raft_table.proofs.RunLemmas.{placed_in-append}
-use Rattle.raft_engine_laws.specs.Moving.{AreCopies, IsFetched}
-use Rattle.raft_engine_laws.proofs.SoundEntries.{placed_twice}
-use Rattle.raft_engine.specs.Parts.{IsFirstPart}
-use Rattle.raft_engine.specs.Rewriting.{IsNextPart, pairs_with}
+use Rattle.raft_engine.proofs.Common.{◌≡◌, ◌≢◌, ℕ, zero, suc, ◌+◌, ◌<◌, Bool, true, List, [], ◌∷◌, ◌++◌, drop, length, take, Option, Some, None, refl, sym, ap, subst, ◌∙◌, append_assoc, arith, append_cancel_left, length-drop, length-take-le, take-append-drop, AllByRecursion}
+use Rattle.raft_engine.proofs.Common.{prefix_len, EntryIndex, Append, Rewrite, each_left, each_right, appended_before, Keys, pairs_up_to, is_placed_before, may_move, is_placed_in, placed_in, each_placed, placed_each, placed_in_other, placed_in-append, AreCopies, IsFetched}
+use Rattle.raft_engine.proofs.Common.{placed_twice, IsFirstPart, IsNextPart, pairs_with}
 use Rattle.raft_engine.proofs.FetchedLemmas.{all_fetched, all_may_move}
 
 -- all appended entries behind a part

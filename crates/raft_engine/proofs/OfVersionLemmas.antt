@@ -1,28 +1,7 @@
 -- Files that aren't of the other version.
-use Rattle.std.proofs.Common.{◌≡◌, ◌⊎◌, inl, inr, ℕ, zero, suc, ◌<◌, ◌≤◌, List, [], ◌∷◌, ◌++◌, codes, length, take, drop, refl, sym, ap, ◌∙◌, subst, arith, append_assoc, append-nil}
-use Rattle.std.proofs.lemmas.Bool.{cases_lt}
-use Rattle.std.proofs.lemmas.List.{length-append, take-append-drop, take-append-le, take_at}
-use Rattle.raft_base.specs.declared.pipe_log.LogQueue.{LogQueue}
-use Rattle.raft_base.specs.declared.pipe_log.Version.{Version}
-use Rattle.raft_codec.specs.Reading.{HasNoFront}
-use Rattle.raft_records.specs.FilePart.{IsBatchAt, Part}
-use Rattle.raft_records.specs.Header.{IsHeader}
-use Rattle.raft_records.specs.Item.{Item}
-use Rattle.raft_records.proofs.Names.{part_signature}
-use Rattle.raft_records.proofs.FrameLemmas.{readable}
-use Rattle.raft_records.proofs.HeaderLemmas.{unknown_type}
-use Rattle.raft_history.specs.Batches.{Event}
-use Rattle.raft_files.specs.Asks.{Act, Begin, Cut, Delete, Found, NumberedBytes, Put, Read, Sync, Unsynced}
-use Rattle.raft_files.specs.Disk.{IsFrontPut, MayStand, begun, put_behind}
-use Rattle.raft_files.proofs.LastLemmas.{last_of}
-use Rattle.raft_replay.specs.Segments.{HoldsFrom}
-use Rattle.raft_replay.specs.Stops.{IsUnreadableAt}
-use Rattle.raft_replay.proofs.SegmentLemmas.{batch_none}
-use Rattle.raft_recover.specs.Files.{FilesHold, whole_file}
-use Rattle.raft_engine_prefixes.proofs.BatchPartLemmas.{shorter_unreadable}
-use Rattle.raft_engine_prefixes.proofs.TornLemmas.{one_file, stands_as}
-use Rattle.raft_engine.specs.FoundFiles.{BeginsInOther, IsLastOfOther, IsOfEngine, IsOfOther, engine_header, in_other}
-use Rattle.raft_engine.specs.OfVersion.{PrefixesAreNotOther, NoneIsOther, StaysOfVersion, WhatIsLeftIsNotOther}
+use Rattle.raft_engine.proofs.Common.{◌≡◌, ◌⊎◌, inl, inr, ℕ, zero, suc, ◌<◌, ◌≤◌, List, [], ◌∷◌, ◌++◌, codes, length, take, drop, refl, sym, ap, ◌∙◌, subst, arith, append_assoc, append-nil, cases_lt, length-append, take-append-drop, take-append-le, take_at, LogQueue, Version}
+use Rattle.raft_engine.proofs.Common.{HasNoFront, IsBatchAt, Part, IsHeader, Item, part_signature, readable, unknown_type, Event, Act, Begin, Cut, Delete, Found, NumberedBytes, Put, Read, Sync, Unsynced, IsFrontPut, MayStand, begun, put_behind, last_of, HoldsFrom, IsUnreadableAt}
+use Rattle.raft_engine.proofs.Common.{batch_none, FilesHold, whole_file, shorter_unreadable, one_file, stands_as, BeginsInOther, IsLastOfOther, IsOfEngine, IsOfOther, engine_header, in_other, PrefixesAreNotOther, NoneIsOther, StaysOfVersion, WhatIsLeftIsNotOther}
 use Rattle.raft_engine.proofs.FoundLemmas.{begins_some, one_last}
 
 -- ---- bytes

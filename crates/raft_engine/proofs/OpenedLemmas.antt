@@ -1,32 +1,7 @@
 -- What an engine is made of when it is opened.
-use Rattle.std.proofs.Common.{◌≡◌, ◌≢◌, inl, inr, ℕ, ◌+◌, List, [], ◌∷◌, ◌++◌, true, refl, sym, ap, ◌∙◌, subst, append_assoc, arith}
-use Rattle.raft_base.specs.Signature.{signature_in}
-use Rattle.raft_base.specs.declared.errors.Error.{Error}
-use Rattle.raft_base.specs.declared.pipe_log.LogQueue.{LogQueue}
-use Rattle.raft_base.specs.declared.pipe_log.LogQueue.TheVariants.{Append, Rewrite}
-use Rattle.raft_base.specs.declared.pipe_log.Version.{Version}
-use Rattle.raft_records.specs.Item.{Item}
-use Rattle.raft_records.specs.LogBatch.{Batch, empty_batch, encoded, encoded_length}
-use Rattle.raft_records.proofs.FrameLemmas.{log_batch_length}
-use Rattle.raft_history.specs.Batches.{Event}
-use Rattle.raft_accessor.specs.Accessor.{Accessor}
-use Rattle.raft_files.specs.Asks.{Ask, NoSyncFailed, NumberedBytes, Put, Unsynced, acts_on, ask}
-use Rattle.raft_files.specs.Disk.{IsLeftOf, begun}
-use Rattle.raft_files.proofs.LeftLemmas.{other_left, unsynced_left}
-use Rattle.raft_engine.specs.Lasting.{HaveBothBegun}
-use Rattle.raft_recover.specs.Files.{FilesHold}
-use Rattle.raft_engine_laws.specs.Telling.{TakeAway}
-use Rattle.raft_engine.specs.BatchBytes.{bytes_for}
-use Rattle.raft_engine.specs.FoundRecords.{FoundRecordsLast, HaveEverRecords}
-use Rattle.raft_engine.specs.KeptEngineView.{AreFilesOf, IsKeptBy}
-use Rattle.raft_engine.specs.Opened.{AreRead}
-use Rattle.raft_engine.specs.OpeningAsks.{AreWanted, Failures, FailsAmong, asks_that_tell, missing_asks, opening_asks}
-use Rattle.raft_engine.specs.ReadFound.{AreReadFound, reading_asks}
-use Rattle.raft_engine.specs.Stored.{Bases}
-use Rattle.raft_engine.specs.StoredFound.{AreMadeReady, AreReady, AreStoredBeside, FoundFilesAreReady, FoundFilesAreStored, found_asks, told_asks}
-use Rattle.raft_engine.specs.Unopened.{IsHalfOpened}
-use Rattle.raft_engine.specs.declared.queue_files.QueueFiles.{QueueFiles}
-use Rattle.raft_engine.specs.declared.reading.Reading.{Reading}
+use Rattle.raft_engine.proofs.Common.{◌≡◌, ◌≢◌, inl, inr, ℕ, ◌+◌, List, [], ◌∷◌, ◌++◌, true, refl, sym, ap, ◌∙◌, subst, append_assoc, arith, signature_in, Error, LogQueue, Append, Rewrite, Version, Item, Batch, empty_batch, encoded, encoded_length, log_batch_length, Event}
+use Rattle.raft_engine.proofs.Common.{Accessor, Ask, NoSyncFailed, NumberedBytes, Put, Unsynced, acts_on, ask, IsLeftOf, begun, other_left, unsynced_left, HaveBothBegun, FilesHold, TakeAway, bytes_for, FoundRecordsLast, HaveEverRecords, AreFilesOf, IsKeptBy, AreRead, AreWanted}
+use Rattle.raft_engine.proofs.Common.{Failures, FailsAmong, asks_that_tell, missing_asks, opening_asks, AreReadFound, reading_asks, Bases, AreMadeReady, AreReady, AreStoredBeside, FoundFilesAreReady, FoundFilesAreStored, found_asks, told_asks, IsHalfOpened, QueueFiles, Reading}
 use Rattle.raft_engine.proofs.FilesLemmas.{files_same, files_told}
 use Rattle.raft_engine.proofs.AloneLemmas.{opened_read_back}
 use Rattle.raft_engine.proofs.AskedLemmas.{AreAskedInPart, asked_part}

@@ -1,26 +1,11 @@
 -- An opening of files in which nothing is refused fails for few reasons.
-use Rattle.std.proofs.Common.{◌≡◌, ◌≢◌, ◌⊎◌, inl, inr, ◌<◌, ◌^◌, List, [], ◌∷◌, ◌++◌, length, take, refl, sym, ap, ◌∙◌, subst, arith, length-append}
-use Rattle.raft_base.specs.declared.errors.Error.{Error}
+use Rattle.raft_engine.proofs.Common.{◌≡◌, ◌≢◌, ◌⊎◌, inl, inr, ◌<◌, ◌^◌, List, [], ◌∷◌, ◌++◌, length, take, refl, sym, ap, ◌∙◌, subst, arith, length-append, Error, LogQueue, Append, Rewrite, Version, Event, IsSmall, IsSoundIn, Ask, NumberedBytes, cut_last, last_of}
+use Rattle.raft_engine.proofs.Common.{FilesCannotBeRead, FilesHold, bytes_of_files, numbers, FilesHoldTorn, AreGroupsInRows, AreAccepted, IsCut, IsFirstBegun, IsFoundFault, IsUntorn, OpeningsOverSucceed, OpeningsSucceed, IsLastSound, IsLastUnsoundAs, RecoveryMode, AreUngroupedAs}
+use Rattle.raft_engine.proofs.Common.{AreUnrecoveredAs, IsOpeningRefusal, IsReadingFault, IsRecoveryFault, IsTooLongAs, Refusal}
 use Rattle.raft_base.specs.declared.errors.Error.TheVariants as errors
-use Rattle.raft_base.specs.declared.pipe_log.LogQueue.{LogQueue}
-use Rattle.raft_base.specs.declared.pipe_log.LogQueue.TheVariants.{Append, Rewrite}
-use Rattle.raft_base.specs.declared.pipe_log.Version.{Version}
-use Rattle.raft_history.specs.Batches.{Event}
-use Rattle.raft_history.specs.Histories.{IsSmall, IsSoundIn}
-use Rattle.raft_files.specs.Asks.{Ask, NumberedBytes}
-use Rattle.raft_files.specs.Disk.{cut_last}
-use Rattle.raft_files.proofs.LastLemmas.{last_of}
-use Rattle.raft_recover.specs.Files.{FilesCannotBeRead, FilesHold, bytes_of_files}
-use Rattle.raft_engine_prefixes.specs.Done.{numbers}
-use Rattle.raft_engine_prefixes.specs.TornTails.{FilesHoldTorn}
-use Rattle.raft_engine_laws.specs.GroupsInRows.{AreGroupsInRows}
-use Rattle.raft_engine.specs.FoundFiles.{AreAccepted, IsCut, IsFirstBegun, IsFoundFault, IsReady, IsUntorn}
-use Rattle.raft_engine.specs.Restarts.{OpeningsOverSucceed, OpeningsSucceed}
-use Rattle.raft_engine.specs.SoundBlocks.{IsLastSound, IsLastUnsoundAs}
+use Rattle.raft_engine.specs.FoundFiles.{IsReady}
 use Rattle.raft_engine.proofs.FileNumbers.{not_together}
 use Rattle.raft_engine.proofs.UnreadLemmas.{stops_unread}
-use Rattle.raft_engine.specs.declared.recovery_mode.RecoveryMode.{RecoveryMode}
-use Rattle.raft_engine.specs.Unopened.{AreUngroupedAs, AreUnrecoveredAs, IsOpeningRefusal, IsReadingFault, IsRecoveryFault, IsTooLongAs, Refusal}
 
 -- ---- refusals
 

@@ -1,16 +1,6 @@
 -- Of files that engines wrote an opening tells nothing at once.
-use Rattle.std.proofs.Common.{◌≡◌, List, [], ◌∷◌, ◌++◌, sym, ap, ◌∙◌, subst}
-use Rattle.std.specs.List.{AllByRecursion}
-use Rattle.raft_base.specs.declared.pipe_log.LogQueue.TheVariants.{Append, Rewrite}
-use Rattle.raft_base.specs.declared.pipe_log.Version.{Version}
-use Rattle.raft_records.specs.Item.{Item}
-use Rattle.raft_files.specs.Asks.{Ask, Begin, Found, NumberedBytes, ask}
-use Rattle.raft_engine.specs.JoinedFiles.{FilesJoin, FoundFilesJoin}
-use Rattle.raft_engine.specs.KeptEngine.{KeptEngine}
-use Rattle.raft_engine.specs.Lives.{FollowEachOther, IsFirstLife, IsLeftToldNothing, IsNextLife, IsNothingTold, Life, OwnFilesAreToldNothing, at_stop}
-use Rattle.raft_engine.specs.Opened.{IsOpened}
-use Rattle.raft_engine.specs.OpeningAsks.{asks_that_tell}
-use Rattle.raft_engine.specs.StoredFound.{FoundFilesAreReady, found_asks}
+use Rattle.raft_engine.proofs.Common.{◌≡◌, List, [], ◌∷◌, ◌++◌, sym, ap, ◌∙◌, subst, AllByRecursion, Append, Rewrite, Version, Item, Ask, Begin, Found, NumberedBytes, ask, FilesJoin, FoundFilesJoin, KeptEngine, FollowEachOther, IsFirstLife, IsLeftToldNothing, IsNextLife}
+use Rattle.raft_engine.proofs.Common.{IsNothingTold, Life, OwnFilesAreToldNothing, at_stop, IsOpened, asks_that_tell, FoundFilesAreReady}
 use Rattle.raft_engine.proofs.FoundContents.{all_asked, asked, made}
 use Rattle.raft_engine.proofs.JoinedLemmas.{joined_told}
 

@@ -1,24 +1,9 @@
 -- Parts of entries, and batches that have one each.
-use Rattle.std.proofs.Common.{◌≡◌, ◌≢◌, inl, inr, ℕ, suc, List, [], ◌∷◌, ◌++◌, length, map, take, drop, refl, sym, ap, ◌∙◌, subst, append_assoc, append-nil, None}
-use Rattle.std.proofs.lemmas.Grind.{flat_map-append}
-use Rattle.std.proofs.lemmas.List.{length-take-le, map-append, take-append-drop}
-use Rattle.std.specs.List.{AllByRecursion}
-use Rattle.raft_base.specs.Runs.{IsConsecutive, IsRun, RisesFrom}
-use Rattle.raft_base.specs.declared.entry_index.EntryIndex.{EntryIndex}
-use Rattle.raft_base.specs.declared.errors.Error.{Error}
-use Rattle.raft_records.specs.LogBatch.{Batch}
-use Rattle.raft_records.specs.declared.atomic_group.AtomicGroupStatus.TheVariants.{Begin, End}
-use Rattle.raft_table.specs.Table.{Table}
-use Rattle.raft_files.specs.Asks.{Ask}
-use Rattle.raft_engine_laws.specs.Moving.{AreOrdinary}
-use Rattle.raft_engine.specs.GroupBatches.{ArePartsRead, EntriesPart, batches_behind, group_batches, marker_batch, part_batch}
-use Rattle.raft_engine.specs.GroupParts.{AreCutInto, ArePartsAdded, ArePartsRefused, IsGroupInParts, IsGroupRefused, IsPartRead, IsPartRefused, entries_of_parts}
-use Rattle.raft_engine.specs.Parts.{IsFirstPart}
-use Rattle.raft_engine.specs.Reads.{AreOnlyRead, AreReadByBlocks, AreReads}
-use Rattle.raft_engine.specs.Rewriting.{moving_entries, moving_pairs, with_puts}
-use Rattle.raft_engine.specs.Unmoved.{AreKeysRefused}
+use Rattle.raft_engine.proofs.Common.{◌≡◌, ◌≢◌, inl, inr, ℕ, suc, List, [], ◌∷◌, ◌++◌, length, map, take, drop, refl, sym, ap, ◌∙◌, subst, append_assoc, append-nil, None, flat_map-append, length-take-le, map-append, take-append-drop, AllByRecursion, IsConsecutive, IsRun}
+use Rattle.raft_engine.proofs.Common.{RisesFrom, EntryIndex, Error, Batch, End, Table, Ask, AreOrdinary, ArePartsRead, EntriesPart, batches_behind, group_batches, marker_batch, part_batch, AreCutInto, ArePartsAdded, ArePartsRefused, IsGroupInParts, IsGroupRefused, IsPartRead}
+use Rattle.raft_engine.proofs.Common.{IsPartRefused, entries_of_parts, IsFirstPart, AreOnlyRead, AreReadByBlocks, AreReads, moving_entries, moving_pairs, with_puts, AreKeysRefused, Failures}
+use Rattle.raft_records.specs.declared.atomic_group.AtomicGroupStatus.TheVariants.{Begin}
 use Rattle.raft_engine.proofs.ReadKept.{read_only, unread_only}
-use Rattle.raft_engine.specs.FileFailures.{Failures}
 
 -- ---- the first part
 

@@ -1,13 +1,6 @@
 -- How many entries are the first part.
-use Rattle.std.proofs.Common.{◌≡◌, ◌≢◌, inl, inr, ℕ, zero, suc, ◌+◌, ◌<◌, ◌≤◌, Bool, true, false, cond, List, [], ◌∷◌, ◌++◌, get_or, length, take, drop, Option, Some, None, refl, sym, ap, subst, ◌∙◌, arith, ◌^◌}
-use Rattle.std.proofs.lemmas.List.{drop-drop, drop_more, length-drop, length-take-le, take-append-drop, take_all, take_more}
-use Rattle.std.proofs.Math.Seq.{take-add}
-use Rattle.std.specs.List.{slice_get}
-use Rattle.raft_base.specs.declared.entry_index.EntryIndex.{EntryIndex}
-use Rattle.raft_base.specs.declared.pipe_log.FileBlockHandle.{FileBlockHandle}
-use Rattle.raft_table.specs.Fetches.{are_same_places, block_count, change_count}
-use Rattle.raft_table.proofs.BlockJoins.{other_place_is, same_place_self}
-use Rattle.raft_engine.specs.Parts.{AreOnePart, IsCapped, IsFirstBlock, IsFirstPart, bytes_of_entries}
+use Rattle.raft_engine.proofs.Common.{◌≡◌, ◌≢◌, inl, inr, ℕ, zero, suc, ◌+◌, ◌<◌, ◌≤◌, Bool, true, false, cond, List, [], ◌∷◌, ◌++◌, get_or, length, take, drop, Option, Some, None, refl, sym, ap, subst, ◌∙◌, arith, ◌^◌, drop-drop, drop_more, length-drop, length-take-le}
+use Rattle.raft_engine.proofs.Common.{take-append-drop, take_all, take_more, take-add, slice_get, EntryIndex, FileBlockHandle, are_same_places, block_count, change_count, other_place_is, same_place_self, AreOnePart, IsCapped, IsFirstBlock, IsFirstPart, bytes_of_entries}
 
 -- ---- numbers
 

@@ -1,12 +1,6 @@
 -- Files of which the last one has a prefix of the bytes that it has elsewhere.
-use Rattle.std.proofs.Common.{◌≡◌, ℕ, zero, suc, ◌+◌, ◌<◌, ◌≤◌, Bool, true, false, cond, List, [], ◌∷◌, ◌++◌, length, take, drop, Option, Some, None, refl, sym, ap, ◌∙◌, subst, arith, append_assoc, append-nil, length-append}
-use Rattle.std.specs.Prelude.{◌==◌, nat_le}
-use Rattle.std.proofs.lemmas.Bool.Decides.{nat_tests}
-use Rattle.std.proofs.lemmas.List.{take-append-le, drop-append-le, length-drop, take-append-drop, take-take, take_at}
-use Rattle.std.proofs.lemmas.Option.{cond_some}
-use Rattle.raft_files.specs.Disk.{NumberedBytes, cut_last, put_behind}
-use Rattle.raft_files.specs.Places.{bytes_at, stretch_of}
-use Rattle.raft_engine_prefixes.specs.Done.{AreRisingFrom, numbers}
+use Rattle.raft_engine.proofs.Common.{◌≡◌, ℕ, zero, suc, ◌+◌, ◌<◌, ◌≤◌, Bool, true, false, cond, List, [], ◌∷◌, ◌++◌, length, take, drop, Option, Some, None, refl, sym, ap, ◌∙◌, subst, arith, append_assoc, append-nil, length-append, ◌==◌, nat_le, nat_tests, take-append-le}
+use Rattle.raft_engine.proofs.Common.{drop-append-le, length-drop, take-append-drop, take-take, take_at, cond_some, NumberedBytes, cut_last, put_behind, bytes_at, stretch_of, AreRisingFrom, numbers}
 
 -- bytes that begin others
 pub record IsPrefixOf (front bytes : List ℕ) : Type 0 where

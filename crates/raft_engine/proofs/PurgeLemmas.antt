@@ -1,24 +1,7 @@
 -- Files that no table needs, and their deletion.
-use Rattle.std.proofs.Common.{◌≡◌, inl, inr, ℕ, zero, suc, ◌+◌, ◌-◌, ◌<◌, ◌≤◌, Bool, true, false, cond, List, [], ◌∷◌, ◌++◌, length, take, drop, refl, sym, ap, ◌∙◌, subst, arith, append_assoc, length-append, take-append-drop}
-use Rattle.std.proofs.lemmas.Bool.Decides.{nat_tests}
-use Rattle.std.proofs.lemmas.List.{length-map, length-take-le, map-append}
-use Rattle.std.specs.Prelude.{nat_lt}
-use Rattle.std.specs.List.{AllByRecursion}
-use Rattle.raft_base.specs.declared.pipe_log.LogQueue.{LogQueue}
-use Rattle.raft_base.specs.declared.pipe_log.LogQueue.TheVariants.{Append, Rewrite}
-use Rattle.raft_base.specs.declared.pipe_log.Version.{Version}
-use Rattle.raft_history.specs.RegionSteps.{Tables}
-use Rattle.raft_files.specs.Asks.{Ask, Delete, MayBeAsked, NumberedBytes, acts_on, ask}
-use Rattle.raft_files.specs.Disk.{begun, deletions, files_of}
-use Rattle.raft_engine_laws.specs.DeletedFiles.{AreLeastFrom}
-use Rattle.raft_engine_prefixes.specs.Done.{AreRisingFrom, numbers}
-use Rattle.raft_engine.specs.KeptEngine.{KeptEngine}
-use Rattle.raft_engine.specs.KeptEngineView.{AreFilesOf}
-use Rattle.raft_engine.specs.Lasting.{AreSynced}
-use Rattle.raft_engine.specs.Purged.{AreExpired, AreSomeDeleted, BeginWithNeeded, IsExpired, IsLeastNeeded, delete_asks, front_below}
-use Rattle.raft_engine.specs.Stored.{AreKeptStored, Bases}
-use Rattle.raft_engine.specs.StoredAsks.{DeletionsAreStored}
-use Rattle.raft_engine.specs.declared.queue_files.QueueFiles.{QueueFiles}
+use Rattle.raft_engine.proofs.Common.{◌≡◌, ℕ, zero, suc, ◌+◌, ◌-◌, ◌<◌, ◌≤◌, Bool, true, false, cond, List, [], ◌∷◌, ◌++◌, length, take, drop, refl, sym, ap, ◌∙◌, subst, arith, append_assoc, length-append, take-append-drop, nat_tests, length-map, length-take-le, map-append}
+use Rattle.raft_engine.proofs.Common.{nat_lt, AllByRecursion, LogQueue, Append, Rewrite, Version, Tables, Ask, Delete, NumberedBytes, acts_on, ask, begun, deletions, files_of, AreLeastFrom, AreRisingFrom, numbers, KeptEngine, AreFilesOf, AreSynced, AreExpired, BeginWithNeeded}
+use Rattle.raft_engine.proofs.Common.{IsExpired, IsLeastNeeded, delete_asks, front_below, AreKeptStored, Bases, DeletionsAreStored, QueueFiles}
 
 -- ---- numbers below one
 
@@ -256,7 +239,3 @@ module _ (queue : LogQueue) where
   pub more_deleted : (n : ℕ) (before old new : List Ask) → before ≡ delete_asks queue n ++ old → new ≡ ask queue Delete ∷ before → new ≡ delete_asks queue (n + 1) ++ old
   more_deleted n before old new is asked =
       asked ∙ ap (λ (l : List Ask). ask queue Delete ∷ l) is ∙ ap (λ (m : ℕ). delete_asks queue m ++ old) (let e : suc n ≡ n + 1 = omega arith in e)
-
-  pub some_deleted : (n count : ℕ) → n < count → (before old new : List Ask) → before ≡ delete_asks queue n ++ old → MayBeAsked (ask queue Delete) before new → AreSomeDeleted queue count old new
-  some_deleted n count low before old new is (inl e) = record { made = n; at_most = omega (arith, low); asked = e ∙ is }
-  some_deleted n count low before old new is (inr e) = record { made = n + 1; at_most = omega (arith, low); asked = more_deleted n before old new is e }

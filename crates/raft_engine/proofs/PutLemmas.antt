@@ -1,15 +1,8 @@
 -- Keys that are put in a batch, one after another.
-use Rattle.std.proofs.Common.{◌≡◌, ◌≢◌, ℕ, Bool, true, false, List, [], ◌∷◌, length, Some, refl, sym, ap, subst, ◌∙◌, append_assoc, append-nil, arith}
-use Rattle.raft_base.specs.declared.errors.Error.{Error}
+use Rattle.raft_engine.proofs.Common.{◌≡◌, ◌≢◌, ℕ, Bool, true, false, List, [], ◌∷◌, length, Some, refl, sym, ap, subst, ◌∙◌, append_assoc, append-nil, arith, Error, IsKeyRefusal, is_reserved, reserved_key, Item, pair_item, Batch, with_item, is_reserved_key, reserved_is}
+use Rattle.raft_engine.proofs.Common.{AreOrdinary, puts_of, with_puts, AreKeysRefused}
 use Rattle.raft_base.specs.declared.errors.Error.TheVariants as errors
-use Rattle.raft_records.specs.Group.{IsKeyRefusal, is_reserved, reserved_key}
-use Rattle.raft_records.specs.Item.{Item, pair_item}
-use Rattle.raft_records.specs.LogBatch.{Batch, with_item}
 use Rattle.raft_records.specs.declared.key_value.OpType.TheVariants.{Put}
-use Rattle.raft_records.proofs.GroupLemmas.{is_reserved_key, reserved_is}
-use Rattle.raft_engine_laws.specs.Moving.{AreOrdinary}
-use Rattle.raft_engine.specs.Rewriting.{puts_of, with_puts}
-use Rattle.raft_engine.specs.Unmoved.{AreKeysRefused}
 
 Pairs : Type 0
 Pairs = List (List ℕ × List ℕ)

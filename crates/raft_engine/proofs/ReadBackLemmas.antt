@@ -1,48 +1,12 @@
 -- Tables that are read back of the append files, once more is asked of the files.
-use Rattle.std.proofs.Common.{◌≡◌, ◌≢◌, inl, ℕ, zero, suc, ◌≤◌, List, [], ◌∷◌, ◌++◌, length, map, Option, Some, None, refl, sym, ap, ◌∙◌, subst, append_assoc, append-nil, arith}
-use Rattle.std.proofs.lemmas.List.{map-append}
+use Rattle.raft_engine.proofs.Common.{◌≡◌, ◌≢◌, inl, ℕ, zero, suc, ◌≤◌, List, [], ◌∷◌, ◌++◌, length, map, Option, Some, None, refl, sym, ap, ◌∙◌, subst, append_assoc, append-nil, arith, map-append, AllByRecursion, nat_cmp, CompressionType, EntryIndex, FileBlockHandle, FileId}
+use Rattle.raft_engine.proofs.Common.{LogQueue, Append, Rewrite, Version, Content, Item, command, entries, pair, placed_content, placed_item, Batch, entry_place, Stored, table_of, Table, Event, effects_behind, IsReadNext, PlacedItemsAreInFile, ReadingGoesOn, SoundHistoryGoesOn}
+use Rattle.raft_engine.proofs.Common.{IsOneReading, last_from, Tables, cleaned_by_steps, steps_of_items, tables_after, Accessor, Rewriting, listed_by_items, AppendedItemsFollow, AreMovedEntries, AreMovedTables, IsMovedPair, ReadingLeavesRuns, RewritingMovesPlaces}
+use Rattle.raft_engine.proofs.Common.{AppendedItemsAreListed, AppendedItemsAreRead, ItemsAreRead, Act, Ask, Begin, Found, NumberedBytes, Put, Sync, acts_on, ask, begun, FilesHold, TakeAway, TakesAway, AreRisingFrom, numbers, ArePutWhole, files_up_to, last_low, begun_whole}
+use Rattle.raft_engine.proofs.Common.{whole_torn, bytes_for, event_at, place_at, placed_at, IsLastFile, asks_of_items, delete_asks, put_asks, IsReadBackAlone, MovedBatchesAreReadBack, NoneFound, NothingMoved, WrittenBatchesAreReadBack, batch_of, IsWritableBatch}
 use Rattle.std.specs.FinMap as finite
-use Rattle.std.specs.List.{AllByRecursion}
-use Rattle.std.specs.Ordering.{nat_cmp}
-use Rattle.raft_base.specs.declared.compression_type.CompressionType.{CompressionType}
 use Rattle.raft_base.specs.declared.compression_type.CompressionType.TheVariants as compressions
-use Rattle.raft_base.specs.declared.entry_index.EntryIndex.{EntryIndex}
-use Rattle.raft_base.specs.declared.pipe_log.FileBlockHandle.{FileBlockHandle}
-use Rattle.raft_base.specs.declared.pipe_log.FileId.{FileId}
-use Rattle.raft_base.specs.declared.pipe_log.LogQueue.{LogQueue}
-use Rattle.raft_base.specs.declared.pipe_log.LogQueue.TheVariants.{Append, Rewrite}
-use Rattle.raft_base.specs.declared.pipe_log.Version.{Version}
-use Rattle.raft_records.specs.Item.{Content, Item, command, entries, pair}
-use Rattle.raft_records.specs.ItemBatch.{placed_content, placed_item}
-use Rattle.raft_records.specs.LogBatch.{Batch, entry_place}
-use Rattle.raft_table.specs.KeyValues.{Stored}
-use Rattle.raft_table.specs.Steps.{table_of}
-use Rattle.raft_table.specs.Table.{Table}
-use Rattle.raft_history.specs.Batches.{Event}
-use Rattle.raft_history.specs.Effects.{effects_behind}
-use Rattle.raft_history.specs.GoingOn.{IsReadNext, PlacedItemsAreInFile, ReadingGoesOn, SoundHistoryGoesOn}
-use Rattle.raft_history.specs.Histories.{IsOneReading, last_from}
-use Rattle.raft_history.specs.RegionSteps.{Tables, cleaned_by_steps, steps_of_items, tables_after}
-use Rattle.raft_accessor.specs.Accessor.{Accessor}
-use Rattle.raft_accessor.specs.Writes.{Rewriting, listed_by_items}
-use Rattle.raft_contexts.specs.MovedPlaces.{AppendedItemsFollow, AreMovedEntries, AreMovedTables, IsMovedPair, ReadingLeavesRuns, RewritingMovesPlaces}
-use Rattle.raft_contexts.specs.ReadItems.{AppendedItemsAreListed, AppendedItemsAreRead, ItemsAreRead}
-use Rattle.raft_files.specs.Asks.{Act, Ask, Begin, Found, NumberedBytes, Put, Sync, acts_on, ask}
-use Rattle.raft_files.specs.Disk.{begun}
-use Rattle.raft_recover.specs.Files.{FilesHold}
-use Rattle.raft_engine_laws.specs.Telling.{TakeAway, TakesAway}
-use Rattle.raft_engine_prefixes.specs.Done.{AreRisingFrom, numbers}
-use Rattle.raft_engine_prefixes.specs.Prefixes.{ArePutWhole}
-use Rattle.raft_engine_prefixes.proofs.EventLemmas.{files_up_to, last_low}
-use Rattle.raft_engine_prefixes.proofs.PrefixLemmas.{begun_whole}
 use Rattle.raft_engine_prefixes.proofs.StepLemmas as steps
-use Rattle.raft_engine_prefixes.proofs.TornLemmas.{whole_torn}
-use Rattle.raft_engine.specs.BatchBytes.{bytes_for, event_at, place_at, placed_at}
-use Rattle.raft_engine.specs.KeptEngine.{IsLastFile}
-use Rattle.raft_engine.specs.Purged.{asks_of_items, delete_asks, put_asks}
-use Rattle.raft_engine.specs.ReadBack.{IsReadBackAlone, MovedBatchesAreReadBack, NoneFound, NothingMoved, WrittenBatchesAreReadBack}
-use Rattle.raft_engine.specs.Rewriting.{batch_of}
-use Rattle.raft_engine.specs.StoredAsks.{IsWritableBatch}
 
 some_is : {A : Type 0} {x y : A} → Some x ≡ Some y → x ≡ y
 some_is e = cc

@@ -1,22 +1,8 @@
 -- What an engine has after its entries were read.
-use Rattle.std.proofs.Common.{◌≡◌, ℕ, suc, Bool, true, false, List, [], ◌∷◌, ◌++◌, filter, length, map, reverse, Option, Some, None, Vec, option_map, refl, sym, ap, subst, ◌∙◌, append-nil, if◌then◌else◌}
+use Rattle.raft_engine.proofs.Common.{◌≡◌, ℕ, Bool, true, false, List, [], ◌∷◌, ◌++◌, filter, length, map, reverse, Option, Some, None, Vec, option_map, refl, sym, ap, subst, ◌∙◌, append-nil, if◌then◌else◌, Global, EntryIndex, Error, Fetches, range_answer, key_value}
+use Rattle.raft_engine.proofs.Common.{VisitsUntilFalse, is_between, pairs_between, table_of, Table, Ask, AreBothTold, ReadEntryIsTold, AreFetched, AreOfRange, answer_of, KeptEngine, AreOnlyRead, AreReadByBlocks, AreUnread, entries-empty, Failures}
 use Rattle.std.specs.FinMap as finite
-use Rattle.std.specs.Global.{Global}
-use Rattle.raft_base.specs.declared.entry_index.EntryIndex.{EntryIndex}
-use Rattle.raft_base.specs.declared.errors.Error.{Error}
-use Rattle.raft_table.specs.Fetches.{Fetches, range_answer}
-use Rattle.raft_table.specs.KeyValues.{key_value}
-use Rattle.raft_table.specs.Scan.{VisitsUntilFalse, is_between, pairs_between}
-use Rattle.raft_table.specs.Steps.{table_of}
-use Rattle.raft_table.specs.Table.{Table}
-use Rattle.raft_files.specs.Asks.{Ask}
-use Rattle.raft_engine_prefixes.specs.Contents.{AreBothTold, ReadEntryIsTold}
-use Rattle.raft_engine.specs.EntryReads.{AreFetched, AreOfRange, answer_of}
-use Rattle.raft_engine.specs.KeptEngine.{KeptEngine}
-use Rattle.raft_engine.specs.Reads.{AreOnlyRead, AreReadByBlocks, AreUnread, IsReadAmong}
 use Rattle.raft_engine.proofs.ToldReads.{entries_told}
-use Rattle.raft_table.proofs.KeyValueReads.{entries-empty}
-use Rattle.raft_engine.specs.FileFailures.{Failures}
 
 pub none_read : (old new : List Ask) → new ≡ old → AreOnlyRead old new
 none_read old new e = record { reads = []; only = tt; asked = e }

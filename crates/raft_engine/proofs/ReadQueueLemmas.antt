@@ -1,34 +1,9 @@
 -- Files of a queue that a machine has replayed up to where the reading of the last one stops.
-use Rattle.std.proofs.Common.{◌≡◌, ◌≢◌, ◌↔◌, ℕ, zero, suc, ◌+◌, ◌<◌, ◌≤◌, List, [], ◌∷◌, ◌++◌, Vec, length, take, drop, Option, Some, None, Result, Ok, Err, IfOk, inl, inr, refl, sym, ap, ◌∙◌, subst, append_assoc, arith}
-use Rattle.std.proofs.lemmas.List.{length-take-le, length-drop, take-append-drop, take-map, take-take, take_all, take_at}
-use Rattle.std.specs.Global.{Global}
-use Rattle.raft_base.specs.Signature.{signature_in}
-use Rattle.raft_base.specs.declared.errors.Error.{Error}
+use Rattle.raft_engine.proofs.Common.{◌≡◌, ◌≢◌, ◌↔◌, ℕ, zero, suc, ◌+◌, ◌<◌, ◌≤◌, List, [], ◌∷◌, ◌++◌, Vec, length, take, drop, Option, Some, None, Result, Ok, Err, IfOk, inl, inr, refl, sym, ap, ◌∙◌, subst, append_assoc, arith, length-take-le, length-drop, take-append-drop}
+use Rattle.raft_engine.proofs.Common.{take-map, take-take, take_all, take_at, Global, signature_in, Error, LogFileContext, LogQueue, Version, Part, IsNextFault, StandBetween, part_of, Item, batch_inside, Event, Apart, IsSmall, apart_back, apart_front, small_back, small_front}
+use Rattle.raft_engine.proofs.Common.{NumberedBytes, bytes_before, HasReplayed, IsReplayed, HoldsFrom, SegmentsHold, IsUnreadableAt, history_in, AreWholeFiles, FilesHold, segment_shown, whole_file, as_many, same_read, FilesHoldTorn, HoldsTornFrom, StopsAt, end_unreadable}
+use Rattle.raft_engine.proofs.Common.{one_file, stand_up_to, stands_as, torn_more, untorn, IsTailTold, IsTornAs, IsLastOf, IsHistoryUpTo, IsReadUpTo, IsReplayedTo, CutTail, IsTailFrom}
 use Rattle.raft_base.specs.declared.errors.Error.TheVariants as errors
-use Rattle.raft_base.specs.declared.pipe_log.LogFileContext.{LogFileContext}
-use Rattle.raft_base.specs.declared.pipe_log.LogQueue.{LogQueue}
-use Rattle.raft_base.specs.declared.pipe_log.Version.{Version}
-use Rattle.raft_records.specs.FilePart.{Part, IsNextFault, StandBetween, part_of}
-use Rattle.raft_records.specs.Item.{Item}
-use Rattle.raft_records.proofs.PartLemmas.{batch_inside}
-use Rattle.raft_history.specs.Batches.{Event}
-use Rattle.raft_history.specs.Histories.{Apart, IsSmall}
-use Rattle.raft_history.proofs.StretchOfHistory.{apart_back, apart_front, small_back, small_front}
-use Rattle.raft_files.specs.Asks.{NumberedBytes}
-use Rattle.raft_replay.specs.Cuts.{bytes_before}
-use Rattle.raft_replay.specs.Replays.{HasReplayed, IsReplayed}
-use Rattle.raft_replay.specs.Segments.{HoldsFrom, SegmentsHold}
-use Rattle.raft_replay.specs.Stops.{IsUnreadableAt, history_in}
-use Rattle.raft_recover.specs.Files.{AreWholeFiles, FilesHold, segment_shown, whole_file}
-use Rattle.raft_recover.proofs.FileLemmas.{as_many, same_read}
-use Rattle.raft_engine_prefixes.specs.TornTails.{FilesHoldTorn, HoldsTornFrom, StopsAt}
-use Rattle.raft_engine_prefixes.proofs.BatchPartLemmas.{end_unreadable}
-use Rattle.raft_engine_prefixes.proofs.TornLemmas.{one_file, stand_up_to, stands_as, torn_more, untorn}
-use Rattle.raft_engine.specs.CutTails.{IsTailTold, IsTornAs}
-use Rattle.raft_engine.specs.FoundQueues.{IsLastOf}
-use Rattle.raft_engine.specs.ReadQueues.{IsHistoryUpTo, IsReadUpTo, IsReplayedTo}
-use Rattle.raft_engine.specs.declared.recovered.CutTail.{CutTail}
-use Rattle.raft_engine.specs.TailsFound.{IsTailFrom}
 use Rattle.raft_engine.proofs.FoundLemmas.{one_last}
 use Rattle.raft_engine.proofs.FoundQueueLemmas.{is_tail}
 use Rattle.raft_engine.proofs.ReadyLemmas.{no_last}

@@ -1,24 +1,8 @@
 -- Found files that are ready once what is missing of them was asked.
-use Rattle.std.proofs.Common.{◌≡◌, ◌⊎◌, Result, Ok, Err, IfOk, OnOk, ℕ, List, [], ◌∷◌, ◌++◌, length, inl, inr, refl, sym, ap, ◌∙◌, subst, append_assoc}
-use Rattle.raft_base.specs.declared.errors.Error.{Error}
-use Rattle.raft_base.specs.declared.pipe_log.LogQueue.{LogQueue}
-use Rattle.raft_base.specs.declared.pipe_log.LogQueue.TheVariants.{Append, Rewrite}
-use Rattle.raft_base.specs.declared.pipe_log.Version.{Version}
-use Rattle.raft_records.specs.LogBatch.{Batch}
-use Rattle.raft_files.specs.Asks.{Ask, NumberedBytes}
-use Rattle.raft_files.specs.Disk.{cut_last}
-use Rattle.raft_recover.specs.Files.{whole_file}
-use Rattle.raft_engine_prefixes.specs.Done.{AreConsecutive, numbers}
-use Rattle.raft_engine_prefixes.specs.TornTails.{StopsAt}
-use Rattle.raft_engine.specs.CutTails.{IsTailOf, IsTailTold, tail_of}
-use Rattle.raft_engine.specs.FoundFiles.{AreAccepted, AreReadyBy, IsFoundFault, IsOfOther, IsOtherAs, IsTailRefused, IsTailRefusedAs}
-use Rattle.raft_engine.specs.OpeningAsks.{asks_that_tell, missing_asks, opening_asks}
-use Rattle.raft_engine.specs.SoundBlocks.{IsFileSound, IsUnsoundAs}
-use Rattle.raft_engine.specs.StoredFound.{AreReady, found_asks}
-use Rattle.raft_engine.specs.declared.missing.Missing.{Missing}
-use Rattle.raft_engine.specs.declared.missing.Missing.TheVariants.{Nothing, FirstFile, Cut}
-use Rattle.raft_engine.specs.declared.recovered.CutTail.{CutTail}
-use Rattle.raft_engine.specs.declared.recovery_mode.RecoveryMode.{RecoveryMode}
+use Rattle.raft_engine.proofs.Common.{◌≡◌, ◌⊎◌, Result, Ok, Err, IfOk, OnOk, ℕ, List, [], ◌∷◌, ◌++◌, length, inl, inr, refl, sym, ap, ◌∙◌, subst, append_assoc, Error, LogQueue, Append, Rewrite, Version, Batch, Ask, NumberedBytes, cut_last, whole_file, AreConsecutive, numbers}
+use Rattle.raft_engine.proofs.Common.{StopsAt, IsTailOf, IsTailTold, tail_of, AreAccepted, AreReadyBy, IsFoundFault, IsOfOther, IsOtherAs, IsTailRefused, IsTailRefusedAs, asks_that_tell, missing_asks, opening_asks, IsFileSound, IsUnsoundAs, AreReady, found_asks, Missing, Nothing}
+use Rattle.raft_engine.proofs.Common.{FirstFile, CutTail, RecoveryMode}
+use Rattle.raft_engine.specs.declared.missing.Missing.TheVariants.{Cut}
 use Rattle.raft_engine.proofs.FoundLemmas.{one_last}
 
 pub no_last : {A : Type 0} (closed : List A) (last : A) → [] ≡ closed ++ last ∷ [] → ⊥

@@ -1,57 +1,15 @@
 -- What a recovery gives of the files that are found.
-use Rattle.std.proofs.Common.{◌≡◌, ◌≢◌, ◌⊎◌, inl, inr, ℕ, ◌<◌, ◌≤◌, ◌^◌, List, [], ◌∷◌, ◌++◌, map, Vec, refl, sym, ap, subst, ◌∙◌, arith, Result, Ok, Err, IfErr, OnOk}
-use Rattle.std.specs.Global.{Global}
-use Rattle.raft_base.specs.Errors.{IsInvalidArgument}
-use Rattle.raft_base.specs.declared.errors.Error.{Error}
+use Rattle.raft_engine.proofs.Common.{◌≡◌, ◌≢◌, ◌⊎◌, inl, inr, ℕ, ◌<◌, ◌≤◌, ◌^◌, List, [], ◌∷◌, ◌++◌, map, Vec, refl, sym, ap, subst, ◌∙◌, arith, Result, Ok, Err, IfErr, OnOk, Global, IsInvalidArgument, Error, FileId, LogQueue, Append, Rewrite, Version, Part, Item, Batch}
+use Rattle.raft_engine.proofs.Common.{empty_batch, Event, IsReadingOfBoth, Suits, Apart, AreOfQueue, IsOfQueue, IsSmall, IsSoundIn, Sound, of_both, append_apart, Accessor, AreOfBothQueues, IsOfBothExactly, HasRead, HasReadExactly, RecoverContext, IsTakenAway, TakenAway}
+use Rattle.raft_engine.proofs.Common.{NumberedBytes, cut_last, IsReplayed, HoldsFrom, SegmentsAreOf, SegmentsHold, parts_within, IsNothing, StopsAmong, bytes_of_parts, bytes_of_segments, segments_read_of_queue, AreWholeFiles, FilesHold, bytes_of_files, segment_shown, whole_file}
+use Rattle.raft_engine.proofs.Common.{MayReplayBoth, as_many, same_read, segments_are_of, AreGroupsInRows, AreBothRead, AreFoundTables, DoesTakenTakeAway, IsTakenToldByMarks, IsTakenToldNowOrLater, rows_apart, taken_in_steps, FilesHoldTorn, StopsAt, AreSegmentsOfFiles}
+use Rattle.raft_engine.proofs.Common.{AreOutOfRows, HaveRows, NoneIsInRows, AreRecovered, left_by, missing_asks, AreBothReadUpTo, AreReadBy, HasReadAll, AreReadyFiles, IsNoRefusal, BothRead, Ready, RecoveryMode, AreManyAs, AreUnreadableAs, IsOpeningRefusal, IsRecoveryFault}
+use Rattle.raft_engine.proofs.Common.{IsTooLongAs, MayRecover, Refusal}
 use Rattle.raft_base.specs.declared.errors.Error.TheVariants as errors
-use Rattle.raft_base.specs.declared.pipe_log.FileId.{FileId}
-use Rattle.raft_base.specs.declared.pipe_log.LogQueue.{LogQueue}
-use Rattle.raft_base.specs.declared.pipe_log.LogQueue.TheVariants.{Append, Rewrite}
-use Rattle.raft_base.specs.declared.pipe_log.Version.{Version}
-use Rattle.raft_records.specs.FilePart.{Part}
-use Rattle.raft_records.specs.Item.{Item}
-use Rattle.raft_records.specs.LogBatch.{Batch, empty_batch}
-use Rattle.raft_history.specs.Batches.{Event}
-use Rattle.raft_history.specs.BothQueues.{IsReadingOfBoth}
-use Rattle.raft_history.specs.Contexts.{Suits, files_of}
-use Rattle.raft_history.specs.Histories.{Apart, AreOfQueue, IsOfQueue, IsSmall, IsSoundIn, Sound}
-use Rattle.raft_history.proofs.StretchOfHistory.{of_both}
-use Rattle.raft_history.proofs.SoundLemmas.{append_apart}
-use Rattle.raft_accessor.specs.Accessor.{Accessor}
-use Rattle.raft_contexts.specs.OverlaidContext.{AreOfBothQueues, IsOfBothExactly}
-use Rattle.raft_contexts.specs.RecoverContext.{HasRead, HasReadExactly, RecoverContext}
-use Rattle.raft_contexts.specs.TakenBatches.{IsTakenAway}
+use Rattle.raft_history.specs.Contexts.{files_of}
 use Rattle.raft_contexts.specs.declared.context_stage.ContextStage.TheVariants.{Reading}
-use Rattle.raft_contexts.specs.declared.taken_away.TakenAway.{TakenAway}
-use Rattle.raft_files.specs.Asks.{NumberedBytes}
-use Rattle.raft_files.specs.Disk.{cut_last}
-use Rattle.raft_replay.specs.Replays.{IsReplayed}
-use Rattle.raft_replay.specs.Segments.{HoldsFrom, SegmentsAreOf, SegmentsHold, parts_within}
-use Rattle.raft_replay.specs.Stops.{IsNothing, StopsAmong}
-use Rattle.raft_replay.specs.WrittenParts.{bytes_of_parts, bytes_of_segments}
-use Rattle.raft_replay.proofs.MachineOrderLemmas.{segments_read_of_queue}
-use Rattle.raft_recover.specs.Files.{AreWholeFiles, FilesHold, bytes_of_files, segment_shown, whole_file}
-use Rattle.raft_recover.specs.Recovery.{MayReplayBoth}
-use Rattle.raft_recover.proofs.FileLemmas.{as_many, same_read, segments_are_of}
-use Rattle.raft_engine_laws.specs.GroupsInRows.{AreGroupsInRows}
-use Rattle.raft_engine_laws.specs.TakenTold.{AreBothRead, AreFoundTables, DoesTakenTakeAway, IsTakenToldByMarks, IsTakenToldNowOrLater}
-use Rattle.raft_engine_laws.proofs.InRows.{rows_apart}
-use Rattle.raft_engine_laws.proofs.ToldContexts.{taken_in_steps}
-use Rattle.raft_engine_prefixes.specs.TornTails.{FilesHoldTorn, StopsAt}
-use Rattle.raft_engine.specs.FileSegments.{AreSegmentsOfFiles}
-use Rattle.raft_engine.specs.Markers.{AreOutOfRows, HaveRows, NoneIsInRows}
-use Rattle.raft_engine.specs.Opening.{AreRecovered}
-use Rattle.raft_engine.specs.FoundQueues.{left_by}
-use Rattle.raft_engine.specs.OpeningAsks.{missing_asks}
-use Rattle.raft_engine.specs.ReadQueues.{AreBothReadUpTo}
-use Rattle.raft_engine.specs.ReadContexts.{AreReadBy, HasReadAll}
-use Rattle.raft_engine.specs.ReadFound.{AreReadyFiles, IsNoRefusal}
-use Rattle.raft_engine.specs.declared.both_reading.BothRead.{BothRead}
-use Rattle.raft_engine.specs.declared.reading.Ready.{Ready}
-use Rattle.raft_engine.specs.declared.recovery_mode.RecoveryMode.{RecoveryMode}
 use Rattle.raft_engine.proofs.FoundQueueLemmas.{left_few}
 use Rattle.raft_engine.proofs.RestartLemmas.{OneReading, ready_held}
-use Rattle.raft_engine.specs.Unopened.{AreManyAs, AreUnreadableAs, IsOpeningRefusal, IsRecoveryFault, IsTooLongAs, MayRecover, Refusal}
 
 suits : (queue : LogQueue) (h : List Event) → IsOfQueue queue h → Suits queue (files_of h)
 suits queue [] all = tt

@@ -1,18 +1,7 @@
 -- Why nothing is asked for a batch.
-use Rattle.std.proofs.Common.{◌≡◌, ◌≢◌, ◌⊎◌, ◌≤◌, ◌<◌, ◌-◌, ◌^◌, ℕ, Bool, true, List, inl, inr, subst, sym}
-use Rattle.raft_base.specs.declared.errors.Error.{Error}
+use Rattle.raft_engine.proofs.Common.{◌≡◌, ◌≢◌, ◌⊎◌, ◌≤◌, ◌<◌, ◌-◌, ◌^◌, ℕ, Bool, true, List, inl, inr, subst, sym, Error, Append, Rewrite, Version, Batch, encoded_length, Accessor, IsAppendCheckFault, Ask, IsLastFile, KeptEngine, IsKeptBy, IsPurgeRefusal, IsLastFull, IsRefusal}
+use Rattle.raft_engine.proofs.Common.{IsRotationRefusal, QueueFiles}
 use Rattle.raft_base.specs.declared.errors.Error.TheVariants as errors
-use Rattle.raft_base.specs.declared.pipe_log.LogQueue.TheVariants.{Append, Rewrite}
-use Rattle.raft_base.specs.declared.pipe_log.Version.{Version}
-use Rattle.raft_records.specs.LogBatch.{Batch, encoded_length}
-use Rattle.raft_accessor.specs.Accessor.{Accessor}
-use Rattle.raft_accessor.specs.AppendChecks.{IsAppendCheckFault}
-use Rattle.raft_files.specs.Asks.{Ask}
-use Rattle.raft_engine.specs.KeptEngine.{IsLastFile, KeptEngine}
-use Rattle.raft_engine.specs.KeptEngineView.{IsKeptBy}
-use Rattle.raft_engine.specs.Purged.{IsPurgeRefusal}
-use Rattle.raft_engine.specs.WrittenBatch.{IsLastFull, IsRefusal, IsRotationRefusal}
-use Rattle.raft_engine.specs.declared.queue_files.QueueFiles.{QueueFiles}
 use Rattle.raft_engine.proofs.FilesLemmas.{files_last}
 
 -- the tables would refuse it

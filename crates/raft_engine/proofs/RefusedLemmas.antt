@@ -1,13 +1,5 @@
 -- What is refused isn't held.
-use Rattle.std.proofs.Common.{◌≡◌, ℕ, zero, suc, ◌<◌, List, [], ◌∷◌, ◌++◌, length, drop, sym, ap, ◌∙◌, subst, append_assoc, arith}
-use Rattle.raft_records.specs.FilePart.{AreBatchesUpTo, Part, StandBetween}
-use Rattle.raft_records.specs.Item.{Item}
-use Rattle.raft_records.proofs.PartLemmas.{batch_inside}
-use Rattle.raft_history.specs.Batches.{Event}
-use Rattle.raft_replay.specs.Segments.{EachHolds, HoldsFrom}
-use Rattle.raft_replay.specs.Stops.{IsUnreadableAt}
-use Rattle.raft_replay.proofs.SegmentLemmas.{batch_none, batch_unique}
-use Rattle.raft_engine.specs.Markers.{NoneIsHeld}
+use Rattle.raft_engine.proofs.Common.{◌≡◌, ℕ, zero, suc, ◌<◌, List, [], ◌∷◌, ◌++◌, length, drop, sym, ap, ◌∙◌, subst, append_assoc, arith, AreBatchesUpTo, Part, StandBetween, Item, batch_inside, Event, EachHolds, HoldsFrom, IsUnreadableAt, batch_none, batch_unique, NoneIsHeld}
 
 -- ---- a part
 

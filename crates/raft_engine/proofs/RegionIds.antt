@@ -1,11 +1,6 @@
 -- The regions of all tables.
-use Rattle.std.proofs.Common.{◌≡◌, ℕ, List, [], ◌∷◌, map, IsPermutation, IfOk, Result, Ok, Err, Vec, refl, sym, ap, subst, ◌∙◌}
-use Rattle.std.proofs.lemmas.List.Sorted.{IsPermutation-map}
+use Rattle.raft_engine.proofs.Common.{◌≡◌, ℕ, List, [], ◌∷◌, map, IsPermutation, IfOk, Result, Ok, Err, Vec, refl, sym, ap, subst, ◌∙◌, IsPermutation-map, Global, Tables, Table, AreRegions}
 use Rattle.std.specs.FinMap as finite
-use Rattle.std.specs.Global.{Global}
-use Rattle.raft_history.specs.RegionSteps.{Tables}
-use Rattle.raft_table.specs.Table.{Table}
-use Rattle.raft_engine.specs.Moved.{AreRegions}
 
 ids_twice : {R : Type 0} (now : R → Table) (refs : List R) → map (λ (t : R). (now t).region_id) refs ≡ map (λ (t : Table). t.region_id) (map now refs)
 ids_twice now [] = refl

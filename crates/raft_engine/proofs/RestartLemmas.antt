@@ -1,35 +1,9 @@
 -- What restarts find.
-use Rattle.std.proofs.Common.{◌≡◌, ◌⊎◌, inl, inr, ℕ, ◌<◌, ◌^◌, List, [], ◌∷◌, ◌++◌, Vec, length, refl, sym, ap, ◌∙◌, subst, arith, append-nil, length-append}
-use Rattle.std.proofs.lemmas.List.{nil_from_length, take_all}
-use Rattle.std.specs.Global.{Global}
-use Rattle.raft_base.specs.declared.entry_index.EntryIndex.{EntryIndex}
-use Rattle.raft_base.specs.declared.pipe_log.LogQueue.{LogQueue}
-use Rattle.raft_base.specs.declared.pipe_log.LogQueue.TheVariants.{Append, Rewrite}
-use Rattle.raft_base.specs.declared.pipe_log.Version.{Version}
-use Rattle.raft_records.specs.FilePart.{Part}
-use Rattle.raft_history.specs.Batches.{Event}
-use Rattle.raft_history.specs.BothQueues.{IsReadingOfBoth}
-use Rattle.raft_history.specs.Histories.{Apart, IsSmall, IsSoundIn}
-use Rattle.raft_history.specs.RegionSteps.{Tables}
-use Rattle.raft_accessor.specs.Accessor.{Accessor}
-use Rattle.raft_files.specs.Asks.{Ask, NumberedBytes}
-use Rattle.raft_files.specs.Disk.{IsLeftOf, cut_last, files_of}
-use Rattle.raft_replay.specs.Segments.{SegmentsHold}
-use Rattle.raft_recover.specs.Files.{FilesHold, bytes_of_files, whole_file}
-use Rattle.raft_recover.specs.Recovery.{AreBothRecovered}
-use Rattle.raft_engine_laws.specs.Records.{Records, HaveRecords, live}
-use Rattle.raft_engine_prefixes.specs.Done.{AreConsecutive, numbers}
-use Rattle.raft_engine_prefixes.specs.Prefixes.{IsPrefixWith}
-use Rattle.raft_engine_prefixes.specs.TornTails.{AreUndamaged, FilesHoldTorn, StopsAt}
-use Rattle.raft_engine.specs.CutFiles.{AreCut}
-use Rattle.raft_engine.specs.FoundFiles.{IsCut, IsFirstBegun, IsLastOfOther, IsLastRefused, IsReady, IsUntorn}
-use Rattle.raft_engine.specs.KeptEngine.{KeptEngine}
-use Rattle.raft_engine.specs.Lasting.{AreFoundIn, IsLasting, IsLastingAfter}
-use Rattle.raft_engine.specs.Opened.{IsOpened}
-use Rattle.raft_engine.specs.SoundBlocks.{IsLastSound}
-use Rattle.raft_engine.specs.Restarts.{AreFromBefore, AreOpenable, AreSegmentsOf, AreTailsTolerated, HaveSame, IsFoundByRestarts, IsKeptByRestarts, IsKeptUnordered, RestartsFind}
-use Rattle.raft_engine.specs.declared.recovery_mode.RecoveryMode.{RecoveryMode}
-use Rattle.raft_engine.specs.declared.recovery_mode.RecoveryMode.TheVariants.{TolerateTornTail}
+use Rattle.raft_engine.proofs.Common.{◌≡◌, ◌⊎◌, inl, inr, ℕ, ◌<◌, ◌^◌, List, [], ◌∷◌, ◌++◌, Vec, length, refl, sym, ap, ◌∙◌, subst, arith, append-nil, length-append, nil_from_length, take_all, Global, EntryIndex, LogQueue, Append, Rewrite, Version, Part, Event, IsReadingOfBoth}
+use Rattle.raft_engine.proofs.Common.{Apart, IsSmall, IsSoundIn, Tables, Accessor, Ask, NumberedBytes, IsLeftOf, cut_last, files_of, SegmentsHold, FilesHold, bytes_of_files, whole_file, AreBothRecovered, Records, HaveRecords, live, AreConsecutive, numbers, IsPrefixWith}
+use Rattle.raft_engine.proofs.Common.{AreUndamaged, FilesHoldTorn, StopsAt, AreCut, IsCut, IsFirstBegun, IsLastOfOther, IsLastRefused, IsUntorn, KeptEngine, AreFoundIn, IsLasting, IsLastingAfter, IsOpened, IsLastSound, AreFromBefore, AreOpenable, AreSegmentsOf, AreTailsTolerated}
+use Rattle.raft_engine.proofs.Common.{HaveSame, IsFoundByRestarts, IsKeptByRestarts, IsKeptUnordered, RestartsFind, RecoveryMode, TolerateTornTail}
+use Rattle.raft_engine.specs.FoundFiles.{IsReady}
 use Rattle.raft_engine.proofs.OpensLemmas.{AreSoundFiles, openings_over_succeed, openings_succeed}
 
 -- a prefix of all batches with the synced ones is all of them, if all are synced

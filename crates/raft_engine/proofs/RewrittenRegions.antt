@@ -1,20 +1,8 @@
 -- Regions whose records move, one after another.
-use Rattle.std.proofs.Common.{◌≡◌, ◌≢◌, inl, inr, ℕ, ◌+◌, ◌<◌, true, List, [], ◌∷◌, ◌++◌, get_or, length, take, drop, Option, Some, Result, Ok, Err, IfErr, OnErr, OnOk, refl, sym, ap, ◌∙◌, subst}
-use Rattle.std.proofs.lemmas.List.{drop_more, take-append-drop, take_more}
+use Rattle.raft_engine.proofs.Common.{◌≡◌, ◌≢◌, inl, inr, ℕ, ◌+◌, ◌<◌, true, List, [], ◌∷◌, ◌++◌, get_or, length, take, drop, Option, Some, Result, Ok, Err, IfErr, OnErr, OnOk, refl, sym, ap, ◌∙◌, subst, drop_more, take-append-drop, take_more, EntryIndex, Error, Append, Sync}
+use Rattle.raft_engine.proofs.Common.{ask, Table, KeptEngine, AreSynced, AreFirstMoved, AreRegionsRewritten, AreSomeRewritten, AreToMove, IsBatchMoved, IsBatchUnmoved, IsReady, IsRegionRewritten, IsRegionUnmoved, IsTold, Failures, moving_entries}
 use Rattle.std.specs.FinMap as finite
-use Rattle.raft_base.specs.declared.entry_index.EntryIndex.{EntryIndex}
-use Rattle.raft_base.specs.declared.errors.Error.{Error}
 use Rattle.raft_base.specs.declared.errors.Error.TheVariants as errors
-use Rattle.raft_base.specs.declared.pipe_log.LogQueue.TheVariants.{Append}
-use Rattle.raft_files.specs.Asks.{Sync, ask}
-use Rattle.raft_table.specs.Table.{Table}
-use Rattle.raft_engine.specs.Faults.{Breaks}
-use Rattle.raft_engine.specs.KeptEngine.{KeptEngine}
-use Rattle.raft_engine.specs.Lasting.{AreSynced}
-use Rattle.raft_engine.specs.Moved.{AreFirstMoved, AreRegionsRewritten, AreSomeRewritten, AreToMove, IsBatchMoved, IsBatchUnmoved, IsReady, IsRegionRewritten, IsRegionUnmoved, IsTold}
-use Rattle.raft_engine.specs.MovingFaults.{IsBatchFault, IsRegionFault}
-use Rattle.raft_engine.specs.OpeningAsks.{Failures}
-use Rattle.raft_engine.specs.Rewriting.{moving_entries}
 use Rattle.raft_engine.proofs.KeptMoves.{read_synced}
 use Rattle.raft_engine.proofs.KeptPurges.{items_others}
 use Rattle.raft_engine.proofs.ReadKept.{none_read, read_only}
@@ -75,10 +63,6 @@ all_so_far gate region old now new es left h none m =
 
 pub unmoved_so_far : {MayFail : Failures} (gate : Option ℕ) (region : ℕ) (old now new : KeptEngine) (es left : List EntryIndex) (e : Error) → AreMovedSoFar gate region old now es → IsBatchUnmoved MayFail gate left region now new e → IsRegionUnmoved MayFail gate region old new e
 unmoved_so_far gate region old now new es left e h u = record { behind = h.behind; between = now; first = h.first; left = left; unmoved = u }
-
-pub fault_so_far : (MayFail : Failures) (gate : Option ℕ) (region : ℕ) (old now new : KeptEngine) (es left : List EntryIndex) (e : Error) → AreMovedSoFar gate region old now es → (Breaks now new → IsBatchFault MayFail gate left region now new e)
-    → Breaks old new → IsRegionFault MayFail gate region old new e
-fault_so_far MayFail gate region old now new es left e h f broken = record { behind = h.behind; between = now; first = h.first; left = left; fault = f (h.ready.intact, broken.1) }
 
 -- there is no memory for the list of what moves
 pub unlisted : {MayFail : Failures} (gate : Option ℕ) (region : ℕ) (engine : KeptEngine) (e : Error) → e ≡ errors.Memory → IsRegionUnmoved MayFail gate region engine engine e

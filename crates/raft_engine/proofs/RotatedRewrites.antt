@@ -1,20 +1,7 @@
 -- What an engine keeps once a new file of its rewrite queue is begun.
-use Rattle.std.proofs.Common.{◌≡◌, ◌⊎◌, inl, inr, ℕ, ◌+◌, ◌-◌, ◌^◌, Bool, true, false, List, [], ◌∷◌, ◌++◌, refl, sym, ap, ◌∙◌, subst}
-use Rattle.raft_base.specs.declared.errors.Error.{Error}
+use Rattle.raft_engine.proofs.Common.{◌≡◌, ◌⊎◌, inl, inr, ℕ, ◌+◌, ◌-◌, ◌^◌, Bool, true, List, [], ◌∷◌, ◌++◌, refl, sym, ap, ◌∙◌, subst, Error, Append, Rewrite, Version, Batch, Accessor, Ask, Begin, NoSyncFailed, Sync, ask, IsLastFile, KeptEngine, AreFilesOf, IsKeptBy}
+use Rattle.raft_engine.proofs.Common.{IsRewriteRotated, IsRewriteRotationRefusal, AreKeptStored, NewFilesAreStored, SyncsAreStored, QueueFiles, IsReadBackAlone}
 use Rattle.raft_base.specs.declared.errors.Error.TheVariants as errors
-use Rattle.raft_base.specs.declared.pipe_log.LogQueue.TheVariants.{Append, Rewrite}
-use Rattle.raft_base.specs.declared.pipe_log.Version.{Version}
-use Rattle.raft_records.specs.LogBatch.{Batch}
-use Rattle.raft_accessor.specs.Accessor.{Accessor}
-use Rattle.raft_files.specs.Asks.{Ask, Begin, NoSyncFailed, Sync, ask}
-use Rattle.raft_engine.specs.KeptEngine.{IsLastFile, KeptEngine}
-use Rattle.raft_engine.specs.KeptEngineView.{AreFilesOf, IsKeptBy}
-use Rattle.raft_engine.specs.MovedAgain.{IsRewriteHalfRotated, IsRewriteRotated, IsRewriteRotationRefusal, next_rewrite_asks}
-use Rattle.raft_engine.specs.Stored.{AreKeptStored}
-use Rattle.raft_engine.specs.StoredAsks.{NewFilesAreStored, SyncsAreStored}
-use Rattle.raft_engine.specs.declared.queue_files.QueueFiles.{QueueFiles}
-use Rattle.raft_engine.specs.ReadBack.{IsReadBackAlone}
-use Rattle.raft_engine.proofs.AskedLemmas.{AreAskedInPart}
 use Rattle.raft_engine.proofs.FilesLemmas.{files_begun, files_last, files_same}
 use Rattle.raft_engine.proofs.KeptLemmas.{stored_next}
 use Rattle.raft_engine.proofs.ReadBackLemmas.{rewrite_begun_read_back, same_read_back}
@@ -52,15 +39,6 @@ module _ (version : Version) (asks : List Ask) (append rewrite : QueueFiles) (un
     refusal e (inl memory) = subst (IsRewriteRotationRefusal engine) (sym memory) tt
     refusal e (inr full) = subst (IsRewriteRotationRefusal engine) (sym full.0)
         ((k.whole is_intact).rewrite_files.bytes, subst (λ (n : ℕ). IsLastFile Rewrite asks n ((k.whole is_intact).rewrite_files.bytes)) full.1 last_rewrite)
-
-    -- the sync and the new file were asked in part
-    pub half_rotated : (new : List Ask) → AreAskedInPart (next_rewrite_asks rewrite.seq) asks new → IsRewriteHalfRotated engine (record engine { asks = new; intact = false })
-    half_rotated new p = record {
-      seq = rewrite.seq;
-      bytes = (k.whole is_intact).rewrite_files.bytes;
-      last = last_rewrite;
-      half = record { half = record { was = is_intact; is = refl; same = refl; missing = p.missing; made = p.made; split = p.split; asked = p.asked }; tables = refl };
-    }
 
     module _ (new : List Ask) (are_asked : new ≡ ask Rewrite (Begin (rewrite.seq + 1)) ∷ ask Rewrite Sync ∷ asks) where
       pub kept_rotated : SyncsAreStored → NewFilesAreStored → (rewrite' : QueueFiles)

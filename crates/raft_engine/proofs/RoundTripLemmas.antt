@@ -1,29 +1,7 @@
 -- What was written is what is recovered.
-use Rattle.std.proofs.Common.{◌≡◌, inl, inr, ℕ, ◌<◌, ◌^◌, List, [], ◌∷◌, ◌++◌, Vec, drop, sym, ap, ◌∙◌, subst, arith}
-use Rattle.std.specs.Global.{Global}
-use Rattle.raft_base.specs.declared.pipe_log.LogQueue.{LogQueue}
-use Rattle.raft_base.specs.declared.pipe_log.LogQueue.TheVariants.{Append, Rewrite}
-use Rattle.raft_base.specs.declared.pipe_log.Version.{Version}
-use Rattle.raft_records.specs.FilePart.{Part}
-use Rattle.raft_history.specs.Batches.{Event}
-use Rattle.raft_history.specs.BothQueues.{IsReadingOfBoth}
-use Rattle.raft_history.specs.Effects.{effects_behind}
-use Rattle.raft_history.specs.Histories.{Apart, IsOneReading, IsSmall, IsSoundIn}
-use Rattle.raft_history.specs.RegionSteps.{Tables}
-use Rattle.raft_history.proofs.StretchOfHistory.{sound_in_front}
-use Rattle.raft_accessor.specs.Accessor.{Accessor, AreCountsOf, live_in_all}
-use Rattle.raft_contexts.specs.MovedPlaces.{AreMovedTables}
-use Rattle.raft_files.specs.Asks.{Act, NumberedBytes, acts_on}
-use Rattle.raft_files.specs.Disk.{MayStand, begun, cut_last, files_of}
-use Rattle.raft_replay.specs.Segments.{SegmentsHold}
-use Rattle.raft_recover.specs.Files.{FilesHold, bytes_of_files, whole_file}
-use Rattle.raft_recover.specs.Recovery.{AreBothRecovered, IsRecovered}
-use Rattle.raft_engine_prefixes.specs.Prefixes.{ArePut, HoldPrefixWith}
-use Rattle.raft_engine_prefixes.specs.TornTails.{FilesHoldTorn, StopsAt}
-use Rattle.raft_engine.specs.KeptEngine.{KeptEngine}
-use Rattle.raft_engine.specs.Opened.{IsOpened}
-use Rattle.raft_engine.specs.ReadBack.{IsReadBack, NothingMoved}
-use Rattle.raft_engine.specs.RoundTrip.{AreReadOf, IsFoundIn, IsReadingOf, IsRecoveredAs, ReadBackIsRoundTrip}
+use Rattle.raft_engine.proofs.Common.{◌≡◌, inl, inr, ℕ, ◌<◌, ◌^◌, List, [], ◌∷◌, ◌++◌, Vec, drop, sym, ap, ◌∙◌, subst, arith, Global, LogQueue, Append, Rewrite, Version, Part, Event, IsReadingOfBoth, effects_behind, Apart, IsOneReading, IsSmall, IsSoundIn, Tables, sound_in_front}
+use Rattle.raft_engine.proofs.Common.{Accessor, AreCountsOf, live_in_all, AreMovedTables, Act, NumberedBytes, acts_on, MayStand, begun, cut_last, files_of, SegmentsHold, FilesHold, bytes_of_files, whole_file, AreBothRecovered, IsRecovered, ArePut, HoldPrefixWith, FilesHoldTorn}
+use Rattle.raft_engine.proofs.Common.{StopsAt, KeptEngine, IsOpened, IsReadBack, NothingMoved, AreReadOf, IsFoundIn, IsReadingOf, IsRecoveredAs, ReadBackIsRoundTrip}
 use Rattle.raft_engine.proofs.AloneLemmas.{read_alone}
 use Rattle.raft_engine.proofs.LastingLemmas.{held_at_sync}
 use Rattle.raft_engine.proofs.RestartLemmas.{OneReading, segments_one}

@@ -1,23 +1,7 @@
 -- What each ask makes of the entry blocks of the last rewrite file.
-use Rattle.std.proofs.Common.{◌≡◌, inl, inr, ℕ, List, [], ◌∷◌, ◌++◌, length, take, drop, refl, sym, ap, ◌∙◌, subst, arith, append_assoc, length-append}
-use Rattle.std.proofs.lemmas.Bool.{cases_lt}
-use Rattle.std.proofs.lemmas.List.{drop_at, take-append-drop, take_all, take_at}
-use Rattle.raft_base.specs.Signature.{signature_in}
-use Rattle.raft_base.specs.declared.pipe_log.FileBlockHandle.{FileBlockHandle}
-use Rattle.raft_base.specs.declared.pipe_log.LogQueue.{LogQueue}
-use Rattle.raft_base.specs.declared.pipe_log.LogQueue.TheVariants.{Append, Rewrite}
-use Rattle.raft_base.specs.declared.pipe_log.Version.{Version}
-use Rattle.raft_records.specs.LogBatch.{Batch, log_batch_bytes}
-use Rattle.raft_records.specs.FilePart.{Part}
-use Rattle.raft_history.specs.Batches.{Event}
-use Rattle.raft_files.specs.Asks.{Act, Ask, Begin, Cut, Delete, Found, NumberedBytes, Put, Read, Sync, Unsynced, acts_on}
-use Rattle.raft_files.specs.Disk.{IsLeftOf, begun, cut_last, put_behind}
-use Rattle.raft_files.proofs.LastLemmas.{last_of}
-use Rattle.raft_replay.specs.Segments.{HoldsFrom}
-use Rattle.raft_recover.specs.Files.{FilesHold, whole_file}
-use Rattle.raft_engine_prefixes.proofs.TornLemmas.{items_of, stand_up_to}
-use Rattle.raft_engine.specs.SoundBlocks.{AreBlocksSound, IsFileSound, IsLastSound, NoneIsUnsound}
-use Rattle.raft_engine.specs.StoredAsks.{IsWritableBatch}
+use Rattle.raft_engine.proofs.Common.{◌≡◌, inl, inr, ℕ, List, [], ◌∷◌, ◌++◌, length, take, refl, sym, ap, ◌∙◌, subst, arith, append_assoc, length-append, cases_lt, drop_at, take-append-drop, take_all, take_at, signature_in, FileBlockHandle, LogQueue, Append, Rewrite, Version}
+use Rattle.raft_engine.proofs.Common.{Batch, log_batch_bytes, Part, Event, Act, Ask, Begin, Cut, Delete, Found, NumberedBytes, Put, Read, Sync, Unsynced, acts_on, IsLeftOf, begun, cut_last, put_behind, last_of, HoldsFrom, FilesHold, whole_file, items_of, stand_up_to}
+use Rattle.raft_engine.proofs.Common.{AreBlocksSound, IsFileSound, IsLastSound, NoneIsUnsound, IsWritableBatch}
 use Rattle.raft_engine.proofs.BlockLemmas.{part_of_sound, put_sound}
 use Rattle.raft_engine.proofs.FoundLemmas.{one_last, stands_inside}
 use Rattle.raft_engine.proofs.OfVersionLemmas.{last_held, last_or_none, whole_stands}

@@ -1,44 +1,15 @@
 -- What each ask makes of what is stored of an engine.
-use Rattle.std.proofs.Common.{◌≡◌, suc, inl, inr, ℕ, ◌+◌, true, List, [], ◌∷◌, ◌++◌, Some, length, map, refl, sym, ap, subst, append-nil}
+use Rattle.raft_engine.proofs.Common.{◌≡◌, suc, inl, inr, ℕ, ◌+◌, true, List, [], ◌∷◌, ◌++◌, Some, length, map, refl, sym, ap, subst, append-nil, CompressionType, EntryIndex, FileBlockHandle, FileId, LogQueue, Append, Rewrite, Version, Item, placed_item, Batch, entry_place}
+use Rattle.raft_engine.proofs.Common.{Event, PlacedItemsAreInFile, AreInFile, HaveStatus, RegionStep, Tables, steps_of_items, steps_on, Step, Appending, after_items, Act, Ask, Begin, IsTrusted, NoSyncFailed, NumberedBytes, Put, Sync, Unsynced, acts_on, ask, begun, deletions}
+use Rattle.raft_engine.proofs.Common.{written_event, whole_file, AreLeastFrom, HasNoMarker, HaveRecords, Records, live, no_base, Deed, Write, IsNextIn, IsSafe, IsSynced, LoseNothing, written, AreRemovals, SayTheSame, TakeAway, taking_items, taking_steps, told_items, AreBothTold}
+use Rattle.raft_engine.proofs.Common.{KeepsBytes, LastFileIsNext, bytes_for, place_at, placed_at, KeptEngine, AreSynced, IsBegunOrFound, IsLasting, IsLastingAfter, AreAllDone, AreEverLasting, AreKeptStored, AreStored, Bases, DeletionsAreStored, FailedSyncsAreStored}
+use Rattle.raft_engine.proofs.Common.{FirstFilesAreStored, IsWritableBatch, NewFilesAreStored, SyncsAreStored, ToldBatchesAreStored, WhatIsDoneLasts, WrittenBatchesAreStored, rows_alone, own_joins}
 use Rattle.std.specs.FinMap as finite
-use Rattle.raft_base.specs.declared.compression_type.CompressionType.{CompressionType}
 use Rattle.raft_base.specs.declared.compression_type.CompressionType.TheVariants as compressions
-use Rattle.raft_base.specs.declared.entry_index.EntryIndex.{EntryIndex}
-use Rattle.raft_base.specs.declared.pipe_log.FileBlockHandle.{FileBlockHandle}
-use Rattle.raft_base.specs.declared.pipe_log.FileId.{FileId}
-use Rattle.raft_base.specs.declared.pipe_log.LogQueue.{LogQueue}
-use Rattle.raft_base.specs.declared.pipe_log.LogQueue.TheVariants.{Append, Rewrite}
-use Rattle.raft_base.specs.declared.pipe_log.Version.{Version}
-use Rattle.raft_records.specs.Item.{Item}
-use Rattle.raft_records.specs.ItemBatch.{placed_item}
-use Rattle.raft_records.specs.LogBatch.{Batch, entry_place}
-use Rattle.raft_history.specs.Batches.{Event}
-use Rattle.raft_history.specs.GoingOn.{PlacedItemsAreInFile}
-use Rattle.raft_history.specs.Histories.{AreInFile, HaveStatus}
-use Rattle.raft_history.specs.RegionSteps.{RegionStep, Tables, steps_of_items, steps_on}
-use Rattle.raft_table.specs.Steps.{Step}
-use Rattle.raft_accessor.specs.Writes.{Appending, after_items}
 use Rattle.raft_files.specs.Asks as asks
-use Rattle.raft_files.specs.Asks.{Act, Ask, Begin, IsTrusted, NoSyncFailed, NumberedBytes, Put, Sync, Unsynced, acts_on, ask}
-use Rattle.raft_files.specs.Disk.{begun, deletions}
-use Rattle.raft_replay.specs.WrittenParts.{written_event}
-use Rattle.raft_recover.specs.Files.{whole_file}
-use Rattle.raft_engine_laws.specs.DeletedFiles.{AreLeastFrom}
-use Rattle.raft_engine_laws.specs.Groups.{HasNoMarker}
-use Rattle.raft_engine_laws.specs.Records.{HaveRecords, Records, live, no_base}
 use Rattle.raft_engine_laws.specs.Crashes as queue_deeds
-use Rattle.raft_engine_laws.specs.Crashes.{Deed, Write, Delete, IsNextIn, IsSafe, IsSynced, LoseNothing, written}
-use Rattle.raft_engine_laws.specs.Telling.{AreRemovals, SayTheSame, TakeAway, taking_items, taking_steps, told_items}
-use Rattle.raft_engine_prefixes.specs.Contents.{AreBothTold, KeepsBytes}
-use Rattle.raft_engine_prefixes.specs.Done.{LastFileIsNext}
-use Rattle.raft_engine.specs.BatchBytes.{bytes_for, place_at, placed_at}
-use Rattle.raft_engine.specs.KeptEngine.{KeptEngine}
-use Rattle.raft_engine.specs.Lasting.{AreSynced, IsBegunOrFound, IsLasting, IsLastingAfter}
-use Rattle.raft_engine.specs.Stored.{AreAllDone, AreEverLasting, AreKeptStored, AreStored, Bases}
-use Rattle.raft_engine.specs.StoredAsks.{DeletionsAreStored, FailedSyncsAreStored, FirstFilesAreStored, IsWritableBatch, NewFilesAreStored, SyncsAreStored, ToldBatchesAreStored, WhatIsDoneLasts, WrittenBatchesAreStored}
+use Rattle.raft_engine_laws.specs.Crashes.{Delete}
 use Rattle.raft_engine.proofs.DoneLemmas.{deeds_synced}
-use Rattle.raft_engine_laws.proofs.InRows.{rows_alone}
-use Rattle.raft_engine_laws.proofs.OwnPrefixes.{own_joins}
 use Rattle.raft_engine.proofs.UntoldLemmas.{placed_away, placed_steps}
 use Rattle.raft_engine.proofs.WellPutLemmas.{both_well}
 

@@ -1,18 +1,5 @@
 -- A batch that was written with a sync lasts.
-use Rattle.std.proofs.Common.{List, [], ◌∷◌, ◌++◌, length, sym, ap, ◌∙◌, subst}
-use Rattle.raft_base.specs.declared.pipe_log.LogQueue.{LogQueue}
-use Rattle.raft_base.specs.declared.pipe_log.LogQueue.TheVariants.{Append}
-use Rattle.raft_base.specs.declared.pipe_log.Version.{Version}
-use Rattle.raft_history.specs.Batches.{Event}
-use Rattle.raft_files.specs.Asks.{Ask, NumberedBytes, acts_on}
-use Rattle.raft_files.specs.Disk.{begun}
-use Rattle.raft_recover.specs.Files.{FilesHold}
-use Rattle.raft_engine_prefixes.specs.TornTails.{FilesHoldTorn}
-use Rattle.raft_engine.specs.BatchBytes.{event_at}
-use Rattle.raft_engine.specs.KeptEngine.{KeptEngine}
-use Rattle.raft_engine.specs.Lasting.{before_sync}
-use Rattle.raft_engine.specs.Restarts.{SyncedBatchesLast}
-use Rattle.raft_engine.specs.WrittenBatch.{file_of}
+use Rattle.raft_engine.proofs.Common.{List, [], ◌∷◌, ◌++◌, length, sym, ap, ◌∙◌, subst, LogQueue, Append, Version, Event, Ask, NumberedBytes, acts_on, begun, FilesHold, FilesHoldTorn, event_at, KeptEngine, before_sync, SyncedBatchesLast, file_of}
 use Rattle.raft_engine.proofs.RestartLemmas.{OneReading}
 
 pub synced_last : ((queue : LogQueue) (version : Version) (files : List NumberedBytes) (h : List Event) → FilesHold queue version files h → FilesHoldTorn queue version files h)

@@ -1,11 +1,6 @@
 -- A region without a table.
-use Rattle.std.proofs.Common.{◌≡◌, ℕ, List, Option, Some, None, option_map, sym, ap}
-use Rattle.std.specs.Cmp.Lexicographic.{slice_cmp}
+use Rattle.raft_engine.proofs.Common.{◌≡◌, ℕ, List, Option, Some, None, option_map, sym, ap, slice_cmp, nat_cmp, value_at, table_of, Table}
 use Rattle.std.specs.FinMap as finite
-use Rattle.std.specs.Ordering.{nat_cmp}
-use Rattle.raft_table.specs.KeyValues.{value_at}
-use Rattle.raft_table.specs.Steps.{table_of}
-use Rattle.raft_table.specs.Table.{Table}
 
 -- it has no values
 pub no_value : (o : Option Table) (region : ℕ) (key : List ℕ) → None ≡ o → None ≡ value_at (table_of region o).keys key

@@ -1,29 +1,8 @@
 -- The tables take a batch that moves records of a region.
-use Rattle.std.proofs.Common.{◌≡◌, ℕ, ◌≤◌, true, false, cond, List, [], ◌∷◌, ◌++◌, length, Option, Some, None, option_map, inl, inr, refl, sym, ap, subst, ◌∙◌, arith}
-use Rattle.std.proofs.lemmas.Bool.Decides.{nat_tests}
-use Rattle.std.specs.List.{AllByRecursion}
-use Rattle.std.specs.Prelude.{nat_lt}
-use Rattle.std.specs.Option.{option_and_then}
+use Rattle.raft_engine.proofs.Common.{◌≡◌, ℕ, ◌≤◌, true, false, cond, List, [], ◌∷◌, ◌++◌, length, Option, Some, None, option_map, inl, inr, refl, sym, ap, subst, ◌∙◌, arith, nat_tests, AllByRecursion, nat_lt, option_and_then, EntryIndex, FileId, LogQueue, Append, Rewrite, IsRun}
+use Rattle.raft_engine.proofs.Common.{entries, Tables, with_table, with_own, Keys, Stored, file_at, moved_to, with_moved, entries_after_rewrite, is_misplaced, may_move, Table, rewritten_in, rewritten_pair, AreTableEntries, entry_count, is_placed_in, placed_in, placed_each}
+use Rattle.raft_engine.proofs.Common.{Rewriting, after_content, after_items, none_some, AreCopies, AreOrdinary, IsFetched, moving_items, put_item, put_items, copies_take_places, IsCopied, moved_all, now_there, one_more, pairs_copied, placed_twice}
 use Rattle.std.specs.FinMap as finite
-use Rattle.raft_base.specs.declared.entry_index.EntryIndex.{EntryIndex}
-use Rattle.raft_base.specs.declared.pipe_log.FileId.{FileId}
-use Rattle.raft_base.specs.declared.pipe_log.LogQueue.{LogQueue}
-use Rattle.raft_base.specs.declared.pipe_log.LogQueue.TheVariants.{Append, Rewrite}
-use Rattle.raft_base.specs.Runs.{IsRun}
-use Rattle.raft_records.specs.Item.{entries}
-use Rattle.raft_history.specs.RegionSteps.{Tables, with_table}
-use Rattle.raft_history.proofs.MapLemmas.{with_own}
-use Rattle.raft_table.specs.KeyValues.{Keys, Stored, file_at, moved_to, with_moved}
-use Rattle.raft_table.specs.Rewriting.{entries_after_rewrite, is_misplaced, may_move}
-use Rattle.raft_table.specs.Table.{Table, rewritten_in, rewritten_pair}
-use Rattle.raft_table.specs.TableEntries.{AreTableEntries, entry_count, is_placed_in, placed_in}
-use Rattle.raft_table.proofs.PlaceLemmas.{placed_each}
-use Rattle.raft_accessor.specs.Writes.{Rewriting, after_content, after_items}
-use Rattle.raft_accessor.proofs.MapLemmas.{none_some}
-use Rattle.raft_engine_laws.specs.Moving.{AreCopies, AreOrdinary, IsFetched, moving_items, put_item, put_items}
-use Rattle.raft_engine_laws.proofs.CopiedEntries.{copies_take_places}
-use Rattle.raft_engine_laws.proofs.CopiedPairs.{IsCopied, moved_all, now_there, one_more, pairs_copied}
-use Rattle.raft_engine_laws.proofs.SoundEntries.{placed_twice}
 use Rattle.raft_engine.proofs.FetchedLemmas.{IsRewrittenPair}
 
 -- pairs that move one after another

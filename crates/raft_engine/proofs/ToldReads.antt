@@ -1,11 +1,5 @@
 -- What was read tells the contents of entries.
-use Rattle.std.proofs.Common.{◌≡◌, ℕ, List, [], ◌∷◌, ◌++◌, map, refl, sym, ap, subst, ◌∙◌}
-use Rattle.std.specs.List.{AllZip}
-use Rattle.std.proofs.lemmas.List.Elements.{Contains-append_left}
-use Rattle.raft_base.specs.declared.entry_index.EntryIndex.{EntryIndex}
-use Rattle.raft_files.specs.Asks.{Ask}
-use Rattle.raft_engine_prefixes.specs.Contents.{AreBothTold, HaveContents, ReadEntryIsTold}
-use Rattle.raft_engine.specs.Reads.{IsReadAmong}
+use Rattle.raft_engine.proofs.Common.{◌≡◌, ℕ, List, [], ◌∷◌, ◌++◌, map, refl, sym, ap, subst, ◌∙◌, AllZip, Contains-append_left, EntryIndex, Ask, AreBothTold, HaveContents, ReadEntryIsTold, IsReadAmong}
 
 module _ (is_told : ReadEntryIsTold) (reads old new : List Ask) (asked : new ≡ reads ++ old) (content : EntryIndex → List ℕ) (told : AreBothTold new content) where
   -- the bytes of an entry that was read are its contents

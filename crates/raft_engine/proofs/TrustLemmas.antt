@@ -1,21 +1,7 @@
 -- What is asked is to be trusted so long as no sync failed, and behind a failed one so long as nothing is asked but reads.
-use Rattle.std.proofs.Common.{◌≡◌, ℕ, zero, suc, Bool, true, false, List, [], ◌∷◌, ◌++◌, inl, inr, refl, sym, ap, ◌∙◌, subst, append_assoc}
-use Rattle.std.specs.List.{AllByRecursion}
-use Rattle.raft_base.specs.declared.pipe_log.LogFileContext.{LogFileContext}
-use Rattle.raft_base.specs.declared.pipe_log.LogQueue.{LogQueue}
-use Rattle.raft_base.specs.declared.pipe_log.Version.{Version}
-use Rattle.raft_records.specs.Item.{Item}
-use Rattle.raft_records.specs.LogBatch.{Batch}
-use Rattle.raft_files.specs.Asks.{Ask, IsNoFailedSync, IsReadOrUnsynced, IsTrusted, MayBeAsked, NoSyncFailed, Unsynced, ask}
-use Rattle.raft_engine.specs.GroupBatches.{puts_asks}
-use Rattle.raft_engine.specs.GroupPlaces.{AreFirstPut}
-use Rattle.raft_engine.specs.OpeningAsks.{asks_that_tell, missing_asks}
-use Rattle.raft_engine.specs.Purged.{asks_of_items, delete_asks, put_asks}
-use Rattle.raft_engine.specs.Reads.{AreOnlyRead, AreReads}
-use Rattle.raft_engine.specs.WrittenBatch.{synced_if}
-use Rattle.raft_engine.specs.declared.missing.Missing.{Missing}
+use Rattle.raft_engine.proofs.Common.{ℕ, zero, suc, Bool, true, false, List, [], ◌∷◌, ◌++◌, inl, inr, refl, sym, ap, ◌∙◌, subst, append_assoc, AllByRecursion, LogFileContext, LogQueue, Version, Item, Batch, Ask, IsNoFailedSync, IsReadOrUnsynced, IsTrusted, MayBeAsked}
+use Rattle.raft_engine.proofs.Common.{NoSyncFailed, Unsynced, ask, puts_asks, asks_that_tell, missing_asks, asks_of_items, delete_asks, put_asks, AreOnlyRead, AreReads, synced_if, Missing}
 use Rattle.raft_engine.specs.declared.missing.Missing.TheVariants as missings
-use Rattle.raft_engine.proofs.AskedLemmas.{AreAskedInPart}
 
 pub unfailed_trusted : (asks : List Ask) → NoSyncFailed asks → IsTrusted asks
 unfailed_trusted asks none = record { since = []; before = asks; split = refl; none = none; only = tt }
@@ -46,15 +32,6 @@ both_only (x ∷ xs) ys a b = (a.0, both_only xs ys a.1 b)
 pub asked_unfailed : (a : Ask) (old new : List Ask) → IsNoFailedSync a.act → MayBeAsked a old new → NoSyncFailed old → NoSyncFailed new
 asked_unfailed a old new is (inl e) none = subst NoSyncFailed (sym e) none
 asked_unfailed a old new is (inr e) none = subst NoSyncFailed (sym e) (is, none)
-
--- of what is wanted some was asked, and a sync may have failed behind it
-pub part_trusted : (wanted old new : List Ask) → NoSyncFailed wanted → NoSyncFailed old → AreAskedInPart wanted old new → IsTrusted new
-part_trusted wanted old new none before p =
-    let made : NoSyncFailed (p.made ++ old) = both_unfailed p.made old (back_unfailed p.missing p.made (subst NoSyncFailed p.split none)) before in
-    elim p.asked [
-      | inl e ↦ subst IsTrusted (sym e) (unfailed_trusted (p.made ++ old) made)
-      | inr u ↦ subst IsTrusted (sym u.noted) (failed_trusted u.queue (p.made ++ old) made)
-    ]
 
 -- ---- reads
 

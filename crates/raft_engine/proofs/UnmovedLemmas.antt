@@ -1,18 +1,7 @@
 -- Why there is no batch of a region's records.
-use Rattle.std.proofs.Common.{◌≡◌, ℕ, ◌+◌, ◌^◌, ◌≤◌, List, length, Option, inl, inr, ap, subst, sym, ◌∙◌, arith}
-use Rattle.raft_base.specs.declared.entry_index.EntryIndex.{EntryIndex}
-use Rattle.raft_base.specs.declared.errors.Error.{Error}
+use Rattle.raft_engine.proofs.Common.{◌≡◌, ℕ, ◌+◌, ◌^◌, ◌≤◌, List, length, Option, inl, inr, ap, subst, sym, ◌∙◌, arith, EntryIndex, Error, concat, strings_in, entry_lengths, cut_joined, Table, Ask, AreReadByBlocks, AreUnread, IsNextPart, moving_entries, moving_pairs, pairs_with}
+use Rattle.raft_engine.proofs.Common.{AreRecordsRefused, IsBatchRefused, Failures}
 use Rattle.raft_base.specs.declared.errors.Error.TheVariants as errors
-use Rattle.std.specs.List.{concat}
-use Rattle.raft_records.specs.Entries.{strings_in}
-use Rattle.raft_records.specs.ItemBatch.{entry_lengths}
-use Rattle.raft_records.proofs.StringLemmas.{cut_joined}
-use Rattle.raft_table.specs.Table.{Table}
-use Rattle.raft_files.specs.Asks.{Ask}
-use Rattle.raft_engine.specs.Reads.{AreReadByBlocks, AreUnread}
-use Rattle.raft_engine.specs.Rewriting.{IsNextPart, moving_entries, moving_pairs, pairs_with}
-use Rattle.raft_engine.specs.Unmoved.{AreRecordsRefused, IsBatchRefused}
-use Rattle.raft_engine.specs.FileFailures.{Failures}
 
 -- the first entries of a batch, whose bytes stand one behind another, have too many
 pub joined_refused : (before : List ℕ) (es : List EntryIndex) (bytes lent : List ℕ) (e : Error) → length before ≡ 0 → entry_lengths es ≡ length bytes → lent ≡ bytes

@@ -1,23 +1,7 @@
 -- Files whose reading stops can't be read.
-use Rattle.std.proofs.Common.{◌≡◌, ◌≢◌, inl, inr, ℕ, List, [], ◌∷◌, ◌++◌, map, refl, sym, ap, ◌∙◌, subst, append_assoc, arith}
-use Rattle.raft_base.specs.declared.errors.Error.{Error}
+use Rattle.raft_engine.proofs.Common.{◌≡◌, ◌≢◌, inl, inr, ℕ, List, [], ◌∷◌, ◌++◌, map, refl, sym, ap, ◌∙◌, subst, append_assoc, arith, Error, FileId, LogQueue, Version, IsBatchAt, Part, StandBetween, Item, batch_inside, Event, IsSmall, Sound, small_front, sound_front}
+use Rattle.raft_engine.proofs.Common.{NumberedBytes, HoldsFrom, CannotFollowAt, GoneOn, IsNothing, StopsAmong, history_in, each_cut, batch_unique, parts_unique, PartHolds, PartsHold, FilesCannotBeRead, FilesHold, whole_file}
 use Rattle.raft_base.specs.declared.errors.Error.TheVariants as errors
-use Rattle.raft_base.specs.declared.pipe_log.FileId.{FileId}
-use Rattle.raft_base.specs.declared.pipe_log.LogQueue.{LogQueue}
-use Rattle.raft_base.specs.declared.pipe_log.Version.{Version}
-use Rattle.raft_records.specs.FilePart.{IsBatchAt, Part, StandBetween}
-use Rattle.raft_records.specs.Item.{Item}
-use Rattle.raft_records.proofs.PartLemmas.{batch_inside}
-use Rattle.raft_history.specs.Batches.{Event}
-use Rattle.raft_history.specs.Histories.{IsSmall, Sound}
-use Rattle.raft_history.proofs.StretchOfHistory.{small_front, sound_front}
-use Rattle.raft_files.specs.Asks.{NumberedBytes}
-use Rattle.raft_replay.specs.Segments.{HoldsFrom}
-use Rattle.raft_replay.specs.Stops.{CannotFollowAt, GoneOn, IsNothing, StopsAmong, history_in}
-use Rattle.raft_replay.proofs.MachineOrderLemmas.{each_cut}
-use Rattle.raft_replay.proofs.SegmentLemmas.{batch_unique, parts_unique}
-use Rattle.raft_replay.proofs.Words.{PartHolds, PartsHold}
-use Rattle.raft_recover.specs.Files.{FilesCannotBeRead, FilesHold, whole_file}
 use Rattle.raft_engine.proofs.RefusedLemmas.{unheld}
 
 -- what files hold their parts do

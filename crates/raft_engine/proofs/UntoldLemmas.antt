@@ -1,17 +1,7 @@
 -- What is told of items.
-use Rattle.std.proofs.Common.{◌≡◌, ℕ, cond, List, [], ◌∷◌, ◌++◌, map, Some, None, refl, sym, ap, ◌∙◌, subst}
-use Rattle.raft_base.specs.declared.compression_type.CompressionType.{CompressionType}
-use Rattle.raft_base.specs.declared.pipe_log.FileBlockHandle.{FileBlockHandle}
-use Rattle.raft_records.specs.declared.key_value.OpType.{OpType}
+use Rattle.raft_engine.proofs.Common.{◌≡◌, ℕ, cond, List, [], ◌∷◌, ◌++◌, map, Some, None, refl, sym, ap, ◌∙◌, subst, CompressionType, FileBlockHandle, OpType, Content, Item, command, entries, pair, placed_content, placed_item, raised_item, Step, Tables, content_step, is_reserved}
+use Rattle.raft_engine.proofs.Common.{pair_step, steps_of_items, steps_on, own-append, with_step, steps-append, SayTheSame, TakeAway, TakesAway, taking_items, taking_steps, told_items}
 use Rattle.raft_records.specs.declared.key_value.OpType.TheVariants as operations
-use Rattle.raft_records.specs.Item.{Content, Item, command, entries, pair}
-use Rattle.raft_records.specs.ItemBatch.{placed_content, placed_item, raised_item}
-use Rattle.raft_table.specs.Steps.{Step}
-use Rattle.raft_history.specs.RegionSteps.{Tables, content_step, is_reserved, pair_step, steps_of_items, steps_on}
-use Rattle.raft_history.proofs.StepListLemmas.{own-append}
-use Rattle.raft_history.proofs.Words.{with_step}
-use Rattle.raft_engine_laws.proofs.ToldItems.{steps-append}
-use Rattle.raft_engine_laws.specs.Telling.{SayTheSame, TakeAway, TakesAway, taking_items, taking_steps, told_items}
 
 -- ---- items that take away, in a batch
 

@@ -1,19 +1,6 @@
 -- What each ask makes of what is well put.
-use Rattle.std.proofs.Common.{ℕ, List, [], ◌∷◌, ◌++◌}
-use Rattle.raft_base.specs.declared.pipe_log.FileBlockHandle.{FileBlockHandle}
-use Rattle.raft_base.specs.declared.pipe_log.LogQueue.{LogQueue}
-use Rattle.raft_base.specs.declared.pipe_log.LogQueue.TheVariants.{Append, Rewrite}
-use Rattle.raft_base.specs.declared.pipe_log.Version.{Version}
-use Rattle.raft_history.specs.Batches.{Event}
-use Rattle.raft_files.specs.Asks.{Act, Ask, Begin, Cut, Delete, Found, NumberedBytes, Put, Read, Sync, Unsynced, acts_on}
-use Rattle.raft_files.specs.Disk.{begun}
-use Rattle.raft_recover.specs.Files.{FilesHold}
-use Rattle.raft_engine_prefixes.specs.EntryPlaces.{EntriesEndWithin}
-use Rattle.raft_engine_prefixes.specs.TornTails.{FilesHoldTorn}
-use Rattle.raft_engine_prefixes.proofs.EndLemmas.{begin_within, cut_within, found_within, none_within, put_within}
-use Rattle.raft_engine.specs.FoundFiles.{IsLastOfOther}
-use Rattle.raft_engine.specs.SoundBlocks.{IsLastSound, NoneIsUnsound}
-use Rattle.raft_engine.specs.WellPut.{AreWellPut}
+use Rattle.raft_engine.proofs.Common.{ℕ, List, [], ◌∷◌, ◌++◌, FileBlockHandle, LogQueue, Append, Rewrite, Version, Event, Act, Ask, Begin, Cut, Delete, Found, NumberedBytes, Put, Read, Sync, Unsynced, acts_on, begun, FilesHold, EntriesEndWithin, FilesHoldTorn, begin_within}
+use Rattle.raft_engine.proofs.Common.{cut_within, found_within, none_within, put_within, IsLastOfOther, IsLastSound, NoneIsUnsound, AreWellPut}
 use Rattle.raft_engine.proofs.OfVersionLemmas.{nothing_other, stays}
 use Rattle.raft_engine.proofs.SealedLemmas.{begin_sound, cut_sound, delete_sound, found_sound, none_unsound, read_sound, unsynced_sound, sync_sound}
 

@@ -1,23 +1,7 @@
 -- All files that weren't deleted, where nothing is lost.
-use Rattle.std.proofs.Common.{◌≡◌, ℕ, zero, suc, ◌<◌, ◌≤◌, List, [], ◌∷◌, ◌++◌, length, take, drop, inl, inr, refl, sym, ap, ◌∙◌, subst, arith, append_assoc}
-use Rattle.std.specs.List.{AllByRecursion}
-use Rattle.std.proofs.lemmas.Bool.{cases_lt}
-use Rattle.std.proofs.lemmas.List.{drop-map, drop_all, nil_from_length, take-map}
-use Rattle.raft_base.specs.declared.pipe_log.LogQueue.{LogQueue}
-use Rattle.raft_base.specs.declared.pipe_log.Version.{Version}
-use Rattle.raft_history.specs.Batches.{Event}
-use Rattle.raft_files.specs.Asks.{Act, Ask, NumberedBytes, acts_on}
-use Rattle.raft_files.specs.Disk.{begun, deletions, files_of}
-use Rattle.raft_replay.specs.Segments.{AreHeldInTurn}
-use Rattle.raft_recover.specs.Files.{FilesHold}
-use Rattle.raft_engine_laws.specs.Crashes.{Deed, IsLeft, deleted, in_files_from, synced, written}
-use Rattle.raft_engine_laws.proofs.CrashLemmas.{all_gone, from_none, synced_low, whole_stands}
-use Rattle.raft_engine_prefixes.specs.Done.{AreConsecutive, AreDone, AreRisingFrom, numbers}
-use Rattle.raft_engine_prefixes.specs.TornTails.{FilesHoldTorn}
-use Rattle.raft_engine_prefixes.proofs.EventLemmas.{files_high, files_low, from_both, from_twice}
-use Rattle.raft_engine_prefixes.proofs.PrefixLemmas.{all_held}
-use Rattle.raft_engine_prefixes.proofs.NumberLemmas.{below_drop, below_take, consecutive_drop}
-use Rattle.raft_engine_prefixes.proofs.TornLemmas.{more_torn}
+use Rattle.raft_engine.proofs.Common.{◌≡◌, ℕ, zero, suc, ◌<◌, ◌≤◌, List, [], ◌∷◌, ◌++◌, length, take, drop, inl, inr, refl, sym, ap, ◌∙◌, subst, arith, append_assoc, AllByRecursion, cases_lt, drop-map, drop_all, nil_from_length, take-map, LogQueue, Version, Event, Act, Ask}
+use Rattle.raft_engine.proofs.Common.{NumberedBytes, acts_on, begun, deletions, files_of, AreHeldInTurn, FilesHold, Deed, IsLeft, deleted, in_files_from, synced, written, all_gone, from_none, synced_low, whole_stands, AreConsecutive, AreDone, AreRisingFrom, numbers}
+use Rattle.raft_engine.proofs.Common.{FilesHoldTorn, files_high, files_low, from_both, from_twice, all_held, below_drop, below_take, consecutive_drop, more_torn}
 
 -- the oldest files, and those behind them
 oldest_held : (queue : LogQueue) (version : Version) (n : ℕ) (files : List NumberedBytes) (h : List Event) → n < length files → FilesHoldTorn queue version files h

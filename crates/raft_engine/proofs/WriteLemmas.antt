@@ -1,42 +1,20 @@
 -- What an engine keeps once a batch is written.
-use Rattle.std.proofs.Common.{◌≡◌, ◌≢◌, ◌⊎◌, inl, inr, ℕ, ◌+◌, ◌≤◌, ◌^◌, Bool, true, false, List, [], ◌∷◌, ◌++◌, Some, Result, Ok, Err, IfErr, OnOk, OnErr, length, map, refl, sym, ap, ◌∙◌, subst, append-nil, arith}
-use Rattle.raft_base.specs.Signature.{signature_in}
+use Rattle.raft_engine.proofs.Common.{◌≡◌, ◌≢◌, inl, inr, ℕ, ◌+◌, ◌≤◌, ◌^◌, Bool, true, false, List, [], ◌∷◌, ◌++◌, Some, Result, Ok, Err, IfErr, OnOk, OnErr, length, map, refl, sym, ap, ◌∙◌, subst, append-nil, arith, signature_in, Error, FileId, LogFileContext, Append, Rewrite}
+use Rattle.raft_engine.proofs.Common.{Version, log_batch_length, Item, placed_item, Batch, empty_batch, encoded, encoded_length, entry_place, with_batch, Event, Tables, Accessor, AreAcceptedOncePlaced, Appending, AreWritten, after_items, Ask, MayBeAsked, NoSyncFailed}
+use Rattle.raft_engine.proofs.Common.{NumberedBytes, Put, Sync, acts_on, ask, begun, deletions, FilesHold, TakeAway, taking_items, told_items, ArePutWhole, WrittenBatchIsPut, whole_torn, asks_of_items, bytes_for, event_at, place_at, placed_at, IsLastFile, KeptEngine, AreFilesOf}
+use Rattle.raft_engine.proofs.Common.{IsKeptBy, IsReadBackAlone, WrittenBatchesAreReadBack, AreKeptStored, FailedSyncsAreStored, IsWritableBatch, SyncsAreStored, WrittenBatchesAreStored, AreCutShort, IsHalfWritten, IsOneMore, IsUnsynced, IsUnwritten, file_of, synced_if}
+use Rattle.raft_engine.proofs.Common.{QueueFiles, IsBroken, Failures, FailsAmong, put_asks}
 use Rattle.raft_base.specs.declared.compression_type.CompressionType.TheVariants as compressions
-use Rattle.raft_base.specs.declared.errors.Error.{Error}
 use Rattle.raft_base.specs.declared.errors.Error.TheVariants as errors
-use Rattle.raft_base.specs.declared.pipe_log.FileId.{FileId}
-use Rattle.raft_base.specs.declared.pipe_log.LogFileContext.{LogFileContext}
-use Rattle.raft_base.specs.declared.pipe_log.LogQueue.TheVariants.{Append, Rewrite}
-use Rattle.raft_base.specs.declared.pipe_log.Version.{Version}
-use Rattle.raft_records.proofs.FrameLemmas.{log_batch_length}
-use Rattle.raft_records.specs.Item.{Item}
-use Rattle.raft_records.specs.ItemBatch.{placed_item}
-use Rattle.raft_records.specs.LogBatch.{Batch, empty_batch, encoded, encoded_length, entry_place, with_batch}
-use Rattle.raft_history.specs.Batches.{Event}
-use Rattle.raft_history.specs.RegionSteps.{Tables}
-use Rattle.raft_accessor.specs.Accessor.{Accessor}
-use Rattle.raft_accessor.specs.AppendChecks.{AreAccepted, AreAcceptedOncePlaced}
-use Rattle.raft_accessor.specs.Writes.{Appending, AreWritten, after_items}
-use Rattle.raft_files.specs.Asks.{Ask, IsTrusted, MayBeAsked, NoSyncFailed, NumberedBytes, Put, Sync, Unsynced, acts_on, ask}
-use Rattle.raft_files.specs.Disk.{begun, deletions}
-use Rattle.raft_recover.specs.Files.{FilesHold}
+use Rattle.raft_accessor.specs.AppendChecks.{AreAccepted}
 use Rattle.raft_engine_laws.specs.Crashes as queue_deeds
-use Rattle.raft_engine_laws.specs.Telling.{TakeAway, taking_items, told_items}
-use Rattle.raft_engine_prefixes.specs.Prefixes.{ArePutWhole, WrittenBatchIsPut}
-use Rattle.raft_engine_prefixes.proofs.TornLemmas.{whole_torn}
-use Rattle.raft_engine.specs.BatchBytes.{asks_of_items, bytes_for, event_at, place_at, placed_at}
-use Rattle.raft_engine.specs.KeptEngine.{IsLastFile, KeptEngine}
-use Rattle.raft_engine.specs.KeptEngineView.{AreFilesOf, IsKeptBy}
-use Rattle.raft_engine.specs.ReadBack.{IsReadBackAlone, WrittenBatchesAreReadBack}
-use Rattle.raft_engine.specs.Stored.{AreKeptStored}
-use Rattle.raft_engine.specs.StoredAsks.{FailedSyncsAreStored, IsWritableBatch, SyncsAreStored, WrittenBatchesAreStored}
-use Rattle.raft_engine.specs.WrittenBatch.{AreCutShort, AreMissing, IsHalfWritten, IsOneMore, IsUnsynced, IsUnwritten, file_of, synced_if}
-use Rattle.raft_engine.specs.declared.queue_files.QueueFiles.{QueueFiles}
 use Rattle.raft_engine.proofs.FilesLemmas.{files_last, files_put, files_same}
 use Rattle.raft_engine.proofs.ReadBackLemmas.{none_before, same_read_back}
 use Rattle.raft_engine.proofs.UntoldLemmas.{away-append, raised_same}
-use Rattle.raft_engine.proofs.AskedLemmas.{sync_missing}
-use Rattle.raft_engine.proofs.TrustLemmas.{may_trusted, synced_unfailed, unfailed_trusted}
+use Rattle.raft_engine.proofs.BrokenLemmas.{AreEver, AreSafe, broken_kept}
+use Rattle.raft_engine.proofs.FaultLemmas.{writing_put, writing_sync, writing_whole}
+use Rattle.raft_engine.proofs.KeptLemmas.{safe_now}
+use Rattle.raft_engine.proofs.TrustLemmas.{synced_unfailed, unfailed_trusted}
 
 -- a batch that can be put, and that the tables accept
 pub record IsReady (tables : Tables) (batch : Batch) : Type 0 where
@@ -126,19 +104,6 @@ module _
   some_asks [] some = absurd (some refl)
   some_asks (item ∷ items) some = refl
 
-  -- the batch is half written
-  half_by : (sync : Bool) (new : List Ask) (untold' : Batch) (other : Accessor) (error : Error) (missing part : List Ask) → synced_if sync (its_ask ∷ []) ≡ missing ++ part → AreMissing missing (part ++ asks) new
-      → (other ≡ accessor) ⊎ ((missing ≡ []) × AreCutShort batch (placed_at id (length old_bytes) batch) engine (record { version = version; asks = new; untold = untold'; accessor = other; intact = false }) error)
-      → IsHalfWritten sync batch engine (record { version = version; asks = new; untold = untold'; accessor = other; intact = false }) error
-  half_by sync new untold' other error missing part split e tables = record {
-    seq = append.seq;
-    bytes = old_bytes;
-    last = its_last;
-    accepted = ready.accepted;
-    half = record { was = is_intact; is = refl; same = refl; missing = missing; made = part; split = ap (synced_if sync) (some_asks batch.items ready.writable.some) ∙ split; asked = e };
-    tables = tables;
-  }
-
   -- what the tables accepted they accept where it was placed
   pub placed_accepted : (items : List Item) → items ≡ placed_at file.id append.len made → AreAccepted accessor.tables items
   placed_accepted items placed = subst (AreAccepted accessor.tables) (sym (placed ∙ placed_made)) accepted
@@ -150,64 +115,69 @@ module _
       let are = placed ∙ placed_made ∙ ap (λ (n : ℕ). placed_at id n batch) (k.whole is_intact).append_files.ends in
       subst (λ (l : List Item). AreCutShort batch l engine other error) are cut
 
-  module _ (sync : Bool) (new : List Ask) (untold' : Batch) (other : Accessor) (error : Error) where
-    pub half_written : MayBeAsked (ask file.id.queue (Put (bytes_for file made))) asks new → other ≡ accessor
-        → IsHalfWritten sync batch engine (record { version = version; asks = new; untold = untold'; accessor = other; intact = false }) error
-    half_written (inl e) same = half_by sync new untold' other error _ [] (sym (append-nil _)) (inl e) (inl same)
-    half_written (inr e) same = half_by sync new untold' other error (synced_if sync []) (its_ask ∷ []) (parts_if sync its_ask) (inl (e ∙ ask_made)) (inl same)
-
-    -- the bytes are put, and the sync that is wanted fails
-    pub unsynced_written : (half : List Ask) → half ≡ ask file.id.queue (Put (bytes_for file made)) ∷ asks → sync ≡ true → MayBeAsked (ask Append Unsynced) half new → other ≡ accessor
-        → IsHalfWritten sync batch engine (record { version = version; asks = new; untold = untold'; accessor = other; intact = false }) error
-    unsynced_written half is_half wanted may same =
-        half_by sync new untold' other error (ask Append Sync ∷ []) (its_ask ∷ []) (ap (λ (s : Bool). synced_if s (its_ask ∷ [])) wanted)
-        (sync_missing Append [] (its_ask ∷ asks) new (subst (λ (l : List Ask). MayBeAsked (ask Append Unsynced) l new) (is_half ∙ ask_made) may)) (inl same)
-
-    pub whole_asked : new ≡ synced_if sync (ask file.id.queue (Put (bytes_for file made)) ∷ asks)
-        → (items : List Item) → items ≡ placed_at file.id append.len made
-        → AreCutShort batch items engine (record { version = version; asks = new; untold = untold'; accessor = other; intact = false }) error
-        → IsHalfWritten sync batch engine (record { version = version; asks = new; untold = untold'; accessor = other; intact = false }) error
-    whole_asked e items placed cut =
-        let broken : KeptEngine = record { version = version; asks = new; untold = untold'; accessor = other; intact = false } in
-        half_by sync new untold' other error [] _ refl (inl (e ∙ ap (synced_if sync) ask_made ∙ prefix_if sync its_ask asks)) (inr (refl, placed_cut items broken error placed cut))
-
-  -- the bytes were put or not, and the engine isn't intact any more
-  pub kept_half : (new : List Ask) (append' rewrite' : QueueFiles) (untold' : Batch) (other : Accessor) → MayBeAsked (ask file.id.queue (Put (bytes_for file made))) asks new → IsKeptBy version new append' rewrite' untold' other false
-  kept_half new append' rewrite' untold' other (inl e) = record {
-    base = k.base;
-    untold = k.untold;
-    tables = k.tables;
-    stored = subst (λ (l : List Ask). AreKeptStored version l k.base k.untold k.tables) (sym e) k.stored;
-    trusted = subst IsTrusted (sym e) k.trusted;
-    whole = λ no. absurd cc;
-  }
-  kept_half new append' rewrite' untold' other (inr e) = record {
-    base = k.base;
-    untold = k.untold ++ told;
-    tables = accepted.after;
-    stored = subst (λ (l : List Ask). AreKeptStored version l k.base (k.untold ++ told) accepted.after) (sym (e ∙ ask_made)) put_stored;
-    trusted = unfailed_trusted new (subst NoSyncFailed (sym (e ∙ ask_made)) put_unfailed);
-    whole = λ no. absurd cc;
-  }
-
-  -- they were put, and the sync failed
-  pub kept_unsynced : FailedSyncsAreStored → (half new : List Ask) (append' rewrite' : QueueFiles) (untold' : Batch) (other : Accessor) → half ≡ ask file.id.queue (Put (bytes_for file made)) ∷ asks
-      → MayBeAsked (ask Append Unsynced) half new → IsKeptBy version new append' rewrite' untold' other false
-  kept_unsynced unsynced half new append' rewrite' untold' other is_half may = record {
-    base = k.base;
-    untold = k.untold ++ told;
-    tables = accepted.after;
-    stored = elim put_may [
-      | inl e ↦ subst (λ (l : List Ask). AreKeptStored version l k.base (k.untold ++ told) accepted.after) (sym e) put_stored
-      | inr e ↦ subst (λ (l : List Ask). AreKeptStored version l k.base (k.untold ++ told) accepted.after) (sym e)
-          (unsynced Append version (its_ask ∷ asks) k.base (k.untold ++ told) accepted.after put_stored)
-    ];
-    trusted = may_trusted Append (its_ask ∷ asks) new put_may put_unfailed;
-    whole = λ no. absurd cc;
-  }
+  -- each first part of what is asked is stored
+  written_ever : (sync : Bool) → AreEver (AreSafe version) (synced_if sync (put_asks (file_of Append engine append.seq) batch)) asks
+  written_ever sync = subst (λ (l : List Ask). AreEver (AreSafe version) (synced_if sync l) asks) (sym (some_asks batch.items ready.writable.some)) (go sync)
     where
-      put_may : MayBeAsked (ask Append Unsynced) (its_ask ∷ asks) new
-      put_may = subst (λ (l : List Ask). MayBeAsked (ask Append Unsynced) l new) (is_half ∙ ask_made) may
+      safe_put : AreSafe version (its_ask ∷ asks)
+      safe_put = record { base = k.base; untold = k.untold ++ told; tables = accepted.after; stored = put_stored; none = put_unfailed }
+
+      go : (s : Bool) → AreEver (AreSafe version) (synced_if s (its_ask ∷ [])) asks
+      go true = (
+        record { base = k.base; untold = k.untold ++ told; tables = accepted.after; stored = synced Append version (its_ask ∷ asks) k.base (k.untold ++ told) accepted.after put_stored; none = (tt, put_unfailed) },
+        (safe_put, safe_now version asks append rewrite untold accessor intact k is_intact),
+      )
+      go false = (safe_put, safe_now version asks append rewrite untold accessor intact k is_intact)
+
+  module _ (MayFail : Failures) (sync : Bool) (new : List Ask) (error : Error) where
+    -- the files failed
+    module _ (failed : FailsAmong MayFail (synced_if sync (put_asks (file_of Append engine append.seq) batch)) asks new error) where
+      failed_kept : FailedSyncsAreStored → (append' rewrite' : QueueFiles) (untold' : Batch) (other : Accessor) → IsKeptBy version new append' rewrite' untold' other false
+      failed_kept unsynced append' rewrite' untold' other = broken_kept unsynced version new append' rewrite' untold' other MayFail _ asks error (written_ever sync) failed
+
+      failed_written : IsHalfWritten MayFail sync batch engine (record engine { asks = new; intact = false }) error
+      failed_written = record { seq = append.seq; bytes = old_bytes; last = its_last; accepted = ready.accepted; why = inl (record { was = is_intact; failed = failed; others = refl }) }
+
+    -- to put the bytes
+    module _ (may : MayBeAsked (ask file.id.queue (Put (bytes_for file made))) asks new) (why : MayFail asks (ask file.id.queue (Put (bytes_for file made))) error) where
+      unput : FailsAmong MayFail (synced_if sync (put_asks (file_of Append engine append.seq) batch)) asks new error
+      unput = writing_put MayFail file (file_of Append engine append.seq) made batch sync asks new error is_file is_made ready.writable.some may why
+
+      pub kept_unput : FailedSyncsAreStored → (append' rewrite' : QueueFiles) (untold' : Batch) (other : Accessor) → IsKeptBy version new append' rewrite' untold' other false
+      kept_unput = failed_kept unput
+
+      pub unput_written : IsHalfWritten MayFail sync batch engine (record engine { asks = new; intact = false }) error
+      unput_written = failed_written unput
+
+    module _ (half : List Ask) (is_half : half ≡ ask file.id.queue (Put (bytes_for file made)) ∷ asks) where
+      -- to sync them
+      module _ (failed : FailsAmong MayFail (synced_if sync []) half new error) where
+        unsynced : FailsAmong MayFail (synced_if sync (put_asks (file_of Append engine append.seq) batch)) asks new error
+        unsynced = writing_sync MayFail file (file_of Append engine append.seq) made batch sync asks half new error is_file is_made ready.writable.some is_half failed
+
+        pub kept_unsynced : FailedSyncsAreStored → (append' rewrite' : QueueFiles) (untold' : Batch) (other : Accessor) → IsKeptBy version new append' rewrite' untold' other false
+        kept_unsynced = failed_kept unsynced
+
+        pub unsynced_written : IsHalfWritten MayFail sync batch engine (record engine { asks = new; intact = false }) error
+        unsynced_written = failed_written unsynced
+
+      -- all was asked, and the writing of the items was cut short
+      pub cut_written : (untold' : Batch) (other : Accessor) (items : List Item) → new ≡ synced_if sync half → untold' ≡ untold → items ≡ placed_at file.id append.len made
+          → AreCutShort batch items engine (record { version = version; asks = new; untold = untold'; accessor = other; intact = false }) error
+          → IsHalfWritten MayFail sync batch engine (record { version = version; asks = new; untold = untold'; accessor = other; intact = false }) error
+      cut_written untold' other items all same placed cut = record {
+        seq = append.seq;
+        bytes = old_bytes;
+        last = its_last;
+        accepted = ready.accepted;
+        why = inr (record {
+          was = is_intact;
+          some = ready.writable.some;
+          asked = writing_whole file (file_of Append engine append.seq) made batch sync asks half new is_file is_made ready.writable.some is_half all;
+          cut = placed_cut items (record { version = version; asks = new; untold = untold'; accessor = other; intact = false }) error placed cut;
+          others = ap (λ (u : Batch). record { version = version; asks = new; untold = u; accessor = other; intact = false }) same;
+        });
+      }
 
   module _ (sync : Bool) (half new : List Ask) (is_half : half ≡ ask file.id.queue (Put (bytes_for file made)) ∷ asks) (is_new : new ≡ synced_if sync half) (other : Accessor) where
     are_new : new ≡ synced_if sync (its_ask ∷ asks)
@@ -333,23 +303,16 @@ pub none_tested : {X E : Type 0} (r : Result X E) (tables : Tables) (items : Lis
 none_tested (Ok x) tables items none = none_accepted tables items none
 none_tested (Err e) tables items none = tt
 
--- nothing is asked for it where its sync fails
-pub none_written : {X : Type 0} (r : Result X Error) (sync : Bool) (batch left : Batch) (old new : KeptEngine) (seq : ℕ) (bytes : List ℕ) → IsLastFile Append old.asks seq bytes
-    → old.intact ≡ true → batch.items ≡ [] → OnErr r (IsUnsynced old new) → OnErr r (sync ≡ true) → IfErr r (IsUnwritten sync batch left old new)
-none_written (Ok x) sync batch left old new seq bytes last intact none u wanted = tt
-none_written (Err x) sync batch left old new seq bytes last intact none u wanted = inr (record {
+-- nothing is put for it where its sync fails
+pub none_written : {X : Type 0} (MayFail : Failures) (r : Result X Error) (sync : Bool) (batch left : Batch) (old new : KeptEngine) (seq : ℕ) (bytes : List ℕ) → IsLastFile Append old.asks seq bytes
+    → old.intact ≡ true → batch.items ≡ [] → IfErr r (IsUnsynced MayFail old new) → OnErr r (sync ≡ true) → IfErr r (IsUnwritten MayFail sync batch left old new)
+none_written MayFail (Ok x) sync batch left old new seq bytes last intact none u wanted = tt
+none_written MayFail (Err x) sync batch left old new seq bytes last intact none (inl u) wanted = let never : true ≡ false = sym intact ∙ u.1 in absurd cc
+none_written MayFail (Err x) sync batch left old new seq bytes last intact none (inr b) wanted = inr (record {
   seq = seq;
   bytes = bytes;
   last = last;
   accepted = none_accepted old.accessor.tables batch.items none;
-  half = record {
-    was = intact;
-    is = ap (λ (o : KeptEngine). o.intact) u.others;
-    same = ap (λ (o : KeptEngine). o.version) u.others;
-    missing = ask Append Sync ∷ [];
-    made = [];
-    split = ap (λ (items : List Item). synced_if sync (asks_of_items (file_of Append old seq) batch items)) none ∙ ap (λ (s : Bool). synced_if s []) wanted;
-    asked = sync_missing Append [] old.asks new.asks u.asked;
-  };
-  tables = inl (ap (λ (o : KeptEngine). o.accessor) u.others);
+  why = inl (subst (λ (l : List Ask). IsBroken MayFail l old new x)
+      (ap (λ (s : Bool). synced_if s []) (sym wanted) ∙ ap (λ (items : List Item). synced_if sync (asks_of_items (file_of Append old seq) batch items)) (sym none)) b);
 })

@@ -1,14 +1,7 @@
 -- Items that are written to the tables behind others.
-use Rattle.std.proofs.Common.{◌≡◌, List, [], ◌∷◌, ◌++◌, Some, None, refl, sym, ap, ◌∙◌, subst, append_assoc}
+use Rattle.raft_engine.proofs.Common.{◌≡◌, List, [], ◌∷◌, ◌++◌, Some, None, refl, sym, ap, ◌∙◌, subst, append_assoc, AllByRecursion, option_and_then, Item, Tables, with_table, Counts, table_of, Accessor, AreCountsAfterItems, AreWritten, IsFor, NoneMixesQueues, Writing}
+use Rattle.raft_engine.proofs.Common.{after_content, after_items, counts_after_content, listed_by, listed_by_items}
 use Rattle.std.specs.FinMap as finite
-use Rattle.std.specs.List.{AllByRecursion}
-use Rattle.std.specs.Option.{option_and_then}
-use Rattle.raft_records.specs.Item.{Item}
-use Rattle.raft_history.specs.RegionSteps.{Tables, with_table}
-use Rattle.raft_table.specs.Counts.{Counts}
-use Rattle.raft_table.specs.Steps.{table_of}
-use Rattle.raft_accessor.specs.Accessor.{Accessor}
-use Rattle.raft_accessor.specs.Writes.{AreCountsAfterItems, AreWritten, IsFor, NoneMixesQueues, Writing, after_content, after_items, counts_after_content, listed_by, listed_by_items}
 
 some_is : {A : Type 0} {x y : A} → Some x ≡ Some y → x ≡ y
 some_is e = cc

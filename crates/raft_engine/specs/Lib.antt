@@ -1,5 +1,8 @@
 -- the engine
 pub mod KeptEngine
+-- where files fail
+pub mod FileFailures
+pub mod Broken
 -- what lasts of it
 pub mod CutFiles
 pub mod JoinedFiles
@@ -15,7 +18,6 @@ pub mod Purged
 pub mod KeptEngineCode
 pub mod KeptEngineView
 -- records that move to the rewrite queue
-pub mod FileFailures
 pub mod Reads
 pub mod Parts
 pub mod Rewriting
@@ -25,14 +27,12 @@ pub mod GroupBatches
 pub mod GroupParts
 pub mod GroupPlaces
 pub mod GroupAsks
+pub mod Untaken
 pub mod Moved
 pub mod MovedGroups
 pub mod MovedAgain
 -- rewrite files that no table needs
 pub mod PurgedRewrites
--- why a call breaks an engine
-pub mod Faults
-pub mod MovingFaults
 -- opening
 pub mod SoundBlocks
 pub mod FoundFiles

@@ -9,16 +9,18 @@ use Rattle.raft_records.specs.LogBatch.{Batch, empty_batch, encoded_length}
 use Rattle.raft_history.specs.RegionSteps.{Tables}
 use Rattle.raft_table.specs.Table.{Table}
 use Rattle.raft_accessor.specs.Writes.{AreWritten, Rewriting}
-use Rattle.raft_files.specs.Asks.{Ask, Put, Sync, acts_on, ask}
-use Rattle.raft_engine.specs.BatchBytes.{bytes_for, placed_at}
+use Rattle.raft_files.specs.Asks.{Ask, Sync, acts_on, ask}
+use Rattle.raft_engine.specs.BatchBytes.{placed_at}
+use Rattle.raft_engine.specs.Broken.{IsBrokenTelling}
 use Rattle.raft_engine.specs.KeptEngine.{IsLastFile, KeptEngine}
 use Rattle.raft_engine.specs.Lasting.{AreSynced}
 use Rattle.raft_engine.specs.Purged.{IsPurgeRefusal, put_asks}
 use Rattle.raft_engine.specs.Reads.{AreOnlyRead}
 use Rattle.raft_engine.specs.Rewriting.{IsBatchMoving, moving_entries}
 use Rattle.raft_engine.specs.Unmoved.{IsBatchRefused}
-use Rattle.raft_engine.specs.WrittenBatch.{AreFirstWritten, IsHalfDone, IsLastFull, file_of}
-use Rattle.raft_engine.specs.FileFailures.{Failures}
+use Rattle.raft_engine.specs.Untaken.{AreUntaken}
+use Rattle.raft_engine.specs.WrittenBatch.{IsLastFull, file_of}
+use Rattle.raft_engine.specs.FileFailures.{Failures, FailsAmong}
 
 -- ---- what is told
 
@@ -29,16 +31,20 @@ pub record IsTold (old new : KeptEngine) : Type 0 where
   pub last : IsLastFile Rewrite old.asks seq bytes
   pub told : new ≡ record old { asks = put_asks (file_of Rewrite old seq) old.untold ++ (ask Append Sync ∷ old.asks); untold = empty_batch }
 
--- the sync and the put are asked in part
-pub record IsHalfTold (old new : KeptEngine) : Type 0 where
+-- newest first: what is asked to tell the rewrite queue, behind its last file of this number, what is untold
+abbrev pub telling_asks : KeptEngine → ℕ → List Ask
+telling_asks engine seq = put_asks (file_of Rewrite engine seq) engine.untold ++ ask Append Sync ∷ []
+
+-- the files fail in the midst of it
+pub record IsHalfTold (MayFail : Failures) (old new : KeptEngine) (e : Error) : Type 0 where
   pub seq : ℕ
   pub bytes : List ℕ
   pub last : IsLastFile Rewrite old.asks seq bytes
-  pub half : IsHalfDone (put_asks (file_of Rewrite old seq) old.untold ++ ask Append Sync ∷ []) old new
+  pub broken : IsBrokenTelling MayFail (telling_asks old seq) old new e
 
 -- nothing was asked, for one of the reasons for which nothing is asked for a purge, and the engine is as it was; or it is half done
-abbrev pub IsUntold : KeptEngine → KeptEngine → Error → Type 0
-IsUntold old new e = ((new ≡ old) × IsPurgeRefusal old e) ⊎ IsHalfTold old new
+abbrev pub IsUntold : Failures → KeptEngine → KeptEngine → Error → Type 0
+IsUntold MayFail old new e = ((new ≡ old) × IsPurgeRefusal old e) ⊎ IsHalfTold MayFail old new e
 
 -- ---- what moves
 
@@ -89,18 +95,17 @@ pub record IsOnlyRead (old new : KeptEngine) : Type 0 where
   pub asked : AreOnlyRead old.asks new.asks
   pub others : new ≡ record old { asks = new.asks }
 
--- a batch that moves a region's records isn't put, and the tables are as they were; or it is put, and the first ones of its
--- items, with their places there, are written to the tables by a rewriting; the engine isn't intact any more
-pub record IsBatchHalfMoved (gate : Option ℕ) (left : List EntryIndex) (region : ℕ) (old new : KeptEngine) : Type 0 where
+-- the files fail to put a batch that moves a region's records; or it is put, and the tables refuse one of its items, with their places there; the engine isn't intact any more
+pub record IsBatchHalfMoved (MayFail : Failures) (gate : Option ℕ) (left : List EntryIndex) (region : ℕ) (old new : KeptEngine) (e : Error) : Type 0 where
   pub between : List Ask
   pub batch : Batch
   pub moving : IsMoving gate left region old between batch
   pub seq : ℕ
   pub bytes : List ℕ
   pub last : IsLastFile Rewrite old.asks seq bytes
-  pub half : ((new.asks ≡ between) × (new.accessor ≡ old.accessor))
-      ⊎ ((new.asks ≡ ask Rewrite (Put (bytes_for (file_of Rewrite old seq) batch)) ∷ between)
-      × AreFirstWritten (Rewriting gate seq) (placed_at (file_of Rewrite old seq).id (length bytes) batch) old.accessor new.accessor)
+  pub why : (FailsAmong MayFail (put_asks (file_of Rewrite old seq) batch) between new.asks e × (new.accessor ≡ old.accessor))
+      ⊎ ((new.asks ≡ put_asks (file_of Rewrite old seq) batch ++ between)
+      × AreUntaken gate seq (placed_at (file_of Rewrite old seq).id (length bytes) batch) old.accessor new.accessor e)
   pub others : new ≡ record old { asks = new.asks; accessor = new.accessor; intact = false }
 
 -- why a batch of a region's records doesn't move, if there is memory: the last rewrite file has more than 2^63 bytes; or there is no
@@ -114,7 +119,7 @@ IsMoveRefused MayFail gate left region old new e =
 -- nothing but reads was asked, for one of these reasons; or the batch is half moved
 abbrev pub IsBatchUnmoved : Failures → Option ℕ → List EntryIndex → ℕ → KeptEngine → KeptEngine → Error → Type 0
 IsBatchUnmoved MayFail gate left region old new e =
-    (IsOnlyRead old new × (e ≢ errors.Memory → IsMoveRefused MayFail gate left region old new e)) ⊎ IsBatchHalfMoved gate left region old new
+    (IsOnlyRead old new × (e ≢ errors.Memory → IsMoveRefused MayFail gate left region old new e)) ⊎ IsBatchHalfMoved MayFail gate left region old new e
 
 -- the first batches of a region's records moved, and the next one didn't, or not whole
 pub record IsRegionUnmoved (MayFail : Failures) (gate : Option ℕ) (region : ℕ) (old new : KeptEngine) (e : Error) : Type 0 where
@@ -173,4 +178,4 @@ pub record IsHalfRewritten (MayFail : Failures) (gate : ℕ) (old new : KeptEngi
 
 -- it isn't told, or in part: where nothing was asked, for one of those reasons, the engine is as it was; or of the records some moved
 abbrev pub IsUnrewritten : Failures → ℕ → KeptEngine → KeptEngine → Error → Type 0
-IsUnrewritten MayFail gate old new e = IsUntold old new e ⊎ IsHalfRewritten MayFail gate old new e
+IsUnrewritten MayFail gate old new e = IsUntold MayFail old new e ⊎ IsHalfRewritten MayFail gate old new e

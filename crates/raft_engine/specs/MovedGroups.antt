@@ -10,13 +10,14 @@ use Rattle.raft_accessor.specs.Writes.{AreWritten, Rewriting}
 use Rattle.raft_files.specs.Asks.{Ask}
 use Rattle.raft_engine.specs.GroupBatches.{placed_from, puts_asks}
 use Rattle.raft_engine.specs.GroupParts.{IsGroupInParts, IsGroupRefused}
-use Rattle.raft_engine.specs.GroupPlaces.{AreFirstPut, IsOneTooLong}
+use Rattle.raft_engine.specs.GroupPlaces.{IsOneTooLong}
 use Rattle.raft_engine.specs.KeptEngine.{IsLastFile, KeptEngine, table_in}
 use Rattle.raft_engine.specs.Moved.{IsOnlyRead, IsRegionRewritten, IsRegionUnmoved}
 use Rattle.raft_engine.specs.Parts.{AreOnePart}
 use Rattle.raft_engine.specs.Rewriting.{moving_entries}
-use Rattle.raft_engine.specs.WrittenBatch.{AreFirstWritten, file_of}
-use Rattle.raft_engine.specs.FileFailures.{Failures}
+use Rattle.raft_engine.specs.Untaken.{AreUntaken}
+use Rattle.raft_engine.specs.WrittenBatch.{file_of}
+use Rattle.raft_engine.specs.FileFailures.{Failures, FailsAmong}
 
 -- ---- one region, in a group
 
@@ -38,18 +39,17 @@ pub record IsGroupMoved (region : ℕ) (old new : KeptEngine) : Type 0 where
   pub applied : AreWritten (Rewriting None seq) (placed_from (file_of Rewrite old seq).id (length bytes) batches) old.accessor new.accessor
   pub moved : new ≡ record old { asks = puts_asks (file_of Rewrite old seq) batches between; accessor = new.accessor }
 
--- the first batches of the group are put, and the tables are as they were; or all are, and the first ones of their items, with
--- their places there, are written to the tables by a rewriting; the engine isn't intact any more
-pub record IsGroupHalfMoved (region : ℕ) (old new : KeptEngine) : Type 0 where
+-- the files fail to put one of the batches of the group; or all are put, and the tables refuse one of their items, with their places there; the engine isn't intact any more
+pub record IsGroupHalfMoved (MayFail : Failures) (region : ℕ) (old new : KeptEngine) (e : Error) : Type 0 where
   pub between : List Ask
   pub batches : List Batch
   pub seq : ℕ
   pub bytes : List ℕ
   pub last : IsLastFile Rewrite old.asks seq bytes
   pub group : IsGroupOf region old between seq batches
-  pub half : (AreFirstPut (file_of Rewrite old seq) batches between new.asks × (new.accessor ≡ old.accessor))
+  pub why : (FailsAmong MayFail (puts_asks (file_of Rewrite old seq) batches []) between new.asks e × (new.accessor ≡ old.accessor))
       ⊎ ((new.asks ≡ puts_asks (file_of Rewrite old seq) batches between)
-      × AreFirstWritten (Rewriting None seq) (placed_from (file_of Rewrite old seq).id (length bytes) batches) old.accessor new.accessor)
+      × AreUntaken None seq (placed_from (file_of Rewrite old seq).id (length bytes) batches) old.accessor new.accessor e)
   pub others : new ≡ record old { asks = new.asks; accessor = new.accessor; intact = false }
 
 -- a batch of the group is too long, or would begin past 2^63 in the last rewrite file
@@ -70,7 +70,7 @@ IsGroupRegionRefused MayFail region old new e =
 -- nothing but reads was asked, for one of these reasons; or the group is half moved
 abbrev pub IsGroupUnmoved : Failures → ℕ → KeptEngine → KeptEngine → Error → Type 0
 IsGroupUnmoved MayFail region old new e =
-    (IsOnlyRead old new × (e ≢ errors.Memory → IsGroupRegionRefused MayFail region old new e)) ⊎ IsGroupHalfMoved region old new
+    (IsOnlyRead old new × (e ≢ errors.Memory → IsGroupRegionRefused MayFail region old new e)) ⊎ IsGroupHalfMoved MayFail region old new e
 
 -- ---- one region, in a batch or a group
 

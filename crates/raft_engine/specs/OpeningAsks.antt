@@ -1,6 +1,5 @@
 -- What is asked when found files are opened.
 use Rattle.std.specs.Prelude.{◌≡◌, ℕ, List, [], ◌∷◌, ◌++◌}
-use Rattle.raft_base.specs.declared.errors.Error.{Error}
 use Rattle.raft_base.specs.declared.pipe_log.LogQueue.{LogQueue}
 use Rattle.raft_base.specs.declared.pipe_log.LogQueue.TheVariants.{Append, Rewrite}
 use Rattle.raft_base.specs.declared.pipe_log.Version.{Version}
@@ -8,28 +7,19 @@ use Rattle.raft_records.specs.Item.{Item}
 use Rattle.raft_records.specs.LogBatch.{Batch}
 use Rattle.raft_accessor.specs.Accessor.{Accessor}
 use Rattle.raft_files.specs.Asks as asks
-use Rattle.raft_files.specs.Asks.{Ask, Begin, MayBeAsked, NumberedBytes, ask, failed_ask}
+use Rattle.raft_files.specs.Asks.{Ask, Begin, NumberedBytes, ask}
 use Rattle.raft_engine.specs.FoundFiles.{AreReadyBy}
 use Rattle.raft_engine.specs.Opening.{AreRecovered}
 use Rattle.raft_engine.specs.StoredFound.{told_asks}
 use Rattle.raft_engine.specs.declared.missing.Missing.{Missing}
 use Rattle.raft_engine.specs.declared.missing.Missing.TheVariants.{Nothing, FirstFile, Cut}
-pub use Rattle.raft_engine.specs.FileFailures.{Failures}
+pub use Rattle.raft_engine.specs.FileFailures.{Failures, FailsAmong}
 
 -- what is asked of a queue's files where this is missing of them
 abbrev pub missing_asks : LogQueue → Missing → List Ask
 missing_asks queue Nothing = []
 missing_asks queue FirstFile = ask queue (Begin 1) ∷ []
 missing_asks queue (Cut tail) = ask queue (asks.Cut tail.offset) ∷ []
-
--- The wanted asks, newest first, were made in order up to one; the call for that one failed with this error, and may have made it or not; of a sync it may be noted that it failed.
-pub record FailsAmong (MayFail : Failures) (wanted old new : List Ask) (e : Error) : Type 0 where
-  pub later : List Ask
-  pub failed : Ask
-  pub earlier : List Ask
-  pub split : wanted ≡ later ++ failed ∷ earlier
-  pub asked : MayBeAsked (failed_ask failed) (earlier ++ old) new
-  pub why : MayFail (earlier ++ old) failed e
 
 -- what tells the rewrite queue a batch of these items, behind the last file of this number
 abbrev pub asks_that_tell : Version → ℕ → Batch → List Item → List Ask

@@ -16,8 +16,10 @@ use Rattle.raft_files.specs.Disk.{files_of}
 use Rattle.raft_engine_prefixes.specs.Done.{numbers}
 use Rattle.raft_engine_laws.specs.DeletedFiles.{AreLeastFrom}
 pub use Rattle.raft_engine.specs.BatchBytes.{asks_of_items, put_asks}
+use Rattle.raft_engine.specs.Broken.{IsBrokenTelling}
+use Rattle.raft_engine.specs.FileFailures.{Failures}
 use Rattle.raft_engine.specs.KeptEngine.{IsLastFile, KeptEngine}
-use Rattle.raft_engine.specs.WrittenBatch.{IsHalfDone, IsLastFull, file_of}
+use Rattle.raft_engine.specs.WrittenBatch.{IsLastFull, file_of}
 
 -- ---- which files
 
@@ -80,10 +82,6 @@ purge_asks queue file untold count = delete_asks queue count ++ (ask Rewrite Syn
 abbrev pub AreDeleted : LogQueue → ℕ → KeptEngine → KeptEngine → Type 0
 AreDeleted queue count old new = new ≡ record old { asks = delete_asks queue count ++ (ask Rewrite Sync ∷ old.asks) }
 
--- the same in part
-abbrev pub AreHalfDeleted : LogQueue → ℕ → KeptEngine → KeptEngine → Type 0
-AreHalfDeleted queue count old new = IsHalfDone (delete_asks queue count ++ (ask Rewrite Sync ∷ [])) old new
-
 -- so many files of a queue, one at least, are deleted, and nothing is untold then; nothing else is asked or changed
 pub record IsPurged (queue : LogQueue) (count : ℕ) (old new : KeptEngine) : Type 0 where
   pub some : 0 < count
@@ -102,12 +100,6 @@ ArePurged count old new = AreFilesPurged Append count old new
 
 -- ---- where it fails
 
--- of so many deletions of the queue's files some were asked
-pub record AreSomeDeleted (queue : LogQueue) (count : ℕ) (old new : List Ask) : Type 0 where
-  pub made : ℕ
-  pub at_most : made ≤ count
-  pub asked : new ≡ delete_asks queue made ++ old
-
 -- why nothing is asked to tell the rewrite queue what is untold, or for a purge: the engine isn't intact, what is untold has 2^56
 -- bytes or more or the last rewrite file more than 2^63, or there is no memory
 abbrev pub IsPurgeRefusal : KeptEngine → Error → Type 0
@@ -116,20 +108,20 @@ IsPurgeRefusal engine errors.Full = (engine.intact ≡ true) × ((2 ^ 56 ≤ enc
 IsPurgeRefusal engine errors.Memory = engine.intact ≡ true
 IsPurgeRefusal engine _ = ⊥
 
--- what is to be asked to delete a queue's expired files, one at least, is asked in part
-pub record IsHalfPurged (queue : LogQueue) (old new : KeptEngine) : Type 0 where
+-- the files fail in the midst of what is to be asked to delete a queue's expired files, one at least
+pub record IsHalfPurged (MayFail : Failures) (queue : LogQueue) (old new : KeptEngine) (e : Error) : Type 0 where
   pub count : ℕ
   pub some : 0 < count
   pub expired : AreExpired queue old count
   pub seq : ℕ
   pub bytes : List ℕ
   pub last : IsLastFile Rewrite old.asks seq bytes
-  pub half : IsHalfDone (purge_asks queue (file_of Rewrite old seq) old.untold count) old new
+  pub broken : IsBrokenTelling MayFail (purge_asks queue (file_of Rewrite old seq) old.untold count) old new e
 
 -- nothing was asked, for one of these reasons, `Full` only if some file of the queue is expired, and the engine is as it was; or it is half done
-abbrev pub AreFilesUnpurged : LogQueue → KeptEngine → KeptEngine → Error → Type 0
-AreFilesUnpurged queue old new e = ((new ≡ old) × IsPurgeRefusal old e × (e ≡ errors.Full → AreSomeExpired queue old)) ⊎ IsHalfPurged queue old new
+abbrev pub AreFilesUnpurged : Failures → LogQueue → KeptEngine → KeptEngine → Error → Type 0
+AreFilesUnpurged MayFail queue old new e = ((new ≡ old) × IsPurgeRefusal old e × (e ≡ errors.Full → AreSomeExpired queue old)) ⊎ IsHalfPurged MayFail queue old new e
 
 -- the same of the append queue
-abbrev pub IsUnpurged : KeptEngine → KeptEngine → Error → Type 0
-IsUnpurged old new e = AreFilesUnpurged Append old new e
+abbrev pub IsUnpurged : Failures → KeptEngine → KeptEngine → Error → Type 0
+IsUnpurged MayFail old new e = AreFilesUnpurged MayFail Append old new e

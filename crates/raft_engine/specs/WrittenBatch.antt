@@ -11,11 +11,13 @@ use Rattle.raft_history.specs.Batches.{Event}
 use Rattle.raft_accessor.specs.Accessor.{Accessor}
 use Rattle.raft_accessor.specs.AppendChecks.{AreAcceptedOncePlaced, AreRefusedOncePlaced}
 use Rattle.raft_accessor.specs.Writes.{Appending, AreItemsRefused, AreWritten, Writing}
-use Rattle.raft_files.specs.Asks.{Ask, Begin, MayBeAsked, Put, Sync, Unsynced, acts_on, ask}
+use Rattle.raft_files.specs.Asks.{Ask, Begin, Put, Sync, acts_on, ask}
 use Rattle.raft_files.specs.Disk.{begun}
 use Rattle.raft_recover.specs.Files.{FilesHold}
 use Rattle.raft_engine_laws.specs.Telling.{taking_items, told_items}
 use Rattle.raft_engine.specs.BatchBytes.{bytes_for, event_at, placed_at, put_asks}
+use Rattle.raft_engine.specs.Broken.{IsBroken}
+use Rattle.raft_engine.specs.FileFailures.{Failures}
 use Rattle.raft_engine.specs.KeptEngine.{IsLastFile, KeptEngine}
 
 -- a file of a queue
@@ -31,11 +33,9 @@ synced_if false asks = asks
 abbrev pub IsOnlySynced : Bool → KeptEngine → KeptEngine → Type 0
 IsOnlySynced sync old new = new ≡ record old { asks = synced_if sync old.asks }
 
--- a sync fails: it may be noted that it did, and the engine isn't intact any more; of an engine that wasn't none is asked; nothing else is changed
-pub record IsUnsynced (old new : KeptEngine) : Type 0 where
-  pub asked : MayBeAsked (ask Append Unsynced) old.asks new.asks
-  pub none : old.intact ≡ false → new.asks ≡ old.asks
-  pub others : new ≡ record old { asks = new.asks; intact = false }
+-- a sync fails: the engine isn't intact, and stays as it is; or its files fail to sync the append queue
+abbrev pub IsUnsynced : Failures → KeptEngine → KeptEngine → Error → Type 0
+IsUnsynced MayFail old new e = ((new ≡ old) × (old.intact ≡ false) × (e ≡ errors.Failed)) ⊎ IsBroken MayFail (ask Append Sync ∷ []) old new e
 
 -- one batch more is written: its bytes, signed for the last file, are put behind those that it has, and synced, if that is
 -- wanted, so that the append files, which held batches and no torn tail, hold it behind these; its items, with their places there,
@@ -52,39 +52,6 @@ pub record IsOneMore (sync : Bool) (batch : Batch) (old new : KeptEngine) : Type
   pub applied : AreWritten Appending (placed_at (file_of Append old seq).id (length bytes) batch) old.accessor new.accessor
   pub untold : new.untold ≡ record old.untold { items = old.untold.items ++ told_items (taking_items old.accessor.tables batch.items) }
   pub others : new ≡ record old { asks = new.asks; untold = new.untold; accessor = new.accessor }
-
--- the next one of these missing asks, the oldest, is a sync, and it is noted that it failed
-pub record IsNextUnsynced (missing between new : List Ask) : Type 0 where
-  pub later : List Ask
-  pub queue : LogQueue
-  pub next : missing ≡ later ++ ask queue Sync ∷ []
-  pub noted : new ≡ ask queue Unsynced ∷ between
-
--- of these missing asks nothing is noted; or that the next one failed, if it is a sync
-abbrev pub AreMissing : List Ask → List Ask → List Ask → Type 0
-AreMissing missing between new = (new ≡ between) ⊎ IsNextUnsynced missing between new
-
--- of the asks that were wanted, newest first, some were made, the oldest first, and the engine isn't intact any more
-pub record IsHalfAsked (wanted : List Ask) (old new : KeptEngine) : Type 0 where
-  pub was : old.intact ≡ true
-  pub is : new.intact ≡ false
-  pub same : new.version ≡ old.version
-  pub missing : List Ask
-  pub made : List Ask
-  pub split : wanted ≡ missing ++ made
-  pub asked : AreMissing missing (made ++ old.asks) new.asks
-
--- so much was asked, and the tables are as they were
-pub record IsHalfDone (wanted : List Ask) (old new : KeptEngine) : Type 0 where
-  pub half : IsHalfAsked wanted old new
-  pub tables : new.accessor ≡ old.accessor
-
--- the first ones of these items are written so to the tables, all or none of them too, and nothing else
-pub record AreFirstWritten (w : Writing) (items : List Item) (old new : Accessor) : Type 0 where
-  pub front : List Item
-  pub rest : List Item
-  pub split : items ≡ front ++ rest
-  pub written : AreWritten w front old new
 
 -- of these items the first ones are tried so, one after another, until the tables refuse one with this error: those in front of it are written, and nothing else
 pub record IsNextRefused (w : Writing) (items : List Item) (old new : Accessor) (e : Error) : Type 0 where
@@ -106,16 +73,22 @@ abbrev pub AreCutShort : Batch → List Item → KeptEngine → KeptEngine → E
 AreCutShort batch items old new e = (LacksRoom e × IsNextRefused Appending items old.accessor new.accessor e)
     ⊎ ((e ≡ errors.Memory) × AreWritten Appending items old.accessor new.accessor × IsUnnoted batch old new)
 
--- a batch that the tables would take is put, if it has items, and synced in part, and the tables are as they were; or it is put, and
--- synced if that is wanted, and the writing of its items, with their places there, to the tables is cut short
-pub record IsHalfWritten (sync : Bool) (batch : Batch) (old new : KeptEngine) (e : Error) : Type 0 where
+-- a batch is put, and synced if that is wanted, and the writing of its items, with their places behind so many bytes of a file, to the tables of an intact engine is
+-- cut short: it isn't intact any more; nothing else is asked or changed
+pub record IsCutShort (sync : Bool) (batch : Batch) (seq offset : ℕ) (old new : KeptEngine) (e : Error) : Type 0 where
+  pub was : old.intact ≡ true
+  pub some : batch.items ≢ []
+  pub asked : new.asks ≡ synced_if sync (put_asks (file_of Append old seq) batch) ++ old.asks
+  pub cut : AreCutShort batch (placed_at (file_of Append old seq).id offset batch) old new e
+  pub others : new ≡ record old { asks = new.asks; accessor = new.accessor; intact = false }
+
+-- a batch that the tables would take breaks the engine: the files fail, to put it, if it has items, or to sync, if that is wanted; or it is cut short behind the last file's bytes
+pub record IsHalfWritten (MayFail : Failures) (sync : Bool) (batch : Batch) (old new : KeptEngine) (e : Error) : Type 0 where
   pub seq : ℕ
   pub bytes : List ℕ
   pub last : IsLastFile Append old.asks seq bytes
   pub accepted : AreAcceptedOncePlaced old.accessor.tables batch.items
-  pub half : IsHalfAsked (synced_if sync (put_asks (file_of Append old seq) batch)) old new
-  pub tables : (new.accessor ≡ old.accessor)
-      ⊎ ((half.missing ≡ []) × AreCutShort batch (placed_at (file_of Append old seq).id (length bytes) batch) old new e)
+  pub why : IsBroken MayFail (synced_if sync (put_asks (file_of Append old seq) batch)) old new e ⊎ IsCutShort sync batch seq (length bytes) old new e
 
 -- a queue's last file has more than 2^63 bytes
 pub record IsLastFull (queue : LogQueue) (asks : List Ask) : Type 0 where
@@ -133,8 +106,8 @@ IsRefusal engine batch errors.Memory = engine.intact ≡ true
 IsRefusal engine batch _ = ⊥
 
 -- nothing was asked for one of these reasons, and the engine and the batch, of which this is left, are as they were; or it is half written
-abbrev pub IsUnwritten : Bool → Batch → Batch → KeptEngine → KeptEngine → Error → Type 0
-IsUnwritten sync batch left old new e = ((new ≡ old) × (left ≡ batch) × IsRefusal old batch e) ⊎ IsHalfWritten sync batch old new e
+abbrev pub IsUnwritten : Failures → Bool → Batch → Batch → KeptEngine → KeptEngine → Error → Type 0
+IsUnwritten MayFail sync batch left old new e = ((new ≡ old) × (left ≡ batch) × IsRefusal old batch e) ⊎ IsHalfWritten MayFail sync batch old new e
 
 -- the append queue is synced, and a new file of the next number is begun; nothing else is asked or changed
 pub record IsRotated (old new : KeptEngine) : Type 0 where
@@ -150,13 +123,17 @@ IsRotationRefusal engine errors.Full = (engine.intact ≡ true) × ((bytes : Lis
 IsRotationRefusal engine errors.Memory = engine.intact ≡ true
 IsRotationRefusal engine _ = ⊥
 
--- the sync and the new file are asked in part
-pub record IsHalfRotated (old new : KeptEngine) : Type 0 where
+-- newest first: a queue is synced, and a file of the number next to this one is begun in it
+abbrev pub next_asks : LogQueue → ℕ → List Ask
+next_asks queue seq = ask queue (Begin (seq + 1)) ∷ ask queue Sync ∷ []
+
+-- the files fail to sync a queue, or to begin the file behind its last one
+pub record IsHalfRotated (MayFail : Failures) (queue : LogQueue) (old new : KeptEngine) (e : Error) : Type 0 where
   pub seq : ℕ
   pub bytes : List ℕ
-  pub last : IsLastFile Append old.asks seq bytes
-  pub half : IsHalfDone (ask Append (Begin (seq + 1)) ∷ ask Append Sync ∷ []) old new
+  pub last : IsLastFile queue old.asks seq bytes
+  pub broken : IsBroken MayFail (next_asks queue seq) old new e
 
 -- nothing was asked for one of these reasons, and the engine is as it was; or it is half done
-abbrev pub IsUnrotated : KeptEngine → KeptEngine → Error → Type 0
-IsUnrotated old new e = ((new ≡ old) × IsRotationRefusal old e) ⊎ IsHalfRotated old new
+abbrev pub IsUnrotated : Failures → KeptEngine → KeptEngine → Error → Type 0
+IsUnrotated MayFail old new e = ((new ≡ old) × IsRotationRefusal old e) ⊎ IsHalfRotated MayFail Append old new e

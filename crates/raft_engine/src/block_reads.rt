@@ -212,7 +212,7 @@ fn bytes_in(alloc: Global, region: u64, block: &EntryBlock, entry: &EntryIndex) 
     Ok(Vec::from_slice(alloc, &block.entries[begin..end])?)
 }
 
-/// Pushes the bytes of an entry of a region in its block behind others.
+/// Pushes the bytes of an entry of a region, which are in `block`, to `joined`.
 ///
 /// # Errors
 ///

@@ -48,11 +48,11 @@ pub(crate) fn batches_end(file: &FilePart, tail: &Option<CutTail>) -> usize
     }
 }
 
-/// Refuses a file whose batches end at a byte, and in which the entries of one are damaged.
+/// Checks the entries of all batches of `file`, which end at byte `end`.
 ///
 /// # Errors
 ///
-/// Those of [`check_blocks`].
+/// Those of [`check_blocks`], for the first batch with damaged entries.
 fn check_all(file: &FilePart, end: usize) -> Result<()>
     requires { StopsAt file.now end }
     ensures ok { OnOk result (AreBlocksSound file.now) }
@@ -65,7 +65,7 @@ fn check_all(file: &FilePart, end: usize) -> Result<()>
     Ok(())
 }
 
-/// Refuses the batch that stands at a byte of a file, if its entries are damaged; else returns where it ends.
+/// Checks the entries of the batch at byte `at` of `file`, and returns where the batch ends.
 ///
 /// # Errors
 ///

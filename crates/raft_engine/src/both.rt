@@ -19,6 +19,7 @@ impl<M: ReplayMachine, N: ReplayMachine> ReplayMachine for Both<M, N> {
 
     ghost stands_exactly = { λ both h. M.stands_exactly both.first h × N.stands_exactly both.second h };
 
+    /// Replays the batch in both machines, a copy of it in the second. After an error the first may have replayed it and the second not.
     fn replay(&mut self, batch: LogItemBatch, file_id: FileId) -> Result<()> {
         let other = batch.clone()?;
         self.first.replay(batch, file_id)?;
@@ -39,7 +40,7 @@ impl<M: ReplayMachine, N: ReplayMachine> ReplayMachine for Both<M, N> {
     ghost exact_stands = { λ both h e. (M.exact_stands both.first h e.0, N.exact_stands both.second h e.1) };
 }
 
-/// Makes both machines.
+/// Makes both machines, each by a factory of its own.
 #[derive(Drop)]
 pub struct BothFactory<F: Drop, G: Drop> {
     pub first: F,

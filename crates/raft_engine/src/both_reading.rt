@@ -29,12 +29,12 @@ pub struct BothRead {
     pub rewritten: QueueRead<MemTableRecoverContext>,
 }
 
-/// Reads the files of both queues, a segment each, at once by so many workers: each byte once, but for those of a long last file
-/// that doesn't end with its batches.
+/// Reads the files of both queues, a segment each, by `workers` threads. Each byte is read once, but for those
+/// of a long last file that doesn't end with a batch.
 ///
 /// # Errors
 ///
-/// Any where files are refused. `Memory`.
+/// Any if the files are refused; `Memory`.
 pub fn read_both<R: Threads + Sync>(
     rt: &R,
     alloc: Global,

@@ -18,12 +18,12 @@ use raft_records::{FilePart, LogBatch, lent_entry_block};
 use raft_replay::segment::corruption_at;
 use std::thread::{Threads, join};
 
-/// Returns the batches of a file with this tail whose entries are damaged, first to last. Each entry block is read once, by one of
-/// so many workers; of the items of batches none is read.
+/// Returns the batches of `file` before `tail` whose entries are damaged, in order. Each entry block is read once, by one of
+/// `workers` threads; items of batches aren't read.
 ///
 /// # Errors
 ///
-/// `Memory`.
+/// `Memory` alone.
 pub fn damaged_batches<R: Threads + Sync>(
     rt: &R,
     file: &FilePart,
@@ -50,7 +50,7 @@ pub fn damaged_batches_alone(file: &FilePart, tail: &Option<CutTail>) -> Result<
     gather(file, 0, batches_end(file, tail))
 }
 
-/// Gathers the damaged batches between two bytes of a file by so many workers, half of a long stretch by half of them.
+/// Gathers the damaged batches between two bytes of a file by `workers` threads, half of a long stretch by half of them.
 ///
 /// # Errors
 ///

@@ -15,7 +15,7 @@ ghost use Rattle.raft_engine_prefixes.specs.Contents.{AreBothTold};
 ghost use Rattle.raft_engine.specs.KeptEngine.{table_in};
 ghost use Rattle.raft_engine.specs.CutTails.{IsRecoveredOf};
 ghost use Rattle.raft_engine.specs.DamagedBatches.{AreDamagedTold};
-ghost use Rattle.raft_engine.specs.Faults.{Breaks, IsFirstFault, IsPurgeFault, IsRotationFault, IsSyncFault, IsWritingFault};
+ghost use Rattle.raft_engine.specs.Broken.{IsFirstFault};
 ghost use Rattle.raft_engine.specs.Lasting.{IsLasting};
 ghost use Rattle.raft_files.specs.HeldFiles.{file_shown};
 ghost use Rattle.raft_engine.specs.Opened.{IsOpened};
@@ -130,7 +130,7 @@ impl<F: EngineFiles> Engine<F> {
     }
 
     /// Opens the files that a stop of the machine left, whoever wrote them: those of each queue, oldest first. The tables are
-    /// those that `recover_both` gives of the files, with so many workers. Once all is read, what is missing of the files is
+    /// those that `recover_both` gives of the files, with `workers` threads. Once all is read, what is missing of the files is
     /// asked: a first file of a queue without one, and the cut of a torn tail of a queue's last file. What the append files take
     /// away of the rewritten tables stays untold, and the rewrite queue is told it as what a write takes away. It is told at once
     /// of a region whose rewritten entries, those that stay, lie in front of the appended ones and don't join them: in files that
@@ -341,14 +341,13 @@ impl<F: EngineFiles> Engine<F> {
     ///
     /// # Errors
     ///
-    /// `Failed` where the engine isn't intact, and those of `EngineFiles::sync`: it isn't intact any more, and asks nothing of its files again but reads.
+    /// `Failed` where the engine isn't intact, and those of `EngineFiles::sync`: it isn't intact any more, and asks nothing of its
+    /// files again but reads.
     pub fn sync(&mut self) -> Result<()>
         ensures ok { OnOk result (self.new
             ≡ record self.old { asks = ask Append Sync ∷ self.old.asks }) }
         ensures accepted { OnOk result (self.old.intact ≡ true) }
-        ensures err { OnErr result (IsUnsynced self.old self.new) }
-        ensures refused { self.old.intact ≡ false → IfErr result (λ e. e ≡ Error.Failed) }
-        ensures fault { IfErr result (IsSyncFault F.may_fail self.old) }
+        ensures err { IfErr result (IsUnsynced F.may_fail self.old self.new) }
     {
         asks_are_stored();
         if !self.intact {
@@ -367,9 +366,8 @@ impl<F: EngineFiles> Engine<F> {
     /// Those of [`Engine::sync`], where it is wanted.
     fn sync_if_wanted(&mut self, sync: bool) -> Result<()>
         ensures ok { OnOk result (IsOnlySynced sync self.old self.new) }
-        ensures err { OnErr result (IsUnsynced self.old self.new) }
+        ensures err { IfErr result (IsUnsynced F.may_fail self.old self.new) }
         ensures wanted { OnErr result (sync ≡ true) }
-        ensures fault { IfErr result (λ e. (sync ≡ true) × IsSyncFault F.may_fail self.old e) }
     {
         if sync {
             return self.sync();
@@ -386,8 +384,7 @@ impl<F: EngineFiles> Engine<F> {
     pub fn rotate(&mut self) -> Result<()>
         ensures ok { OnOk result (IsRotated self.old self.new) }
         ensures accepted { OnOk result (self.old.intact ≡ true) }
-        ensures err { IfErr result (IsUnrotated self.old self.new) }
-        ensures fault { IfErr result (λ e. Breaks self.old self.new → IsRotationFault F.may_fail self.old self.new e) }
+        ensures err { IfErr result (IsUnrotated F.may_fail self.old self.new) }
     {
         asks_are_stored();
         if !self.intact {
@@ -419,9 +416,8 @@ impl<F: EngineFiles> Engine<F> {
         ensures accepted { OnOk result (self.old.intact ≡ true) }
         ensures tested { OnOk result
             (AreAcceptedOncePlaced self.old.accessor.tables batch.old.items) }
-        ensures err { IfErr result (IsUnwritten sync batch.old batch.new self.old self.new) }
-        ensures fault { IfErr result (λ e. Breaks self.old self.new
-            → IsWritingFault F.may_fail sync batch.old self.old self.new e) }
+        ensures err { IfErr result
+            (IsUnwritten F.may_fail sync batch.old batch.new self.old self.new) }
     {
         asks_are_stored();
         asks_put_batches();
@@ -465,9 +461,7 @@ impl<F: EngineFiles> Engine<F> {
     pub fn purge_expired_files(&mut self) -> Result<usize>
         ensures ok { IfOk result (λ count. ArePurged count self.old self.new) }
         ensures accepted { OnOk result (self.old.intact ≡ true) }
-        ensures err { IfErr result (IsUnpurged self.old self.new) }
-        ensures fault { IfErr result (λ e. Breaks self.old self.new
-            → IsPurgeFault F.may_fail Append self.old self.new e) }
+        ensures err { IfErr result (IsUnpurged F.may_fail self.old self.new) }
     {
         self.purge(LogQueue::Append)
     }

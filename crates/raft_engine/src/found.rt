@@ -273,11 +273,11 @@ fn other(version: Version) -> Version
     }
 }
 
-/// Returns `Memory` again, and no other refusal.
+/// Returns `Ok` for any error other than `Memory`.
 ///
 /// # Errors
 ///
-/// `Memory`.
+/// `Memory`, if `error` is that.
 pub fn unless_memory(error: &Error) -> Result<()>
     ensures ok { OnOk result (error.now ≢ Error.Memory) }
     ensures memory { IfErr result (λ e. e ≡ Error.Memory) }

@@ -122,11 +122,14 @@ impl FoundQueue {
         }
     }
 
-    /// Makes the files, of which the last has this tail, ready in a mode, and returns their segments too.
+    /// Checks that the found files may be opened in `mode`, and returns what has to be asked before anything can be put behind
+    /// them (a first file, or the cut of `tail`), what is known of the files once that is done, and their segments, unchanged.
+    /// Nothing is asked of the files yet. `tail` is what [`FoundQueue::tail`] returned.
     ///
     /// # Errors
     ///
-    /// Those of `check_tail` and of `check_blocks`.
+    /// `Corruption` if `mode` doesn't allow that tail to be cut, the last file is of the other version, or a batch of the last
+    /// rewrite file has damaged entries; `InvalidArgument` if the last file is one of raft-engine; `Memory`.
     pub fn ready(
         self,
         mode: RecoveryMode,
@@ -147,11 +150,11 @@ impl FoundQueue {
     }
 }
 
-/// Returns what is known of found files; of the first one, where there is none.
+/// Returns what is known of `files`, or of the first file that is begun if there is none.
 ///
 /// # Errors
 ///
-/// `Memory`.
+/// `Memory` alone.
 fn known_files(files: &Vec<(FileSeq, Vec<u8>)>) -> Result<QueueFiles>
     ensures ok { IfOk result (AreOf (begun_or_first (map file_shown files.now.items))) }
     ensures room { IfOk result (λ known. known.len < 2 ^ 63) }
@@ -163,7 +166,7 @@ fn known_files(files: &Vec<(FileSeq, Vec<u8>)>) -> Result<QueueFiles>
     QueueFiles::of(files)
 }
 
-/// Returns what is known of files once this was asked, which was missing of them.
+/// Returns what is known of files once `missing` was asked, given what is known of them before.
 fn known_with(known: QueueFiles, missing: &Missing) -> QueueFiles
     ensures { result ≡ known_with missing.now known }
 {
@@ -176,7 +179,7 @@ fn known_with(known: QueueFiles, missing: &Missing) -> QueueFiles
     }
 }
 
-/// Returns the last file of a queue, as a part, if there is one.
+/// Returns the last file of a queue as a part. `None` if the queue has no file.
 pub fn last_part(segments: &[Segment]) -> Option<&FilePart>
     ensures { (queue : LogQueue) (version : Version) (files : List NumberedBytes) → AreWholeFiles queue version files segments.now
         → MatchOption result (files ≡ []) (λ part. IsLastOf queue version files part.now) }
@@ -186,7 +189,8 @@ pub fn last_part(segments: &[Segment]) -> Option<&FilePart>
     Some(part)
 }
 
-/// Returns what is missing of a queue's files, of which the last has this tail.
+/// Returns what is missing of a queue's files in `segments`, the last of which has `tail`, before anything can be put behind
+/// them.
 ///
 /// # Errors
 ///
@@ -210,12 +214,12 @@ fn missing_of(mode: RecoveryMode, segments: &[Segment], tail: Option<CutTail>) -
     }
 }
 
-/// Makes the segments of a queue's found files those of the files that are there once what is missing was asked. No byte is
-/// copied.
+/// Turns the segments of a queue's found files into those of the files that are there once `missing` was asked: adds an empty
+/// first file, or cuts the last one. No byte is copied.
 ///
 /// # Errors
 ///
-/// `Memory`.
+/// `Memory` alone. The last file may be lost then.
 pub fn complete_segments(
     queue: LogQueue,
     version: Version,
@@ -254,11 +258,11 @@ fn add_first(queue: LogQueue, version: Version, segments: &mut Vec<Segment>) -> 
     Ok(())
 }
 
-/// Cuts the last file of a queue.
+/// Cuts the last file of `segments` to its first `at` bytes. There is one, and it has as many.
 ///
 /// # Errors
 ///
-/// `Memory`. The file may be gone then.
+/// `Memory` alone. The file may be lost then.
 fn cut_last(segments: &mut Vec<Segment>, at: usize) -> Result<()>
     requires { (queue : LogQueue) × (version : Version) × (closed : List NumberedBytes) × (last : NumberedBytes)
         × AreWholeFiles queue version (closed ++ last ∷ []) segments.old.items × (at ≤ length last.1) }

@@ -5,7 +5,7 @@ ghost use Rattle.std.specs.List.{AllByRecursion};
 ghost use Rattle.raft_records.specs.LogBatch.{Batch, is_open, encoded};
 ghost use Rattle.raft_engine.specs.GroupBatches.{placed_from, puts_asks};
 ghost use Rattle.raft_engine.specs.GroupPlaces.{AreFirstPut, BeginInTime, IsOneTooLong, as_encoded, end_from, items_of_batches};
-ghost use Rattle.raft_engine.specs.OpeningAsks.{FailsAmong};
+ghost use Rattle.raft_engine.specs.FileFailures.{FailsAmong};
 ghost use Rattle.raft_engine.specs.StoredAsks.{IsWritableBatch};
 
 use crate::limits::LAST_OFFSET;

@@ -149,12 +149,14 @@ fn is_unmarked(batch: &ReadBatch<'_>, queue: LogQueue) -> bool
     }
 }
 
+/// Tests whether none of `items` is a group marker, so far as their keys tell.
 fn have_no_marker(items: &[ReadItem<'_>]) -> bool
     ensures { IsTrue result → AreUnmarked items.now }
 {
     items.iter().all(|item| is_no_marker(item))
 }
 
+/// Tests whether an item puts no reserved key, so that it is no group marker.
 fn is_no_marker(item: &ReadItem<'_>) -> bool
     ensures { IsTrue result → IsUnmarked item.now }
 {
@@ -185,7 +187,7 @@ fn group_marker(
     }
 }
 
-/// Returns the first group marker of items.
+/// Returns the first group marker of `items`; `None` if there is none.
 ///
 /// # Errors
 ///
@@ -205,7 +207,7 @@ fn first_marker(alloc: Global, items: &[LogItem]) -> Result<Option<(u64, AtomicG
     Ok(None)
 }
 
-/// Tests whether a batch may stand right behind one that leaves this open.
+/// Tests whether `batch` may stand right behind one that leaves the group `left` open, or none for `None`.
 fn may_stand(batch: MarkedBatch, left: Option<(u64, FileSeq)>) -> bool
     ensures { IsTrue result ↔ MayStandBy (marker_shown batch.marker) batch.seq left }
 {
@@ -218,7 +220,7 @@ fn may_stand(batch: MarkedBatch, left: Option<(u64, FileSeq)>) -> bool
     }
 }
 
-/// Returns what a batch leaves open.
+/// Returns the group that `batch` leaves open, with the number of its file; `None` if it leaves none open.
 fn left_open(batch: MarkedBatch) -> Option<(u64, FileSeq)>
     ensures { result ≡ open_by (marker_shown batch.marker) batch.seq }
 {

@@ -21,7 +21,7 @@ pub enum Missing {
 }
 
 impl Missing {
-    /// Asks the files of a queue for it.
+    /// Asks the files of `queue` for what is missing; for nothing if nothing is.
     ///
     /// # Errors
     ///

@@ -44,7 +44,7 @@ fn block_len(entries: &[EntryIndex]) -> usize
     len
 }
 
-/// Tests whether an entry has this place.
+/// Tests whether `place` is the block in which an entry stands.
 fn stands_at(entry: &EntryIndex, place: Option<FileBlockHandle>) -> bool
     ensures { IsTrue result ↔ (entry.now.entries ≡ place) }
 {

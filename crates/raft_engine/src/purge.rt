@@ -1,10 +1,10 @@
 //! Files that no table needs.
 
-ghost use Rattle.std.specs.Prelude.{◌≡◌, ◌≤◌, ◌++◌, map, IfErr, IfOk, OnErr, OnOk};
+ghost use Rattle.std.specs.Prelude.{◌≡◌, ◌≤◌, ◌++◌, map, IfErr, IfOk, OnOk};
 ghost use Rattle.std.specs.Vec.{vec_len};
-ghost use Rattle.raft_engine.specs.OpeningAsks.{FailsAmong};
+ghost use Rattle.raft_engine.specs.FileFailures.{FailsAmong};
 ghost use Rattle.raft_engine.specs.QueueFilesOf.{IsQueueShorterBy, files_known};
-ghost use Rattle.raft_engine.specs.Purged.{AreSomeDeleted, IsLeastNeeded, delete_asks, front_below, least_among};
+ghost use Rattle.raft_engine.specs.Purged.{IsLeastNeeded, delete_asks, front_below, least_among};
 
 use crate::queue_files::QueueFiles;
 use raft_accessor::MemTableAccessor;
@@ -25,7 +25,7 @@ pub fn least_needed(accessor: &MemTableAccessor, queue: LogQueue, last: FileSeq)
     Ok(least_among(tables.as_slice(), queue, last))
 }
 
-/// Returns the least number of a file of the queue that one of these tables needs, or `last`, if that is less.
+/// Returns the least number of a file of the queue that one of `tables` needs, or `last`, if that is less.
 fn least_among(tables: &[&MemTable], queue: LogQueue, last: FileSeq) -> FileSeq
     ensures { result ≡ least_among queue last (map (λ t. t.now) tables.now) }
 {
@@ -38,7 +38,7 @@ fn least_among(tables: &[&MemTable], queue: LogQueue, last: FileSeq) -> FileSeq
     least
 }
 
-/// Returns how many numbers are below another one, from the first on.
+/// Returns how many of `seqs`, from the first one on, are below `least`.
 pub fn count_below(seqs: &[FileSeq], least: FileSeq) -> usize
     ensures { result ≡ front_below least seqs.now }
 {
@@ -52,7 +52,7 @@ pub fn count_below(seqs: &[FileSeq], least: FileSeq) -> usize
     count
 }
 
-/// Deletes the oldest files of the queue, so many, and takes their numbers off its list.
+/// Deletes the `count` oldest files of the queue, and takes their numbers off its list.
 ///
 /// # Errors
 ///
@@ -67,7 +67,6 @@ pub fn delete_oldest<F: EngineFiles>(
     requires { count ≤ vec_len (files_known queue append.old rewrite.old).closed }
     ensures asked { OnOk result (F.asked files.new ≡ delete_asks queue count ++ F.asked files.old) }
     ensures taken { OnOk result (IsQueueShorterBy queue count append.old rewrite.old append.new rewrite.new) }
-    ensures err { OnErr result (AreSomeDeleted queue count (F.asked files.old) (F.asked files.new)) }
     ensures fault { IfErr result (FailsAmong F.may_fail (delete_asks queue count) (F.asked files.old)
         (F.asked files.new)) }
 {

@@ -1,11 +1,10 @@
 //! A batch that is put behind the bytes of a file.
 
-ghost use Rattle.std.specs.Prelude.{◌≡◌, ◌⊎◌, ◌≤◌, ◌^◌, [], ◌++◌, IfErr, OnOk, OnErr, true};
-ghost use Rattle.raft_base.specs.declared.pipe_log.LogQueue.TheVariants.{Append};
+ghost use Rattle.std.specs.Prelude.{◌≡◌, ◌≤◌, ◌^◌, [], ◌++◌, IfErr, OnOk, OnErr};
 ghost use Rattle.raft_records.specs.LogBatch.{encoded, encoded_length};
-ghost use Rattle.raft_files.specs.Asks.{IsAsked, MayBeAsked, Put, Unsynced, ask};
+ghost use Rattle.raft_files.specs.Asks.{IsAsked, MayBeAsked, Put, ask};
 ghost use Rattle.raft_engine.specs.BatchBytes.{bytes_for, placed_at};
-ghost use Rattle.raft_engine.specs.OpeningAsks.{FailsAmong};
+ghost use Rattle.raft_engine.specs.FileFailures.{FailsAmong};
 ghost use Rattle.raft_engine.specs.Purged.{put_asks};
 ghost use Rattle.raft_engine.specs.WrittenBatch.{synced_if};
 
@@ -63,8 +62,6 @@ pub fn put_items<F: EngineFiles>(
     requires offset { offset ≤ 2 ^ 63 }
     requires len { len ≡ encoded_length batch.old.items batch.old.entry_bytes }
     ensures ok { OnOk result (F.asked files.new ≡ put_asks file.now batch.old ++ F.asked files.old) }
-    ensures err { OnErr result ((F.asked files.new ≡ F.asked files.old)
-        ⊎ (F.asked files.new ≡ put_asks file.now batch.old ++ F.asked files.old)) }
     ensures fault { IfErr result (FailsAmong F.may_fail (put_asks file.now batch.old)
         (F.asked files.old) (F.asked files.new)) }
 {
@@ -81,8 +78,6 @@ pub fn put_items<F: EngineFiles>(
 /// Those of `EngineFiles::sync`.
 pub fn sync_if<F: EngineFiles>(files: &mut F, sync: bool) -> Result<()>
     ensures ok { OnOk result (F.asked files.new ≡ synced_if sync (F.asked files.old)) }
-    ensures err { OnErr result (MayBeAsked (ask Append Unsynced) (F.asked files.old) (F.asked files.new)) }
-    ensures wanted { OnErr result (sync ≡ true) }
     ensures fault { IfErr result (FailsAmong F.may_fail (synced_if sync []) (F.asked files.old)
         (F.asked files.new)) }
 {

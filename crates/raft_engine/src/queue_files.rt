@@ -3,7 +3,7 @@
 ghost use Rattle.std.specs.Prelude.{◌≡◌, ◌⊎◌, ◌<◌, ◌+◌, ◌-◌, ◌^◌, [], ◌∷◌, ◌++◌, length, map, IfErr, IfOk, OnErr, OnOk};
 ghost use Rattle.raft_files.specs.Asks.{Begin, Sync, ask};
 ghost use Rattle.raft_files.specs.HeldFiles.{file_shown};
-ghost use Rattle.raft_engine.specs.OpeningAsks.{FailsAmong};
+ghost use Rattle.raft_engine.specs.FileFailures.{FailsAmong};
 ghost use Rattle.raft_engine.specs.QueueFilesOf.{files_known};
 
 use raft_base::{Error, FileSeq, LogQueue, Result};
@@ -21,7 +21,7 @@ pub struct QueueFiles {
     pub len: u64,
 }
 
-/// Returns the files of one of both queues.
+/// Returns which of `append` and `rewrite` are the files of `queue`.
 pub fn files_known<'a>(
     queue: LogQueue,
     append: &'a QueueFiles,
@@ -38,7 +38,7 @@ pub fn files_known<'a>(
 impl QueueFiles {
     ghost use Rattle.raft_engine.specs.QueueFilesOf.{AreOf};
 
-    /// Makes those of a queue that has one empty file.
+    /// Returns what is known of a queue that has one empty file, numbered `seq`.
     pub fn first(alloc: Global, seq: FileSeq) -> QueueFiles
         ensures closed { result.closed.items ≡ [] }
         ensures seq { result.seq ≡ seq }
@@ -51,7 +51,7 @@ impl QueueFiles {
         }
     }
 
-    /// Makes those of a queue that has these files, one at least.
+    /// Returns what is known of a queue that has `files`, one at least.
     ///
     /// # Errors
     ///

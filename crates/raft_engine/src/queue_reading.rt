@@ -29,7 +29,7 @@ pub struct QueueRead<M> {
     pub tail: Option<CutTail>,
 }
 
-/// Replays the files of a queue, a segment each, by so many workers: first all but the last one, then that one, up to the first
+/// Replays the files of a queue, a segment each, by `workers` threads: first all but the last one, then that one, up to the first
 /// batch of it that can't be read.
 ///
 /// # Errors
@@ -95,7 +95,7 @@ fn read_last<M: ReplayMachine, F: Factory<M>, R: Threads + Sync>(
     }
 }
 
-/// Replays segments that end with their batches, as equal shares of so many workers.
+/// Replays segments that end with a batch, in equal shares by `workers` threads.
 fn replay_shares<M: ReplayMachine, F: Factory<M>, R: Threads + Sync>(
     rt: &R,
     alloc: Global,

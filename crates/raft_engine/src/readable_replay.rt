@@ -15,12 +15,12 @@ use raft_history::ReplayMachine;
 use raft_records::{FilePart, ReadBatch};
 use std::alloc::Global;
 
-/// Replays the batches of a whole file up to the first one that can't be read, and returns the tail from there on; nothing
-/// where the file ends with its batches.
+/// Replays the batches of a whole file up to the first one that can't be read, and returns the tail from there on; `None` if the
+/// file ends with a batch.
 ///
 /// # Errors
 ///
-/// `Memory`, and those of the machine.
+/// `Memory`, and those of the machine. Some of the batches may have been replayed then.
 pub fn replay_whole<M: ReplayMachine>(machine: &mut M, file: &FilePart) -> Result<Option<CutTail>>
     ensures { IfOk result (λ tail. IsReplayedTo M.stands_for M.stands_exactly file.now machine.old machine.new tail) }
 {
@@ -39,12 +39,12 @@ pub fn replay_whole<M: ReplayMachine>(machine: &mut M, file: &FilePart) -> Resul
     Ok(Some(CutTail::from(file, at, error)))
 }
 
-/// Replays the batches of bytes that are lent, those of the file from `offset` on, up to the first one that can't be read. Returns
-/// where that is, and why; the end of the bytes and no reason where they end with their batches.
+/// Replays the batches at the start of `bytes`, which stand in `file` from `offset` on, up to the first one that can't be read.
+/// Returns how many bytes they have, and why the next one can't be read; `None` if `bytes` end with a batch.
 ///
 /// # Errors
 ///
-/// Those of the machine.
+/// Those of the machine. Some of the batches may have been replayed then.
 fn replay_readable<M: ReplayMachine>(
     machine: &mut M,
     alloc: Global,

@@ -72,11 +72,12 @@ pub struct ReadFiles {
 }
 
 impl Ready {
-    /// Makes found files, of which the last ones have these tails, ready in a mode.
+    /// Checks that the found files of both queues may be opened in `mode`. `append_tail` and `rewrite_tail` are what
+    /// [`FoundQueue::tail`] returned of each queue.
     ///
     /// # Errors
     ///
-    /// Those of `FoundQueue::ready`.
+    /// Those of [`FoundQueue::ready`].
     fn of(
         mode: RecoveryMode,
         append: FoundQueue,
@@ -151,12 +152,13 @@ impl Ready {
 }
 
 impl ReadySegments {
-    /// Makes found files ready in a mode, of which the last append file has this tail, and the last rewrite file is read to find its
-    /// own, and the segments those of the files that are there once what is missing was asked.
+    /// Checks that the found files of both queues may be opened in `mode`, and turns their segments into those of the files that
+    /// are there once what is missing was asked. `append_tail` is what [`FoundQueue::tail`] returned of the append queue; the
+    /// last rewrite file is read here to find its tail.
     ///
     /// # Errors
     ///
-    /// Those of `Ready::of`; `Full` where the files of a queue have 2^63 bytes or more then.
+    /// Those of `Ready::of`; `Full` if the files of a queue have 2^63 bytes or more then.
     fn of(
         mode: RecoveryMode,
         version: Version,

@@ -1,29 +1,10 @@
 -- Items that move records within the rewrite queue, region by region.
-use Rattle.std.proofs.Common.{◌≡◌, ◌⊎◌, ℕ, Bool, true, false, cond, List, [], ◌∷◌, ◌++◌, map, Option, Some, None, option_map, if◌then◌else◌, inl, inr, refl, sym, ap, subst, ◌∙◌, append-nil}
-use Rattle.std.specs.Prelude.{filter, flat_map}
-use Rattle.std.specs.List.{AllByRecursion}
-use Rattle.std.specs.Option.{option_and_then}
+use Rattle.raft_engine_laws.proofs.Common.{◌≡◌, ◌⊎◌, ℕ, Bool, true, false, cond, List, [], ◌∷◌, ◌++◌, map, Option, Some, None, option_map, if◌then◌else◌, inl, inr, refl, sym, ap, subst, ◌∙◌, append-nil, filter, flat_map, AllByRecursion, option_and_then, false≢true, eqb-true}
+use Rattle.raft_engine_laws.proofs.Common.{EntryIndex, FileId, Rewrite, OpType, is_reserved, Item, Content, entries, command, pair, Keys, Step, Run, Compact, Truncate, Put, Del, AtomicGroup, Clean, table_of, after, Table, after_rewrite, after_rewrite_key, placed_in}
+use Rattle.raft_engine_laws.proofs.Common.{AreTableEntries, same_some, RegionStep, Tables, with_table, content_step, pair_step, steps_of_items, steps_on, by_region, with_own, with_other, own_none, own_head, own_other, is_on, with_step, Rewriting, after_content, after_items}
+use Rattle.raft_engine_laws.proofs.Common.{after_rewrite_pair, with_change, some_is, none_some, with_same, AreCopies, AreRecordsMoved, run_of, MovesAgain, MoveAgain}
 use Rattle.std.specs.FinMap as finite
-use Rattle.std.proofs.lemmas.Bool.{false≢true, eqb-true}
-use Rattle.raft_base.specs.declared.entry_index.EntryIndex.{EntryIndex}
-use Rattle.raft_base.specs.declared.pipe_log.FileId.{FileId}
-use Rattle.raft_base.specs.declared.pipe_log.LogQueue.TheVariants.{Rewrite}
-use Rattle.raft_records.specs.declared.key_value.OpType.{OpType}
 use Rattle.raft_records.specs.declared.key_value.OpType.TheVariants as operations
-use Rattle.raft_records.specs.Group.{is_reserved}
-use Rattle.raft_records.specs.Item.{Item, Content, entries, command, pair}
-use Rattle.raft_table.specs.KeyValues.{Keys}
-use Rattle.raft_table.specs.Steps.{Step, Run, Compact, Truncate, Put, Del, AtomicGroup, Clean, table_of, after}
-use Rattle.raft_table.specs.Table.{Table, after_rewrite, after_rewrite_key}
-use Rattle.raft_table.specs.TableEntries.{placed_in, AreTableEntries}
-use Rattle.raft_table.proofs.MarkEntries.{same_some}
-use Rattle.raft_history.specs.RegionSteps.{RegionStep, Tables, with_table, content_step, pair_step, steps_of_items, steps_on}
-use Rattle.raft_history.proofs.MapLemmas.{by_region, with_own, with_other}
-use Rattle.raft_history.proofs.StepListLemmas.{own_none, own_head, own_other}
-use Rattle.raft_history.proofs.Words.{is_on, with_step}
-use Rattle.raft_accessor.specs.Writes.{Rewriting, after_content, after_items, after_rewrite_pair, with_change}
-use Rattle.raft_accessor.proofs.MapLemmas.{some_is, none_some, with_same}
-use Rattle.raft_engine_laws.specs.Moving.{AreCopies, AreRecordsMoved, run_of, MovesAgain, MoveAgain}
 use Rattle.raft_engine_laws.proofs.AgainSteps.{after_again, afters_again, IsStepAgain, IsAgain, none_copied, copies_split, takes, reads, run_again, put_again, at_end}
 
 -- ---- many steps on a region

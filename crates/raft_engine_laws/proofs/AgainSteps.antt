@@ -1,27 +1,9 @@
 -- Steps that move records of a region within the rewrite queue: what they make of its table, and of what is read of the rewrite queue.
-use Rattle.std.proofs.Common.{◌≡◌, ◌⊎◌, ℕ, suc, ◌+◌, Bool, true, false, cond, List, [], ◌∷◌, ◌++◌, length, Option, Some, None, option_map, inl, inr, refl, sym, ap, subst, ◌∙◌, append-nil, append_assoc, length-append, arith}
-use Rattle.std.specs.Prelude.{◌&&◌, nat_lt}
-use Rattle.std.specs.List.{AllByRecursion}
-use Rattle.std.specs.Option.{option_and_then}
+use Rattle.raft_engine_laws.proofs.Common.{◌≡◌, ◌⊎◌, ℕ, suc, ◌+◌, Bool, true, false, cond, List, [], ◌∷◌, ◌++◌, length, Option, Some, None, option_map, inl, inr, refl, sym, ap, subst, ◌∙◌, append-nil, append_assoc, length-append, arith, ◌&&◌, nat_lt, AllByRecursion}
+use Rattle.raft_engine_laws.proofs.Common.{option_and_then, nat_tests, EntryIndex, FileId, LogQueue, Append, Rewrite, RisesFrom, IsRun, Keys, Stored, with_moved, moved_to, misses, entries_after_rewrite, is_misplaced, may_move, leaves_hole, entries_after_replay, Step, Run, Put}
+use Rattle.raft_engine_laws.proofs.Common.{table_of, Table, after_rewrite, after_rewrite_key, rewritten_in, rewritten_pair, below, start_of, placed_in, is_placed_in, entry_count, AreTableEntries, same_some, each_placed, placed_each, placed_in_other, below_start, rises, hole_end}
+use Rattle.raft_engine_laws.proofs.Common.{end_of-run, placed_in-append, each_left, each_right, AreCopies, IsPairMoved, AreRecordsMoved}
 use Rattle.std.specs.FinMap as finite
-use Rattle.std.proofs.lemmas.Bool.Decides.{nat_tests}
-use Rattle.raft_base.specs.declared.entry_index.EntryIndex.{EntryIndex}
-use Rattle.raft_base.specs.declared.pipe_log.FileId.{FileId}
-use Rattle.raft_base.specs.declared.pipe_log.LogQueue.{LogQueue}
-use Rattle.raft_base.specs.declared.pipe_log.LogQueue.TheVariants.{Append, Rewrite}
-use Rattle.raft_base.specs.Runs.{RisesFrom, IsRun}
-use Rattle.raft_table.specs.KeyValues.{Keys, Stored, with_moved, moved_to}
-use Rattle.raft_table.specs.Marks.{misses}
-use Rattle.raft_table.specs.Rewriting.{entries_after_rewrite, is_misplaced, may_move}
-use Rattle.raft_table.specs.Start.{leaves_hole, entries_after_replay}
-use Rattle.raft_table.specs.Steps.{Step, Run, Put, table_of}
-use Rattle.raft_table.specs.Table.{Table, after_rewrite, after_rewrite_key, rewritten_in, rewritten_pair}
-use Rattle.raft_table.specs.TableEntries.{below, start_of, placed_in, is_placed_in, entry_count, AreTableEntries}
-use Rattle.raft_table.proofs.MarkEntries.{same_some}
-use Rattle.raft_table.proofs.PlaceLemmas.{each_placed, placed_each, placed_in_other}
-use Rattle.raft_table.proofs.RunLemmas.{below_start, rises, hole_end, end_of-run, placed_in-append}
-use Rattle.raft_history.proofs.EffectLemmas.{each_left, each_right}
-use Rattle.raft_engine_laws.specs.Moving.{AreCopies, IsPairMoved, AreRecordsMoved}
 use Rattle.raft_engine_laws.proofs.CopiedEntries.{copies_take_places, copies_read_behind}
 use Rattle.raft_engine_laws.proofs.CopiedPairs.{one_more, now_there}
 use Rattle.raft_engine_laws.proofs.RewrittenRegion.{copies_placed}

@@ -1,21 +1,10 @@
 -- Where contents are told alike, the records are the same.
-use Rattle.std.proofs.Common.{◌≡◌, ℕ, Bool, true, false, cond, List, [], ◌∷◌, ◌++◌, Option, Some, None, refl, sym, ap, subst, ◌∙◌}
-use Rattle.std.specs.Prelude.{filter, flat_map, nat_lt}
-use Rattle.std.specs.List.{AllByRecursion}
+use Rattle.raft_engine_laws.proofs.Common.{◌≡◌, ℕ, Bool, true, false, cond, List, [], ◌∷◌, ◌++◌, Option, Some, None, refl, sym, ap, subst, ◌∙◌, filter, flat_map, nat_lt, AllByRecursion, EntryIndex, FileId, OpType, is_reserved, Item, Content, entries, command, pair, Step, Run}
+use Rattle.raft_engine_laws.proofs.Common.{Compact, Truncate, Put, Del, AtomicGroup, Clean, table_of, same_some, Event, RegionStep, Tables, content_step, pair_step, steps_of_items, steps_on, with_step, Records, entries_told, after_change, after_changes, live, HaveRecords}
+use Rattle.raft_engine_laws.proofs.Common.{AreToldAlike}
 use Rattle.std.specs.FinMap as finite
-use Rattle.raft_base.specs.declared.entry_index.EntryIndex.{EntryIndex}
-use Rattle.raft_base.specs.declared.pipe_log.FileId.{FileId}
 use Rattle.raft_records.specs.declared.command.Command.TheVariants as commands
-use Rattle.raft_records.specs.declared.key_value.OpType.{OpType}
 use Rattle.raft_records.specs.declared.key_value.OpType.TheVariants as operations
-use Rattle.raft_records.specs.Group.{is_reserved}
-use Rattle.raft_records.specs.Item.{Item, Content, entries, command, pair}
-use Rattle.raft_table.specs.Steps.{Step, Run, Compact, Truncate, Put, Del, AtomicGroup, Clean, table_of}
-use Rattle.raft_table.proofs.MarkEntries.{same_some}
-use Rattle.raft_history.specs.Batches.{Event}
-use Rattle.raft_history.specs.RegionSteps.{RegionStep, Tables, content_step, pair_step, steps_of_items, steps_on}
-use Rattle.raft_history.proofs.Words.{with_step}
-use Rattle.raft_engine_laws.specs.Records.{Records, entries_told, after_change, after_changes, live, HaveRecords, AreToldAlike}
 use Rattle.raft_engine_laws.proofs.KeptWrites.{on_region}
 
 each_of_both : (P : RegionStep → Type 0) (is js : List RegionStep) → AllByRecursion P is → AllByRecursion P js → AllByRecursion P (is ++ js)

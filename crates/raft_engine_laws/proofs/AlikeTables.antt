@@ -1,25 +1,10 @@
 -- Tables with the same records take the same batches.
-use Rattle.std.proofs.Common.{◌≡◌, ◌⊎◌, ℕ, suc, max, Bool, true, false, cond, ◌||◌, List, [], ◌∷◌, ◌++◌, Option, Some, None, option_map, if◌then◌else◌, inl, inr, refl, sym, ap, subst, ◌∙◌}
-use Rattle.std.specs.Prelude.{filter, nat_lt, nat_le}
-use Rattle.std.specs.Option.{option_and_then}
+use Rattle.raft_engine_laws.proofs.Common.{◌≡◌, ◌⊎◌, ℕ, suc, max, Bool, true, false, cond, ◌||◌, List, [], ◌∷◌, ◌++◌, Option, Some, None, option_map, if◌then◌else◌, inl, inr, refl, sym, ap, subst, ◌∙◌, filter, nat_lt, nat_le, option_and_then, EntryIndex, FileId, end_of, OpType}
+use Rattle.raft_engine_laws.proofs.Common.{is_reserved, Item, Content, entries, command, pair, leaves_hole, starts_in_front, table_of, Table, after_append, below, from, same_some, Tables, with_table, IsOther, by_region, with_own, with_other, Appending, after_content, after_items}
+use Rattle.raft_engine_laws.proofs.Common.{after_pair, with_change, Entry, Records, entries_told, HaveRecords}
 use Rattle.std.specs.FinMap as finite
-use Rattle.raft_base.specs.declared.entry_index.EntryIndex.{EntryIndex}
-use Rattle.raft_base.specs.declared.pipe_log.FileId.{FileId}
-use Rattle.raft_base.specs.Runs.{end_of}
 use Rattle.raft_records.specs.declared.command.Command.TheVariants as commands
-use Rattle.raft_records.specs.declared.key_value.OpType.{OpType}
 use Rattle.raft_records.specs.declared.key_value.OpType.TheVariants as operations
-use Rattle.raft_records.specs.Group.{is_reserved}
-use Rattle.raft_records.specs.Item.{Item, Content, entries, command, pair}
-use Rattle.raft_table.specs.Start.{leaves_hole, starts_in_front}
-use Rattle.raft_table.specs.Steps.{table_of}
-use Rattle.raft_table.specs.Table.{Table, after_append}
-use Rattle.raft_table.specs.TableEntries.{below, from}
-use Rattle.raft_table.proofs.MarkEntries.{same_some}
-use Rattle.raft_history.specs.RegionSteps.{Tables, with_table}
-use Rattle.raft_history.proofs.MapLemmas.{IsOther, by_region, with_own, with_other}
-use Rattle.raft_accessor.specs.Writes.{Appending, after_content, after_items, after_pair, with_change}
-use Rattle.raft_engine_laws.specs.Records.{Entry, Records, entries_told, HaveRecords}
 use Rattle.raft_engine_laws.proofs.RecordLemmas.{told-append, told_below, told_from}
 
 abbrev first_index : List Entry → ℕ

@@ -1,13 +1,6 @@
 -- Effects stay apart: a batch without a group marker behind a history, and one that takes no effect.
-use Rattle.std.proofs.Common.{◌≡◌, ◌≢◌, ℕ, suc, ◌+◌, ◌<◌, List, [], ◌∷◌, ◌++◌, length, Option, Some, None, refl, sym, ap, subst, ◌∙◌, append-nil, arith}
-use Rattle.std.specs.List.{AllByRecursion}
-use Rattle.raft_records.specs.declared.atomic_group.AtomicGroupStatus.{AtomicGroupStatus}
-use Rattle.raft_records.specs.declared.atomic_group.AtomicGroupStatus.TheVariants.{Begin, Middle, End}
-use Rattle.raft_history.specs.Batches.{GroupMarker, BatchSteps}
-use Rattle.raft_history.specs.Effects.{Numbered, numbered_from, markers_of, open_stretch, Effect, completed_as, completed_by, effects_behind, effects, AreApart, EachApart}
-use Rattle.raft_history.proofs.EffectLemmas.{each-append, each_weaker, effects_behind-one}
-use Rattle.raft_history.proofs.JoinedLemmas.{effects-append}
-use Rattle.raft_engine_laws.specs.Groups.{IsBeforeEnd}
+use Rattle.raft_engine_laws.proofs.Common.{◌≡◌, ◌≢◌, ℕ, suc, ◌+◌, ◌<◌, List, [], ◌∷◌, ◌++◌, length, Option, Some, None, refl, sym, ap, subst, ◌∙◌, append-nil, arith, AllByRecursion, AtomicGroupStatus, Begin, Middle, End, GroupMarker, BatchSteps, Numbered, numbered_from}
+use Rattle.raft_engine_laws.proofs.Common.{markers_of, open_stretch, Effect, completed_as, completed_by, effects_behind, effects, AreApart, EachApart, each-append, each_weaker, effects_behind-one, effects-append, IsBeforeEnd}
 
 -- what a batch completes has it as its last
 completed_last : (m : Option GroupMarker) (before : List Numbered) (p : Numbered) → AllByRecursion (λ (e : Effect). e.last.number ≡ p.number) (completed_by m before p)

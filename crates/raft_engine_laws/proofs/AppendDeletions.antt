@@ -1,18 +1,6 @@
 -- The front of the append files is deleted.
-use Rattle.std.proofs.Common.{◌≡◌, ℕ, List, [], ◌++◌, sym, subst}
+use Rattle.raft_engine_laws.proofs.Common.{◌≡◌, ℕ, List, [], ◌++◌, sym, subst, EntryIndex, Append, table_of, Event, batches, steps_of, IsSoundIn, Tables, own_none, plain-append, sound_in_front, sound_in_back, NeedsNoneBelow, AreFilesBelow, IsRegionKept, AreKept}
 use Rattle.std.specs.FinMap as finite
-use Rattle.raft_base.specs.declared.entry_index.EntryIndex.{EntryIndex}
-use Rattle.raft_base.specs.declared.pipe_log.LogQueue.TheVariants.{Append}
-use Rattle.raft_table.specs.Steps.{table_of}
-use Rattle.raft_history.specs.Batches.{Event, batches}
-use Rattle.raft_history.specs.Effects.{steps_of}
-use Rattle.raft_history.specs.Histories.{IsSoundIn}
-use Rattle.raft_history.specs.RegionSteps.{Tables}
-use Rattle.raft_history.proofs.StepListLemmas.{own_none}
-use Rattle.raft_history.proofs.StretchOfHistory.{plain-append, sound_in_front, sound_in_back}
-use Rattle.raft_engine_laws.specs.DeletedFiles.{NeedsNoneBelow, AreFilesBelow}
-use Rattle.raft_engine_laws.specs.KeptRegions.{IsRegionKept}
-use Rattle.raft_engine_laws.specs.KeptTables.{AreKept}
 use Rattle.raft_engine_laws.proofs.FileSteps.{steps_below}
 use Rattle.raft_engine_laws.proofs.ShorterRegion.{shorter_kept}
 

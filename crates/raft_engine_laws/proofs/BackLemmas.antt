@@ -1,14 +1,5 @@
 -- Rewritten entries that an overlay drops in front of appended ones, without a step that speaks of them.
-use Rattle.std.proofs.Common.{◌≡◌, ℕ, ◌+◌, ◌<◌, true, cond, not, ◌||◌, [], ◌∷◌, ◌++◌, Some, refl, ap, ◌∙◌, append-nil, arith}
-use Rattle.std.specs.Prelude.{min, nat_lt, nat_le, ◌&&◌, ◌==◌}
-use Rattle.std.proofs.lemmas.Bool.Decides.{nat_tests}
-use Rattle.raft_base.specs.declared.entry_index.EntryIndex.{EntryIndex}
-use Rattle.raft_base.specs.Runs.{end_of}
-use Rattle.raft_table.specs.Marks.{entries_within}
-use Rattle.raft_table.specs.Overlay.{overlay, rewritten_within}
-use Rattle.raft_table.specs.KeyValues.{lesser}
-use Rattle.raft_table.specs.Steps.{Run, Truncate}
-use Rattle.raft_table.specs.Table.{Table}
+use Rattle.raft_engine_laws.proofs.Common.{◌≡◌, ℕ, ◌+◌, ◌<◌, true, cond, not, ◌||◌, [], ◌∷◌, ◌++◌, Some, refl, ap, ◌∙◌, append-nil, arith, min, nat_lt, nat_le, ◌&&◌, ◌==◌, nat_tests, EntryIndex, end_of, entries_within, overlay, rewritten_within, lesser, Run, Truncate, Table}
 
 end_is : (e : EntryIndex) → end_of (e ∷ []) ≡ e.index + 1
 unfolding end_of

@@ -1,22 +1,8 @@
 -- Records that were there before some steps: the steps leave those that they don't speak of, and put their own behind them.
-use Rattle.std.proofs.Common.{◌≡◌, ℕ, Bool, true, false, cond, ◌||◌, List, [], ◌∷◌, ◌++◌, map, Option, Some, None, option_map, refl, sym, ap, ◌∙◌, append-nil, append_assoc}
-use Rattle.std.specs.Prelude.{filter, nat_lt, nat_le}
-use Rattle.std.specs.Option.{option_and_then}
-use Rattle.std.specs.Ordering.{nat_cmp, eq_by_cmp}
-use Rattle.std.specs.Cmp.Lexicographic.{slice_cmp, nat_list_cmp_total}
+use Rattle.raft_engine_laws.proofs.Common.{◌≡◌, ℕ, Bool, true, false, cond, ◌||◌, List, [], ◌∷◌, ◌++◌, map, Option, Some, None, option_map, refl, sym, ap, ◌∙◌, append-nil, append_assoc, filter, nat_lt, nat_le, option_and_then, nat_cmp, eq_by_cmp, slice_cmp, nat_list_cmp_total}
+use Rattle.raft_engine_laws.proofs.Common.{EntryIndex, Append, IsRun, Stored, Keys, value_at, speaks_of_key, said_of_key, last_pair, overlay, Step, Run, Compact, Truncate, Put, Del, AtomicGroup, Clean, AreSteps, table_of, after_step, after, Table, start_of, last_pair_stands}
+use Rattle.raft_engine_laws.proofs.Common.{Records, entries_told, after_change, after_changes, HasRecords, unspoken, is_key_spoken}
 use Rattle.std.specs.FinMap as finite
-use Rattle.raft_base.specs.declared.entry_index.EntryIndex.{EntryIndex}
-use Rattle.raft_base.specs.declared.pipe_log.LogQueue.TheVariants.{Append}
-use Rattle.raft_base.specs.Runs.{IsRun}
-use Rattle.raft_table.specs.KeyValues.{Stored, Keys, value_at}
-use Rattle.raft_table.specs.LastWord.{speaks_of_key, said_of_key, last_pair}
-use Rattle.raft_table.specs.Overlay.{overlay}
-use Rattle.raft_table.specs.Steps.{Step, Run, Compact, Truncate, Put, Del, AtomicGroup, Clean, AreSteps, table_of, after_step, after}
-use Rattle.raft_table.specs.Table.{Table}
-use Rattle.raft_table.specs.TableEntries.{start_of}
-use Rattle.raft_table.proofs.LastWordLemmas.{last_pair_stands}
-use Rattle.raft_engine_laws.specs.Records.{Records, entries_told, after_change, after_changes, HasRecords}
-use Rattle.raft_engine_laws.specs.Speaking.{unspoken, is_key_spoken}
 use Rattle.raft_engine_laws.proofs.KeyLemmas.{pair_later, pair_prefix}
 use Rattle.raft_engine_laws.proofs.OpenedEntries.{LeavesOf, leaves}
 use Rattle.raft_engine_laws.proofs.OverLemmas.{entries_after, unspoken-other}

@@ -1,27 +1,9 @@
 -- The tables that both queues give are overlays.
-use Rattle.std.proofs.Common.{◌≡◌, ℕ, Bool, true, false, cond, not, List, [], ◌++◌, Option, Some, None, refl, sym, ap, subst, ◌∙◌, append-nil}
-use Rattle.std.specs.Option.{option_or}
-use Rattle.std.specs.Ordering.{nat_cmp}
-use Rattle.std.specs.Cmp.Lexicographic.{slice_cmp}
+use Rattle.raft_engine_laws.proofs.Common.{◌≡◌, ℕ, Bool, true, false, cond, not, List, [], ◌++◌, Option, Some, None, refl, sym, ap, subst, ◌∙◌, append-nil, option_or, nat_cmp, slice_cmp, Append, end_of, without, Stored, pairs_over, entries_within, has_clean, greatest_compaction}
+use Rattle.raft_engine_laws.proofs.Common.{least_cut, deleted_of, is_unjoined, rewritten_within, overlay, overlaid_table, kept_if, Step, table_of, after, Table, empty_table, get-pairs_over, same_some, get-without, within-nil, within-whole, Event, batches, IsReadingOfBoth}
+use Rattle.raft_engine_laws.proofs.Common.{steps_of, is_named, Tables, named-steps}
 use Rattle.std.specs.FinMap as finite
 use Rattle.std.specs.FinSet as finset
-use Rattle.raft_base.specs.declared.pipe_log.LogQueue.TheVariants.{Append}
-use Rattle.raft_base.specs.Runs.{end_of}
-use Rattle.raft_table.specs.KeySets.{without}
-use Rattle.raft_table.specs.KeyValues.{Stored, pairs_over}
-use Rattle.raft_table.specs.Marks.{entries_within}
-use Rattle.raft_table.specs.Overlay.{has_clean, greatest_compaction, least_cut, deleted_of, is_unjoined, rewritten_within, overlay, overlaid_table, kept_if}
-use Rattle.raft_table.specs.Steps.{Step, table_of, after}
-use Rattle.raft_table.specs.Table.{Table, empty_table}
-use Rattle.raft_table.proofs.KeyValueLaws.{get-pairs_over}
-use Rattle.raft_table.proofs.MarkEntries.{same_some}
-use Rattle.raft_table.proofs.MarkTables.{get-without}
-use Rattle.raft_table.proofs.MarkWords.{within-nil, within-whole}
-use Rattle.raft_history.specs.Batches.{Event, batches}
-use Rattle.raft_history.specs.BothQueues.{IsReadingOfBoth}
-use Rattle.raft_history.specs.Effects.{steps_of, is_named}
-use Rattle.raft_history.specs.RegionSteps.{Tables}
-use Rattle.raft_history.proofs.WithoutMarkers.{named-steps}
 use Rattle.raft_engine_laws.proofs.SameRecords.{HasRecordsOf}
 
 no_entries : (floor : ℕ) (cut : Option ℕ) → rewritten_within floor cut [] [] ++ [] ≡ []

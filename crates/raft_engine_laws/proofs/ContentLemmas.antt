@@ -1,16 +1,7 @@
 -- The bytes of entries, as they stand at the place of a written batch.
-use Rattle.std.proofs.Common.{◌≡◌, ℕ, ◌+◌, List, [], ◌∷◌, ◌++◌, length, take, drop, Option, inl, inr, refl, sym, ap, subst, ◌∙◌, append_assoc, length-append, arith}
-use Rattle.std.proofs.lemmas.List.{take_at, drop_at}
-use Rattle.std.specs.List.{concat}
+use Rattle.raft_engine_laws.proofs.Common.{◌≡◌, ℕ, ◌+◌, List, [], ◌∷◌, ◌++◌, length, take, drop, Option, inl, inr, refl, sym, ap, subst, ◌∙◌, append_assoc, length-append, arith, take_at, drop_at, concat, EntryIndex, with_lengths, IsEntryBlockOf, Item, checksum_bytes}
+use Rattle.raft_engine_laws.proofs.Common.{item_batch_bytes, with_offsets_from, header_bytes, entry_block, item_offset, encoded_length, log_batch_bytes, header_len, HaveBytes}
 use Rattle.raft_base.specs.declared.compression_type.CompressionType.TheVariants as compressions
-use Rattle.raft_base.specs.declared.entry_index.EntryIndex.{EntryIndex}
-use Rattle.raft_records.specs.Entries.{with_lengths}
-use Rattle.raft_records.specs.Header.{IsEntryBlockOf}
-use Rattle.raft_records.specs.Item.{Item}
-use Rattle.raft_records.specs.ItemBatch.{checksum_bytes, item_batch_bytes, with_offsets_from}
-use Rattle.raft_records.specs.LogBatch.{header_bytes, entry_block, item_offset, encoded_length, log_batch_bytes}
-use Rattle.raft_records.proofs.BufferLemmas.{header_len}
-use Rattle.raft_engine_laws.specs.Contents.{HaveBytes}
 
 -- behind the header of a batch that was written after other bytes stands its entry block, whatever came after
 pub block_stands : (signature : Option ℕ) (item : Item) (items : List Item) (es old rest : List ℕ) → (more : List ℕ) × (drop (length old + 16) (old ++ (log_batch_bytes signature (item ∷ items) es ++ rest)) ≡ entry_block es ++ more)

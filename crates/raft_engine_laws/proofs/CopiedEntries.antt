@@ -1,17 +1,7 @@
 -- Copies of entries take their places, and are read behind those that were rewritten before.
-use Rattle.std.proofs.Common.{◌≡◌, ℕ, suc, ◌+◌, Bool, true, false, cond, List, [], ◌∷◌, ◌++◌, length, take, drop, Option, Some, None, refl, sym, ap, subst, ◌∙◌, append-nil, append_assoc, length-append, arith}
-use Rattle.std.specs.Prelude.{◌&&◌, nat_lt}
-use Rattle.std.specs.List.{AllByRecursion, prefix_len}
-use Rattle.std.proofs.lemmas.Bool.Decides.{nat_tests}
-use Rattle.raft_base.specs.declared.entry_index.EntryIndex.{EntryIndex}
-use Rattle.raft_base.specs.declared.pipe_log.LogQueue.TheVariants.{Rewrite}
-use Rattle.raft_base.specs.Runs.{RisesFrom, IsRun, end_of}
-use Rattle.raft_table.specs.Marks.{misses}
-use Rattle.raft_table.specs.Rewriting.{overlap, moved_count, may_move, is_misplaced, with_places, rewritten_from, entries_after_rewrite}
-use Rattle.raft_table.specs.Start.{leaves_hole, entries_after_replay}
-use Rattle.raft_table.specs.TableEntries.{start_of, below, from, entry_count}
-use Rattle.raft_table.proofs.RunLemmas.{below_take, from_drop, below_start, from_start, rises, hole_end, end_of-run}
-use Rattle.raft_engine_laws.specs.Moving.{AreCopies}
+use Rattle.raft_engine_laws.proofs.Common.{◌≡◌, ℕ, suc, ◌+◌, Bool, true, false, cond, List, [], ◌∷◌, ◌++◌, length, take, drop, Option, Some, None, refl, sym, ap, subst, ◌∙◌, append-nil, append_assoc, length-append, arith, ◌&&◌, nat_lt, AllByRecursion, prefix_len, nat_tests}
+use Rattle.raft_engine_laws.proofs.Common.{EntryIndex, Rewrite, RisesFrom, IsRun, end_of, misses, overlap, moved_count, may_move, is_misplaced, with_places, rewritten_from, entries_after_rewrite, leaves_hole, entries_after_replay, start_of, below, from, entry_count, below_take}
+use Rattle.raft_engine_laws.proofs.Common.{from_drop, below_start, from_start, rises, hole_end, end_of-run, AreCopies}
 
 same : (n : ℕ) → (nat_lt 0 n && nat_lt n n) ≡ false
 same n = grind (arith, nat_tests)

@@ -1,21 +1,7 @@
 -- Copies of pairs: the kept ones move to the file, and are put into the rewritten ones.
-use Rattle.std.proofs.Common.{◌≡◌, ◌⊎◌, ℕ, Bool, true, false, cond, List, [], ◌∷◌, Option, Some, None, option_map, inl, inr, refl, sym, ap, subst, ◌∙◌, arith}
-use Rattle.std.specs.Prelude.{nat_lt}
-use Rattle.std.specs.List.{AllByRecursion}
-use Rattle.std.specs.Option.{option_and_then}
-use Rattle.std.specs.Ordering.{nat_cmp, is_eq}
-use Rattle.std.specs.declared.cmp.Ordering.{Ordering}
-use Rattle.std.specs.declared.cmp.Ordering.TheVariants.{Less, Equal, Greater}
-use Rattle.std.specs.Cmp.Lexicographic.{slice_cmp, nat_list_cmp_total}
+use Rattle.raft_engine_laws.proofs.Common.{◌≡◌, ◌⊎◌, ℕ, Bool, true, false, cond, List, [], ◌∷◌, Option, Some, None, option_map, inl, inr, refl, sym, ap, subst, ◌∙◌, arith, nat_lt, AllByRecursion, option_and_then, nat_cmp, is_eq, Ordering, Less, Equal, Greater, slice_cmp}
+use Rattle.raft_engine_laws.proofs.Common.{nat_list_cmp_total, nat_tests, FileId, LogQueue, Append, Rewrite, Keys, Stored, file_at, with_moved, moved_to, is_same_key, passes_gate, rewritten_in, rewritten_pair, IsPairMoved, IsFetched}
 use Rattle.std.specs.FinMap as finite
-use Rattle.std.proofs.lemmas.Bool.Decides.{nat_tests}
-use Rattle.raft_base.specs.declared.pipe_log.FileId.{FileId}
-use Rattle.raft_base.specs.declared.pipe_log.LogQueue.{LogQueue}
-use Rattle.raft_base.specs.declared.pipe_log.LogQueue.TheVariants.{Append, Rewrite}
-use Rattle.raft_table.specs.KeyValues.{Keys, Stored, file_at, with_moved, moved_to}
-use Rattle.raft_table.specs.LastWord.{is_same_key}
-use Rattle.raft_table.specs.Table.{passes_gate, rewritten_in, rewritten_pair}
-use Rattle.raft_engine_laws.specs.Moving.{IsPairMoved, IsFetched}
 
 -- pairs that are rewritten, one after another, in the kept ones, and as they are put into the rewritten ones
 abbrev pub moved_all : Option ℕ → ℕ → Keys → List (List ℕ × List ℕ) → Option Keys

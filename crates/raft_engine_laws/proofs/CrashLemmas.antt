@@ -1,12 +1,6 @@
 -- What may stand of a queue, and the batches in files from a number on.
-use Rattle.std.proofs.Common.{◌≡◌, ◌⊎◌, ℕ, ◌<◌, ◌≤◌, max, Bool, true, false, cond, List, [], ◌∷◌, ◌++◌, inl, inr, refl, sym, ap, subst, ◌∙◌, append-nil, append_assoc, arith}
-use Rattle.std.specs.Prelude.{filter, nat_le}
-use Rattle.std.proofs.lemmas.Bool.Decides.{nat_tests}
-use Rattle.raft_base.specs.declared.pipe_log.LogQueue.{LogQueue}
-use Rattle.raft_history.specs.Batches.{Event}
-use Rattle.raft_history.specs.Histories.{FilesFrom, last_from}
-use Rattle.raft_engine_laws.specs.DeletedFiles.{AreFilesBelow}
-use Rattle.raft_engine_laws.specs.Crashes.{Deed, Write, Sync, Delete, Crash, written, deleted, synced_deleted, IsSynced, MayStand, MayBeGone, in_files_from, IsLeft}
+use Rattle.raft_engine_laws.proofs.Common.{◌≡◌, ◌⊎◌, ℕ, ◌<◌, ◌≤◌, max, Bool, true, false, cond, List, [], ◌∷◌, ◌++◌, inl, inr, refl, sym, ap, subst, ◌∙◌, append-nil, append_assoc, arith, filter, nat_le, nat_tests, LogQueue, Event, FilesFrom, last_from, AreFilesBelow, Deed, Write}
+use Rattle.raft_engine_laws.proofs.Common.{Sync, Delete, Crash, written, deleted, synced_deleted, IsSynced, MayStand, MayBeGone, in_files_from, IsLeft}
 
 -- ---- numbers
 

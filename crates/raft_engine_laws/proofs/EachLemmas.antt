@@ -1,10 +1,5 @@
 -- Entries that steps speak of, one by one.
-use Rattle.std.proofs.Common.{◌≡◌, ℕ, suc, ◌<◌, ◌≤◌, max, Bool, true, false, cond, not, List, [], ◌∷◌, ◌++◌, length, refl, ap, arith}
-use Rattle.std.specs.List.{AllByRecursion}
-use Rattle.raft_base.specs.declared.entry_index.EntryIndex.{EntryIndex}
-use Rattle.raft_base.specs.Runs.{RisesFrom, end_of}
-use Rattle.raft_table.specs.Steps.{Step}
-use Rattle.raft_engine_laws.specs.Speaking.{is_index_spoken, unspoken}
+use Rattle.raft_engine_laws.proofs.Common.{◌≡◌, ℕ, suc, ◌<◌, ◌≤◌, max, Bool, true, false, cond, not, List, [], ◌∷◌, ◌++◌, length, refl, ap, arith, AllByRecursion, EntryIndex, RisesFrom, end_of, Step, is_index_spoken, unspoken}
 
 -- each entry's index is such a one
 abbrev pub Each : (ℕ → Type 0) → List EntryIndex → Type 0

@@ -1,25 +1,8 @@
 -- What batches put is in their files.
-use Rattle.std.proofs.Common.{◌≡◌, ℕ, ◌<◌, Bool, true, false, cond, List, [], ◌∷◌, Option, Some, None, refl, sym, subst}
-use Rattle.std.specs.List.{AllByRecursion}
-use Rattle.raft_base.specs.declared.entry_index.EntryIndex.{EntryIndex}
-use Rattle.raft_base.specs.declared.pipe_log.FileBlockHandle.{FileBlockHandle}
-use Rattle.raft_base.specs.declared.pipe_log.FileId.{FileId}
+use Rattle.raft_engine_laws.proofs.Common.{◌≡◌, ℕ, ◌<◌, Bool, true, false, cond, List, [], ◌∷◌, Option, Some, None, refl, sym, subst, AllByRecursion, EntryIndex, FileBlockHandle, FileId, OpType, IsPlaceInFile, is_reserved, Item, Content, entries, command, pair, place_seq, Step}
+use Rattle.raft_engine_laws.proofs.Common.{Run, Compact, Truncate, Put, Del, Clean, same_some, Event, BatchSteps, batches, steps_of, AreInFile, IsInFile, IsPairIn, RegionStep, steps_of_items, content_step, pair_step, each_step_of, AreInFiles, with_step, AreFilesBelow}
 use Rattle.raft_records.specs.declared.command.Command.TheVariants as commands
-use Rattle.raft_records.specs.declared.key_value.OpType.{OpType}
 use Rattle.raft_records.specs.declared.key_value.OpType.TheVariants as operations
-use Rattle.raft_records.specs.DecodedIn.{IsPlaceInFile}
-use Rattle.raft_records.specs.Group.{is_reserved}
-use Rattle.raft_records.specs.Item.{Item, Content, entries, command, pair}
-use Rattle.raft_table.specs.Fetches.{place_seq}
-use Rattle.raft_table.specs.Steps.{Step, Run, Compact, Truncate, Put, Del, Clean}
-use Rattle.raft_table.proofs.MarkEntries.{same_some}
-use Rattle.raft_history.specs.Batches.{Event, BatchSteps, batches}
-use Rattle.raft_history.specs.Effects.{steps_of}
-use Rattle.raft_history.specs.Histories.{AreInFile, IsInFile, IsPairIn}
-use Rattle.raft_history.specs.RegionSteps.{RegionStep, steps_of_items, content_step, pair_step}
-use Rattle.raft_history.proofs.EachStepLemmas.{each_step_of}
-use Rattle.raft_history.proofs.Words.{AreInFiles, with_step}
-use Rattle.raft_engine_laws.specs.DeletedFiles.{AreFilesBelow}
 use Rattle.raft_engine_laws.proofs.FileWords.{IsSeqBelow, AreBelow, IsStepBelow}
 
 places_below : (n : ℕ) (file : FileId) (es : List EntryIndex) → file.seq < n → AllByRecursion (λ (e : EntryIndex). IsPlaceInFile file e.entries) es → AreBelow n es

@@ -1,10 +1,5 @@
 -- Records in files below a number.
-use Rattle.std.proofs.Common.{ℕ, ◌<◌, List, Option, Some, None, arith}
-use Rattle.std.specs.List.{AllByRecursion}
-use Rattle.raft_base.specs.declared.entry_index.EntryIndex.{EntryIndex}
-use Rattle.raft_table.specs.Fetches.{place_seq}
-use Rattle.raft_table.specs.Steps.{Step, Run, Put}
-use Rattle.raft_engine_laws.specs.DeletedFiles.{IsSeqFrom}
+use Rattle.raft_engine_laws.proofs.Common.{ℕ, ◌<◌, List, Option, Some, None, arith, AllByRecursion, EntryIndex, place_seq, Step, Run, Put, IsSeqFrom}
 
 -- the file of a place, if there is one, has a number below this one
 abbrev pub IsSeqBelow : ℕ → Option ℕ → Type 0

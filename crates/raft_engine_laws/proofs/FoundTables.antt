@@ -1,18 +1,6 @@
 -- What a recovery of both queues finds: the records of the kept tables.
-use Rattle.std.proofs.Common.{◌≡◌, ℕ, List, Option, sym, subst, ◌∙◌}
+use Rattle.raft_engine_laws.proofs.Common.{◌≡◌, ℕ, List, Option, sym, subst, ◌∙◌, EntryIndex, overlay, Step, table_of, Table, same_some, Event, batches, IsReadingOfBoth, steps_of, RegionStep, Tables, steps_on, IsMovedPair, AreKept, AreMoved, AreFound}
 use Rattle.std.specs.FinMap as finite
-use Rattle.raft_base.specs.declared.entry_index.EntryIndex.{EntryIndex}
-use Rattle.raft_table.specs.Overlay.{overlay}
-use Rattle.raft_table.specs.Steps.{Step, table_of}
-use Rattle.raft_table.specs.Table.{Table}
-use Rattle.raft_table.proofs.MarkEntries.{same_some}
-use Rattle.raft_history.specs.Batches.{Event, batches}
-use Rattle.raft_history.specs.BothQueues.{IsReadingOfBoth}
-use Rattle.raft_history.specs.Effects.{steps_of}
-use Rattle.raft_history.specs.RegionSteps.{RegionStep, Tables, steps_on}
-use Rattle.raft_contexts.specs.MovedPlaces.{IsMovedPair}
-use Rattle.raft_engine_laws.specs.KeptTables.{AreKept}
-use Rattle.raft_engine_laws.specs.MovedRecords.{AreMoved, AreFound}
 use Rattle.raft_engine_laws.proofs.BothTables.{both_records}
 use Rattle.raft_engine_laws.proofs.OverlaidPairs.{overlaid_pairs}
 use Rattle.raft_engine_laws.proofs.RecoveredRegion.{recovered_entries}

@@ -1,9 +1,5 @@
 -- Where each group is in one file, the files that stay end no group of those that go.
-use Rattle.std.proofs.Common.{◌≡◌, ℕ, Bool, true, false, cond, List, [], ◌∷◌, ◌++◌, refl, sym, ap, subst, ◌∙◌}
-use Rattle.std.specs.Prelude.{filter, nat_le}
-use Rattle.raft_history.specs.Batches.{Event}
-use Rattle.raft_engine_laws.specs.Groups.{EndNoOlderGroup}
-use Rattle.raft_engine_laws.specs.Crashes.{in_files_from, AreInFileOf, FilesEndNoOlderGroup}
+use Rattle.raft_engine_laws.proofs.Common.{◌≡◌, ℕ, Bool, true, false, cond, List, [], ◌∷◌, ◌++◌, refl, sym, ap, subst, ◌∙◌, filter, nat_le, Event, EndNoOlderGroup, in_files_from, AreInFileOf, FilesEndNoOlderGroup}
 use Rattle.raft_engine_laws.proofs.GroupFronts.{ends_none-none, ends_none-append}
 use Rattle.raft_engine_laws.proofs.CrashLemmas.{keeps, from-append, from_none}
 

@@ -1,20 +1,9 @@
 -- Batches that end no group which began before them.
-use Rattle.std.proofs.Common.{◌≡◌, ◌≢◌, ℕ, Bool, true, false, cond, eqb, List, [], ◌∷◌, ◌++◌, Option, Some, None, refl, sym, ap, subst, ◌∙◌}
-use Rattle.std.specs.List.{AllByRecursion, cons_option}
+use Rattle.raft_engine_laws.proofs.Common.{◌≡◌, ◌≢◌, ℕ, Bool, true, false, cond, eqb, List, [], ◌∷◌, ◌++◌, Option, Some, None, refl, sym, ap, subst, ◌∙◌, AllByRecursion, cons_option, eq-eqb, eqb-true, AtomicGroupStatus, Begin, Middle, End, Event, GroupMarker, BatchSteps}
+use Rattle.raft_engine_laws.proofs.Common.{batch_of, batches, is_of, markers_of, numbered_from, RegionStep, GroupFront, Open, Ended, Begun, OpenStretch, WaitingGroup, WholeGroup, led_by, front_by, front_behind, front_of, group_in, joined_group, joined_group_by, whole_group}
+use Rattle.raft_engine_laws.proofs.Common.{whole_group_by, WaitingGroups, groups_in, known_of, whole_with, whole_groups, each_weaker, group_in-append, each_known, has_marker, batches-append, HasNoMarker, IsBeforeEnd, LeavesOpen, IsMarked, IsWholeGroup, IsNotEnded}
+use Rattle.raft_engine_laws.proofs.Common.{EndNoOlderGroup}
 use Rattle.std.specs.FinMap as finite
-use Rattle.std.proofs.lemmas.Bool.{eq-eqb, eqb-true}
-use Rattle.raft_records.specs.declared.atomic_group.AtomicGroupStatus.{AtomicGroupStatus}
-use Rattle.raft_records.specs.declared.atomic_group.AtomicGroupStatus.TheVariants.{Begin, Middle, End}
-use Rattle.raft_history.specs.Batches.{Event, GroupMarker, BatchSteps, batch_of, batches}
-use Rattle.raft_history.specs.Effects.{is_of, markers_of, numbered_from}
-use Rattle.raft_history.specs.RegionSteps.{RegionStep}
-use Rattle.raft_history.specs.WaitingGroup.{GroupFront, Open, Ended, Begun, OpenStretch, WaitingGroup, WholeGroup, led_by, front_by, front_behind, front_of, group_in, joined_group, joined_group_by, whole_group, whole_group_by}
-use Rattle.raft_history.specs.WaitingGroups.{WaitingGroups, groups_in, known_of, whole_with, whole_groups}
-use Rattle.raft_history.proofs.EffectLemmas.{each_weaker}
-use Rattle.raft_history.proofs.JoinedLemmas.{group_in-append}
-use Rattle.raft_history.proofs.KnownLemmas.{each_known, has_marker}
-use Rattle.raft_history.proofs.SoundLemmas.{batches-append}
-use Rattle.raft_engine_laws.specs.Groups.{HasNoMarker, IsBeforeEnd, LeavesOpen, IsMarked, IsWholeGroup, IsNotEnded, EndNoOlderGroup}
 
 -- no group becomes whole where the later batches end none
 

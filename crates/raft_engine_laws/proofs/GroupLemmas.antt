@@ -1,16 +1,6 @@
 -- Atomic groups in the rewrite queue: a batch that begins or goes on with a group adds no step, and steps split at a boundary that stands in no whole group.
-use Rattle.std.proofs.Common.{◌≡◌, ◌≢◌, ℕ, List, [], ◌∷◌, ◌++◌, Option, Some, None, refl, ap, ◌∙◌}
-use Rattle.std.proofs.lemmas.List.{append-nil}
-use Rattle.raft_records.specs.declared.atomic_group.AtomicGroupStatus.{AtomicGroupStatus}
-use Rattle.raft_records.specs.declared.atomic_group.AtomicGroupStatus.TheVariants.{Begin, Middle, End}
-use Rattle.raft_history.specs.Batches.{GroupMarker, BatchSteps}
-use Rattle.raft_history.specs.Effects.{effects, steps_of, EachApart}
-use Rattle.raft_history.specs.RegionSteps.{RegionStep}
-use Rattle.raft_history.specs.WaitingGroup.{GroupFront, Open, Ended, Begun, OpenStretch, whole_group, whole_group_by, one_marker}
-use Rattle.raft_history.specs.WaitingGroups.{groups_in, known_of, whole_groups, steps_or, steps_by_batch, steps_of_wholes}
-use Rattle.raft_history.proofs.KnownLemmas.{steps_across}
-use Rattle.raft_history.proofs.MoreLemmas.{steps-one}
-use Rattle.raft_engine_laws.specs.Groups.{IsBeforeEnd}
+use Rattle.raft_engine_laws.proofs.Common.{◌≡◌, ◌≢◌, ℕ, List, [], ◌∷◌, ◌++◌, Option, Some, None, refl, ap, ◌∙◌, append-nil, AtomicGroupStatus, Begin, Middle, End, GroupMarker, BatchSteps, effects, steps_of, EachApart, RegionStep, GroupFront, Open, Ended, Begun, OpenStretch}
+use Rattle.raft_engine_laws.proofs.Common.{whole_group, whole_group_by, one_marker, groups_in, known_of, whole_groups, steps_or, steps_by_batch, steps_of_wholes, steps_across, steps-one, IsBeforeEnd}
 
 begun_none : (r : ℕ) (front : GroupFront) (s : Option OpenStretch) → steps_or r (whole_group_by front s Begun) ≡ []
 begun_none r (Open is) s = refl

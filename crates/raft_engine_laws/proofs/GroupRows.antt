@@ -1,16 +1,6 @@
 -- A group of events in a row.
-use Rattle.std.proofs.Common.{◌≡◌, ℕ, suc, List, [], ◌∷◌, ◌++◌, length, map, Option, refl, sym, ap, subst, ◌∙◌, append-nil, append_assoc}
-use Rattle.std.specs.Prelude.{flat_map}
-use Rattle.std.specs.List.{AllByRecursion}
-use Rattle.std.proofs.lemmas.Grind.{flat_map-append}
-use Rattle.raft_records.specs.declared.atomic_group.AtomicGroupStatus.{AtomicGroupStatus}
-use Rattle.raft_records.specs.declared.atomic_group.AtomicGroupStatus.TheVariants.{Begin, Middle, End}
-use Rattle.raft_history.specs.Batches.{Event, GroupMarker, BatchSteps, batch_of, batches, batch_with_marker}
-use Rattle.raft_history.specs.Effects.{Numbered, numbered_from, effects, steps_of, whole_steps, EachApart}
-use Rattle.raft_history.specs.Histories.{Apart}
-use Rattle.raft_history.specs.RegionSteps.{RegionStep, steps_of_items}
-use Rattle.raft_history.proofs.SoundLemmas.{batches-append}
-use Rattle.raft_engine_laws.specs.Groups.{HasNoMarker, LeavesOpen, IsMarked, IsWholeGroup}
+use Rattle.raft_engine_laws.proofs.Common.{◌≡◌, ℕ, suc, List, [], ◌∷◌, ◌++◌, length, map, Option, refl, sym, ap, subst, ◌∙◌, append-nil, append_assoc, flat_map, AllByRecursion, flat_map-append, AtomicGroupStatus, Begin, Middle, End, Event, GroupMarker, BatchSteps, batch_of}
+use Rattle.raft_engine_laws.proofs.Common.{batches, batch_with_marker, Numbered, numbered_from, effects, steps_of, whole_steps, EachApart, Apart, RegionStep, steps_of_items, batches-append, HasNoMarker, LeavesOpen, IsMarked, IsWholeGroup}
 use Rattle.raft_engine_laws.proofs.ApartLemmas.{apart_plain, apart_held}
 use Rattle.raft_engine_laws.proofs.GroupLemmas.{held_adds}
 use Rattle.raft_engine_laws.proofs.RowLemmas.{middles, row_apart, row_steps}

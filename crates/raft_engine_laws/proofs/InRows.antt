@@ -1,18 +1,7 @@
 -- Batches of which each group stands in a row: their effects are apart, and wherever deleted files end no group is cut.
-use Rattle.std.proofs.Common.{◌≡◌, ◌⊎◌, inl, inr, ℕ, Bool, true, false, cond, List, [], ◌∷◌, ◌++◌, Option, Some, None, refl, sym, ap, subst, ◌∙◌, append-nil, append_assoc}
-use Rattle.std.specs.Prelude.{filter, nat_le}
-use Rattle.std.specs.List.{AllByRecursion}
-use Rattle.std.proofs.lemmas.Bool.{false≢true}
-use Rattle.std.proofs.lemmas.Option.{none-some}
-use Rattle.raft_records.specs.declared.atomic_group.AtomicGroupStatus.{AtomicGroupStatus}
-use Rattle.raft_records.specs.declared.atomic_group.AtomicGroupStatus.TheVariants.{Begin, Middle, End}
-use Rattle.raft_history.specs.Batches.{Event, GroupMarker, batch_of}
-use Rattle.raft_history.specs.Effects.{effects_behind}
-use Rattle.raft_history.specs.Histories.{Apart}
-use Rattle.raft_accessor.proofs.MapLemmas.{some_is}
-use Rattle.raft_engine_laws.specs.Groups.{HasNoMarker, LeavesOpen, IsBeforeEnd, IsMarked, IsWholeGroup}
-use Rattle.raft_engine_laws.specs.GroupsInRows.{open_as, open_behind, open_by, left_open, MayStandAs, MayStandBy, StandBehind, AreGroupsInRows}
-use Rattle.raft_engine_laws.specs.Crashes.{Deed, written, in_files_from, AreInFileOf, FilesEndNoOlderGroup, IsLeft}
+use Rattle.raft_engine_laws.proofs.Common.{◌≡◌, ◌⊎◌, inl, inr, ℕ, Bool, true, false, cond, List, [], ◌∷◌, ◌++◌, Option, Some, None, refl, sym, ap, subst, ◌∙◌, append-nil, append_assoc, filter, nat_le, AllByRecursion, false≢true, none-some, AtomicGroupStatus, Begin, Middle, End}
+use Rattle.raft_engine_laws.proofs.Common.{Event, GroupMarker, batch_of, effects_behind, Apart, some_is, HasNoMarker, LeavesOpen, IsBeforeEnd, IsMarked, IsWholeGroup, open_as, open_behind, open_by, left_open, MayStandAs, MayStandBy, StandBehind, AreGroupsInRows, Deed, written}
+use Rattle.raft_engine_laws.proofs.Common.{in_files_from, AreInFileOf, FilesEndNoOlderGroup, IsLeft}
 use Rattle.raft_engine_laws.proofs.GroupFiles.{no_files_end, more_files_end}
 use Rattle.raft_engine_laws.proofs.GroupFronts.{ends_none-alone, ends_none-group, ends_none-open}
 use Rattle.raft_engine_laws.proofs.GroupRows.{alone_apart, open_apart, group_apart}

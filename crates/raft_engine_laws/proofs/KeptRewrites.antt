@@ -1,27 +1,8 @@
 -- A batch more in the rewrite queue: it is held, it moves records, or it tells.
-use Rattle.std.proofs.Common.{◌≡◌, ℕ, List, [], ◌∷◌, ◌++◌, Option, Some, None, sym, ap, subst, ◌∙◌, append-nil}
-use Rattle.std.specs.Option.{option_and_then}
+use Rattle.raft_engine_laws.proofs.Common.{◌≡◌, ℕ, List, [], ◌∷◌, ◌++◌, Option, Some, None, sym, ap, subst, ◌∙◌, append-nil, option_and_then, EntryIndex, LogQueue, Rewrite, table_of, after, Table, same_some, after-append, Event, batch_of, batches, steps_of, HaveStatus}
+use Rattle.raft_engine_laws.proofs.Common.{IsOneReading, RegionStep, Tables, steps_on, steps_of_items, tables_after, reading_by_region, batches-append, files-append, in_files-append, status-append, own_none, HasNoMarker, LeavesOpen, IsRegionKept, AreKept, AreRecordsMoved}
+use Rattle.raft_engine_laws.proofs.Common.{IsRewrittenNext, AreRemovals, SayTheSame}
 use Rattle.std.specs.FinMap as finite
-use Rattle.raft_base.specs.declared.entry_index.EntryIndex.{EntryIndex}
-use Rattle.raft_base.specs.declared.pipe_log.LogQueue.{LogQueue}
-use Rattle.raft_base.specs.declared.pipe_log.LogQueue.TheVariants.{Rewrite}
-use Rattle.raft_table.specs.Steps.{table_of, after}
-use Rattle.raft_table.specs.Table.{Table}
-use Rattle.raft_table.proofs.MarkEntries.{same_some}
-use Rattle.raft_table.proofs.MarkLaws.{after-append}
-use Rattle.raft_history.specs.Batches.{Event, batch_of, batches}
-use Rattle.raft_history.specs.Effects.{steps_of}
-use Rattle.raft_history.specs.Histories.{HaveStatus, IsOneReading}
-use Rattle.raft_history.specs.RegionSteps.{RegionStep, Tables, steps_on, steps_of_items, tables_after}
-use Rattle.raft_history.proofs.ReadingLemmas.{reading_by_region}
-use Rattle.raft_history.proofs.SoundLemmas.{batches-append, files-append, in_files-append, status-append}
-use Rattle.raft_history.proofs.StepListLemmas.{own_none}
-use Rattle.raft_engine_laws.specs.Groups.{HasNoMarker, LeavesOpen}
-use Rattle.raft_engine_laws.specs.KeptRegions.{IsRegionKept}
-use Rattle.raft_engine_laws.specs.KeptTables.{AreKept}
-use Rattle.raft_engine_laws.specs.Moving.{AreRecordsMoved}
-use Rattle.raft_engine_laws.specs.NextBatches.{IsRewrittenNext}
-use Rattle.raft_engine_laws.specs.Telling.{AreRemovals, SayTheSame}
 use Rattle.raft_engine_laws.proofs.GroupLemmas.{held_adds}
 use Rattle.raft_engine_laws.proofs.RewriteReadings.{steps_taken, plain_more, reading_of}
 use Rattle.raft_engine_laws.proofs.RewrittenRegion.{rewrite_kept}

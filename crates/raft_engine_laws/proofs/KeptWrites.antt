@@ -1,26 +1,7 @@
 -- A batch more in the append queue.
-use Rattle.std.proofs.Common.{◌≡◌, ℕ, Bool, true, false, cond, List, [], ◌∷◌, ◌++◌, map, sym, ap, subst, ◌∙◌, append-nil, arith}
-use Rattle.std.specs.Prelude.{filter}
-use Rattle.std.specs.List.{AllByRecursion}
+use Rattle.raft_engine_laws.proofs.Common.{◌≡◌, ℕ, Bool, true, false, cond, List, [], ◌∷◌, ◌++◌, map, sym, ap, subst, ◌∙◌, append-nil, arith, filter, AllByRecursion, EntryIndex, LogQueue, Append, Step, AreSteps, table_of, IsStepOfQueue, Event, batches, steps_of, HaveStatus}
+use Rattle.raft_engine_laws.proofs.Common.{FilesFrom, RegionStep, Tables, steps_on, steps_of_items, items_in_queue, files-append, in_files-append, status-append, steps_good, without_marker, own-append, plain-append, plain_steps, is_on, IsRegionKept, AreKept, IsWrittenNext}
 use Rattle.std.specs.FinMap as finite
-use Rattle.raft_base.specs.declared.entry_index.EntryIndex.{EntryIndex}
-use Rattle.raft_base.specs.declared.pipe_log.LogQueue.{LogQueue}
-use Rattle.raft_base.specs.declared.pipe_log.LogQueue.TheVariants.{Append}
-use Rattle.raft_table.specs.Steps.{Step, AreSteps, table_of}
-use Rattle.raft_table.specs.TakenSteps.{IsStepOfQueue}
-use Rattle.raft_history.specs.Batches.{Event, batches}
-use Rattle.raft_history.specs.Effects.{steps_of}
-use Rattle.raft_history.specs.Histories.{HaveStatus, FilesFrom}
-use Rattle.raft_history.specs.RegionSteps.{RegionStep, Tables, steps_on, steps_of_items}
-use Rattle.raft_history.proofs.QueueLemmas.{items_in_queue}
-use Rattle.raft_history.proofs.SoundLemmas.{files-append, in_files-append, status-append, steps_good, without_marker}
-use Rattle.raft_history.proofs.StepListLemmas.{own-append}
-use Rattle.raft_history.proofs.StretchOfHistory.{plain-append}
-use Rattle.raft_history.proofs.WithoutMarkers.{plain_steps}
-use Rattle.raft_history.proofs.Words.{is_on}
-use Rattle.raft_engine_laws.specs.KeptRegions.{IsRegionKept}
-use Rattle.raft_engine_laws.specs.KeptTables.{AreKept}
-use Rattle.raft_engine_laws.specs.NextBatches.{IsWrittenNext}
 use Rattle.raft_engine_laws.proofs.WrittenTables.{items_by_region, writes_kept}
 
 -- the steps on a region among such as are all so

@@ -1,13 +1,6 @@
 -- The last word on a key, and which steps take it away.
-use Rattle.std.proofs.Common.{◌≡◌, ℕ, Bool, true, false, cond, ◌||◌, List, [], ◌∷◌, ◌++◌, Option, Some, None, refl, sym, ap, subst, ◌∙◌}
-use Rattle.std.specs.List.{AllByRecursion, list_any}
-use Rattle.std.specs.Option.{option_or, option_and_then}
-use Rattle.std.proofs.lemmas.Bool.{false≢true}
-use Rattle.raft_table.specs.KeyValues.{Stored}
-use Rattle.raft_table.specs.LastWord.{is_same_key, speaks_of_key, said_of_key, last_that, last_pair}
-use Rattle.raft_table.specs.Overlay.{has_clean}
-use Rattle.raft_table.specs.Steps.{Step, Run, Compact, Truncate, Put, Del, AtomicGroup, Clean}
-use Rattle.raft_engine_laws.specs.Speaking.{is_key_spoken, is_key_dropped, drops_key}
+use Rattle.raft_engine_laws.proofs.Common.{◌≡◌, ℕ, Bool, true, false, cond, ◌||◌, List, [], ◌∷◌, ◌++◌, Option, Some, None, refl, sym, ap, subst, ◌∙◌, AllByRecursion, list_any, option_or, option_and_then, false≢true, Stored, is_same_key, speaks_of_key, said_of_key, last_that}
+use Rattle.raft_engine_laws.proofs.Common.{last_pair, has_clean, Step, Run, Compact, Truncate, Put, Del, AtomicGroup, Clean, is_key_spoken, is_key_dropped, drops_key}
 use Rattle.raft_engine_laws.proofs.TestLemmas.{or_first, or_later, any_weaker}
 
 -- ---- the last step that passes a test

@@ -1,20 +1,7 @@
 -- The least file of a table is at or below those of its first entry and of its pairs.
-use Rattle.std.proofs.Common.{◌≡◌, ℕ, ◌≤◌, Bool, true, false, cond, List, [], ◌∷◌, Option, Some, None, refl, sym, ap, subst, ◌∙◌, arith}
+use Rattle.raft_engine_laws.proofs.Common.{◌≡◌, ℕ, ◌≤◌, Bool, true, false, cond, List, [], ◌∷◌, Option, Some, None, refl, sym, ap, subst, ◌∙◌, arith, filter, map, min, nat_le, nat_cmp, eq_by_cmp, slice_cmp, find, LogQueue, Append, Rewrite, first_entry_seq, is_same, placed_in}
+use Rattle.raft_engine_laws.proofs.Common.{Stored, lesser, least, seqs_in, least_seq, least_of, at_most_group_seq, Table, some_is, AreFrom, NeedsNoneBelow}
 use Rattle.std.specs.FinMap as finite
-use Rattle.std.specs.Prelude.{filter, map, min, nat_le}
-use Rattle.std.specs.Ordering.{nat_cmp, eq_by_cmp}
-use Rattle.std.specs.Cmp.Lexicographic.{slice_cmp}
-use Rattle.std.specs.FinMap.Entries.{find}
-use Rattle.raft_base.specs.declared.pipe_log.LogQueue.{LogQueue}
-use Rattle.raft_base.specs.declared.pipe_log.LogQueue.TheVariants.{Append, Rewrite}
-use Rattle.raft_table.specs.Fetches.{first_entry_seq}
-use Rattle.raft_table.specs.Queues.{is_same}
-use Rattle.raft_table.specs.TableEntries.{placed_in}
-use Rattle.raft_table.specs.KeyValues.{Stored, lesser, least, seqs_in}
-use Rattle.raft_table.specs.Least.{least_seq, least_of, at_most_group_seq}
-use Rattle.raft_table.specs.Table.{Table}
-use Rattle.raft_accessor.proofs.MapLemmas.{some_is}
-use Rattle.raft_engine_laws.specs.DeletedFiles.{AreFrom, NeedsNoneBelow}
 
 -- a least number, if there is one, is at or below this one
 IsLeastAt : Option ℕ → ℕ → Type 0

@@ -1,3 +1,4 @@
+mod Common
 pub mod AgainItems
 pub mod AgainSteps
 pub mod AlikeContents

@@ -1,22 +1,6 @@
 -- Entries that steps put in files below a number.
-use Rattle.std.proofs.Common.{◌≡◌, ℕ, ◌<◌, Bool, true, false, cond, List, [], ◌∷◌, ◌++◌, Option, Some, None, inl, inr, refl, sym, ap, subst, ◌∙◌, append-nil}
-use Rattle.std.specs.List.{AllByRecursion}
-use Rattle.std.specs.Option.{option_and_then}
-use Rattle.std.proofs.lemmas.Bool.{false≢true}
-use Rattle.raft_base.specs.declared.entry_index.EntryIndex.{EntryIndex}
-use Rattle.raft_base.specs.declared.pipe_log.LogQueue.TheVariants.{Append, Rewrite}
-use Rattle.raft_table.specs.Fetches.{place_seq}
-use Rattle.raft_table.specs.KeyValues.{Stored}
-use Rattle.raft_table.specs.LastWord.{said_of_key, last_pair}
-use Rattle.raft_table.specs.Steps.{Step, Run, Compact, Truncate, Put, Del, AtomicGroup, Clean, AreSteps, table_of, after_step, after}
-use Rattle.raft_table.specs.Table.{Table}
-use Rattle.raft_table.specs.TableEntries.{placed_in, is_placed_in}
-use Rattle.raft_table.proofs.MarkEntries.{same_some}
-use Rattle.raft_table.proofs.PlaceLemmas.{placed_apart}
-use Rattle.raft_history.proofs.EffectLemmas.{each-append}
-use Rattle.raft_engine_laws.specs.DeletedFiles.{AreFrom}
-use Rattle.raft_engine_laws.specs.MovedRecords.{AreMoved}
-use Rattle.raft_engine_laws.specs.Speaking.{unspoken}
+use Rattle.raft_engine_laws.proofs.Common.{◌≡◌, ℕ, ◌<◌, Bool, true, false, cond, List, [], ◌∷◌, ◌++◌, Option, Some, None, inl, inr, refl, sym, ap, subst, ◌∙◌, append-nil, AllByRecursion, option_and_then, false≢true, EntryIndex, Append, Rewrite, place_seq, Stored, said_of_key}
+use Rattle.raft_engine_laws.proofs.Common.{last_pair, Step, Run, Compact, Truncate, Put, Del, AtomicGroup, Clean, AreSteps, table_of, after_step, after, Table, placed_in, is_placed_in, same_some, placed_apart, each-append, AreFrom, AreMoved, unspoken}
 use Rattle.raft_engine_laws.proofs.EachLemmas.{Each}
 use Rattle.raft_engine_laws.proofs.FileWords.{IsSeqBelow, AreBelow, IsStepBelow, seq_clash}
 use Rattle.raft_engine_laws.proofs.KeyLemmas.{pair_such}

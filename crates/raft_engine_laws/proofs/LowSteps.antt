@@ -1,17 +1,6 @@
 -- What steps leave of entries in files below a number, and what they put there, is there.
-use Rattle.std.proofs.Common.{◌≡◌, ℕ, Bool, true, false, cond, List, [], ◌∷◌, ◌++◌, Option, Some, None, refl, subst}
-use Rattle.std.specs.Prelude.{nat_lt, nat_le}
-use Rattle.std.specs.List.{AllByRecursion}
-use Rattle.std.specs.Option.{option_and_then}
-use Rattle.raft_base.specs.declared.entry_index.EntryIndex.{EntryIndex}
-use Rattle.raft_base.specs.declared.pipe_log.LogQueue.TheVariants.{Rewrite}
-use Rattle.raft_table.specs.Fetches.{place_seq}
-use Rattle.raft_table.specs.Start.{leaves_hole}
-use Rattle.raft_table.specs.Steps.{Step, Run, Compact, Truncate, Put, Del, AtomicGroup, Clean, table_of, after_step, after}
-use Rattle.raft_table.specs.Table.{Table}
-use Rattle.raft_table.specs.TableEntries.{below, from}
-use Rattle.raft_table.proofs.MarkEntries.{same_some}
-use Rattle.raft_history.proofs.EffectLemmas.{each-append, each_filter}
+use Rattle.raft_engine_laws.proofs.Common.{◌≡◌, ℕ, Bool, true, false, cond, List, [], ◌∷◌, ◌++◌, Option, Some, None, refl, subst, nat_lt, nat_le, AllByRecursion, option_and_then, EntryIndex, Rewrite, place_seq, leaves_hole, Step, Run, Compact, Truncate, Put, Del, AtomicGroup}
+use Rattle.raft_engine_laws.proofs.Common.{Clean, table_of, after_step, after, Table, below, from, same_some, each-append, each_filter}
 use Rattle.raft_engine_laws.proofs.FileWords.{IsSeqBelow, AreBelow, IsStepBelow}
 
 pub below_low : (n i : ℕ) (es : List EntryIndex) → AreBelow n es → AreBelow n (below i es)

@@ -1,18 +1,7 @@
 -- What the bounds and the deleted keys of a region mark say is what the region's steps say.
-use Rattle.std.proofs.Common.{◌≡◌, ℕ, Bool, true, false, cond, not, ◌||◌, List, [], ◌∷◌, Option, Some, None, refl, sym, ap, ◌∙◌, arith}
-use Rattle.std.specs.Prelude.{filter, max, ◌&&◌, nat_le}
-use Rattle.std.specs.Ordering.{nat_cmp}
-use Rattle.std.specs.Cmp.Lexicographic.{slice_cmp, nat_list_cmp_total}
+use Rattle.raft_engine_laws.proofs.Common.{◌≡◌, ℕ, Bool, true, false, cond, not, ◌||◌, List, [], ◌∷◌, Option, Some, None, refl, sym, ap, ◌∙◌, arith, filter, max, ◌&&◌, nat_le, nat_cmp, slice_cmp, nat_list_cmp_total, false≢true, KeySet, is_same_key, Mark, is_under, has_clean}
+use Rattle.raft_engine_laws.proofs.Common.{greatest_compaction, least_cut, deleted_of, IsExactMark, Step, Run, Compact, Truncate, Put, Del, AtomicGroup, Clean, empty_union, cut_told, bounds_told, is_index_spoken, is_key_dropped}
 use Rattle.std.specs.FinSet as finset
-use Rattle.std.proofs.lemmas.Bool.{false≢true}
-use Rattle.raft_table.specs.KeySets.{KeySet}
-use Rattle.raft_table.specs.LastWord.{is_same_key}
-use Rattle.raft_table.specs.Marks.{Mark, is_under}
-use Rattle.raft_table.specs.Overlay.{has_clean, greatest_compaction, least_cut, deleted_of, IsExactMark}
-use Rattle.raft_table.specs.Steps.{Step, Run, Compact, Truncate, Put, Del, AtomicGroup, Clean}
-use Rattle.raft_table.proofs.MarkExact.{empty_union}
-use Rattle.raft_contexts.specs.TakenAway.{cut_told, bounds_told}
-use Rattle.raft_engine_laws.specs.Speaking.{is_index_spoken, is_key_dropped}
 use Rattle.raft_engine_laws.proofs.SpokenWords.{spoken_words, spoken_clean}
 use Rattle.raft_engine_laws.proofs.TestLemmas.{or_later, or_none}
 

@@ -1,12 +1,5 @@
 -- Kept entries beside those that are read.
-use Rattle.std.proofs.Common.{◌≡◌, ℕ, suc, max, Bool, true, false, cond, not, List, [], ◌∷◌, ◌++◌, inl, refl, sym, ap, subst, ◌∙◌}
-use Rattle.std.specs.Prelude.{nat_lt}
-use Rattle.raft_base.specs.declared.entry_index.EntryIndex.{EntryIndex}
-use Rattle.raft_base.specs.Runs.{RisesFrom, IsRun, end_of}
-use Rattle.raft_table.specs.Start.{leaves_hole}
-use Rattle.raft_table.specs.Steps.{Step}
-use Rattle.raft_engine_laws.specs.MovedRecords.{AreMoved}
-use Rattle.raft_engine_laws.specs.Speaking.{is_index_spoken, unspoken}
+use Rattle.raft_engine_laws.proofs.Common.{◌≡◌, ℕ, suc, max, Bool, true, false, cond, not, List, [], ◌∷◌, ◌++◌, inl, refl, sym, ap, subst, ◌∙◌, nat_lt, EntryIndex, RisesFrom, IsRun, end_of, leaves_hole, Step, AreMoved, is_index_spoken, unspoken}
 use Rattle.raft_engine_laws.proofs.EachLemmas.{Each}
 
 module _ (content : EntryIndex → List ℕ) where

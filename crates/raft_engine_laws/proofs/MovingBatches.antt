@@ -1,28 +1,8 @@
 -- A batch that moves records of one region past a gate.
-use Rattle.std.proofs.Common.{◌≡◌, ℕ, true, List, [], ◌∷◌, ◌++◌, Option, Some, None, inl, inr, refl, sym, ap, subst, ◌∙◌}
-use Rattle.std.specs.List.{AllByRecursion}
+use Rattle.raft_engine_laws.proofs.Common.{◌≡◌, ℕ, true, List, [], ◌∷◌, ◌++◌, Option, Some, None, inl, inr, refl, sym, ap, subst, ◌∙◌, AllByRecursion, EntryIndex, FileId, LogQueue, Append, Rewrite, Item, may_move, Step, table_of, after, Table, placed_in, AreTableEntries}
+use Rattle.raft_engine_laws.proofs.Common.{same_some, Event, Tables, content_step, steps_on, steps_of_items, IsOther, by_region, own_none, own_other, with_step, Rewriting, after_items, HasNoMarker, AreKept, AreCopies, AreRecordsMoved, put_items, moving_items, IsMovingBatch}
+use Rattle.raft_engine_laws.proofs.Common.{IsRewrittenNext, unspoken}
 use Rattle.std.specs.FinMap as finite
-use Rattle.raft_base.specs.declared.entry_index.EntryIndex.{EntryIndex}
-use Rattle.raft_base.specs.declared.pipe_log.FileId.{FileId}
-use Rattle.raft_base.specs.declared.pipe_log.LogQueue.{LogQueue}
-use Rattle.raft_base.specs.declared.pipe_log.LogQueue.TheVariants.{Append, Rewrite}
-use Rattle.raft_records.specs.Item.{Item}
-use Rattle.raft_table.specs.Rewriting.{may_move}
-use Rattle.raft_table.specs.Steps.{Step, table_of, after}
-use Rattle.raft_table.specs.Table.{Table}
-use Rattle.raft_table.specs.TableEntries.{placed_in, AreTableEntries}
-use Rattle.raft_table.proofs.MarkEntries.{same_some}
-use Rattle.raft_history.specs.Batches.{Event}
-use Rattle.raft_history.specs.RegionSteps.{Tables, content_step, steps_on, steps_of_items}
-use Rattle.raft_history.proofs.MapLemmas.{IsOther, by_region}
-use Rattle.raft_history.proofs.StepListLemmas.{own_none, own_other}
-use Rattle.raft_history.proofs.Words.{with_step}
-use Rattle.raft_accessor.specs.Writes.{Rewriting, after_items}
-use Rattle.raft_engine_laws.specs.Groups.{HasNoMarker}
-use Rattle.raft_engine_laws.specs.KeptTables.{AreKept}
-use Rattle.raft_engine_laws.specs.Moving.{AreCopies, AreRecordsMoved, put_items, moving_items, IsMovingBatch}
-use Rattle.raft_engine_laws.specs.NextBatches.{IsRewrittenNext}
-use Rattle.raft_engine_laws.specs.Speaking.{unspoken}
 use Rattle.raft_engine_laws.proofs.KeptRewrites.{moved_kept, put_tables, put_by_region, read_more}
 use Rattle.raft_engine_laws.proofs.RewriteReadings.{reading_of}
 use Rattle.raft_engine_laws.proofs.RewrittenItems.{others, region_rewritten, pairs_others, pairs_moved, nothing_rewritten}

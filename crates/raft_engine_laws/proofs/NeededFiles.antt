@@ -1,31 +1,8 @@
 -- The files that kept tables need: the entries of each queue stand in the order of their files, so the first has the least.
-use Rattle.std.proofs.Common.{◌≡◌, ℕ, ◌≤◌, Bool, true, false, cond, List, [], ◌∷◌, ◌++◌, Option, Some, None, inl, inr, refl, sym, ap, subst, ◌∙◌, arith}
-use Rattle.std.specs.List.{slice_get}
-use Rattle.std.specs.Option.{option_map_or}
+use Rattle.raft_engine_laws.proofs.Common.{◌≡◌, ℕ, ◌≤◌, Bool, true, false, cond, List, [], ◌∷◌, ◌++◌, Option, Some, None, inl, inr, refl, sym, ap, subst, ◌∙◌, arith, slice_get, option_map_or, false≢true, EntryIndex, FileBlockHandle, LogQueue, Append, Rewrite, place_seq}
+use Rattle.raft_engine_laws.proofs.Common.{entry_seq, first_entry_seq, is_same, Step, table_of, placed_in, is_placed_in, placed_apart, placed_in-append, Event, batches, steps_of, RegionStep, Tables, steps_on, history_rises, seq_of, InOrder, lower, steps_order, append_apart}
+use Rattle.raft_engine_laws.proofs.Common.{own_none, IsSeqFrom, AreFrom, NeedsNoneBelow, AreLeastFrom, IsRegionKept, AreKept, AreMoved, is_index_spoken, unspoken}
 use Rattle.std.specs.FinMap as finite
-use Rattle.std.proofs.lemmas.Bool.{false≢true}
-use Rattle.raft_base.specs.declared.entry_index.EntryIndex.{EntryIndex}
-use Rattle.raft_base.specs.declared.pipe_log.FileBlockHandle.{FileBlockHandle}
-use Rattle.raft_base.specs.declared.pipe_log.LogQueue.{LogQueue}
-use Rattle.raft_base.specs.declared.pipe_log.LogQueue.TheVariants.{Append, Rewrite}
-use Rattle.raft_table.specs.Fetches.{place_seq, entry_seq, first_entry_seq}
-use Rattle.raft_table.specs.Queues.{is_same}
-use Rattle.raft_table.specs.Steps.{Step, table_of}
-use Rattle.raft_table.specs.TableEntries.{placed_in, is_placed_in}
-use Rattle.raft_table.proofs.PlaceLemmas.{placed_apart}
-use Rattle.raft_table.proofs.RunLemmas.{placed_in-append}
-use Rattle.raft_history.specs.Batches.{Event, batches}
-use Rattle.raft_history.specs.Effects.{steps_of}
-use Rattle.raft_history.specs.RegionSteps.{RegionStep, Tables, steps_on}
-use Rattle.raft_history.proofs.EffectFileLemmas.{history_rises}
-use Rattle.raft_history.proofs.FileOrderLemmas.{seq_of, InOrder, lower, steps_order}
-use Rattle.raft_history.proofs.SoundLemmas.{append_apart}
-use Rattle.raft_history.proofs.StepListLemmas.{own_none}
-use Rattle.raft_engine_laws.specs.DeletedFiles.{IsSeqFrom, AreFrom, NeedsNoneBelow, AreLeastFrom}
-use Rattle.raft_engine_laws.specs.KeptRegions.{IsRegionKept}
-use Rattle.raft_engine_laws.specs.KeptTables.{AreKept}
-use Rattle.raft_engine_laws.specs.MovedRecords.{AreMoved}
-use Rattle.raft_engine_laws.specs.Speaking.{is_index_spoken, unspoken}
 use Rattle.raft_engine_laws.proofs.EachLemmas.{each_left, left_each}
 use Rattle.raft_engine_laws.proofs.LeastNumbers.{needs_none}
 use Rattle.raft_engine_laws.proofs.LowEntries.{placed_such}

@@ -1,21 +1,7 @@
 -- Without a file there are no tables.
-use Rattle.std.proofs.Common.{◌≡◌, ℕ, List, [], Option, Some, None, refl, sym, ap, subst, ◌∙◌, append-nil}
-use Rattle.std.proofs.lemmas.Bool.{false≢true}
+use Rattle.raft_engine_laws.proofs.Common.{◌≡◌, ℕ, List, [], Option, Some, None, refl, sym, ap, subst, ◌∙◌, append-nil, false≢true, nat_cmp, slice_cmp, EntryIndex, Append, Rewrite, Stored, table_of, Table, empty_table, placed_in, AreTableEntries-nil, effects_behind, own_none}
+use Rattle.raft_engine_laws.proofs.Common.{IsRegionKept, AreKept, unspoken}
 use Rattle.std.specs.FinMap as finite
-use Rattle.std.specs.Ordering.{nat_cmp}
-use Rattle.std.specs.Cmp.Lexicographic.{slice_cmp}
-use Rattle.raft_base.specs.declared.entry_index.EntryIndex.{EntryIndex}
-use Rattle.raft_base.specs.declared.pipe_log.LogQueue.TheVariants.{Append, Rewrite}
-use Rattle.raft_table.specs.KeyValues.{Stored}
-use Rattle.raft_table.specs.Steps.{table_of}
-use Rattle.raft_table.specs.Table.{Table, empty_table}
-use Rattle.raft_table.specs.TableEntries.{placed_in}
-use Rattle.raft_table.proofs.SoundLemmas.{AreTableEntries-nil}
-use Rattle.raft_history.specs.Effects.{effects_behind}
-use Rattle.raft_history.proofs.StepListLemmas.{own_none}
-use Rattle.raft_engine_laws.specs.KeptRegions.{IsRegionKept}
-use Rattle.raft_engine_laws.specs.KeptTables.{AreKept}
-use Rattle.raft_engine_laws.specs.Speaking.{unspoken}
 use Rattle.raft_engine_laws.proofs.RewriteReadings.{reading_of, no_tables}
 use Rattle.raft_engine_laws.proofs.UnspokenLemmas.{unspoken-nil}
 

@@ -1,21 +1,7 @@
 -- A region of any files that a recovery could read: once the rewrite queue is told what the append files take away, and what lies in front of the recovered entries, it is kept.
-use Rattle.std.proofs.Common.{◌≡◌, ℕ, suc, ◌<◌, ◌≤◌, Bool, true, false, cond, not, List, [], ◌∷◌, ◌++◌, Option, Some, None, refl, sym, ap, subst, ◌∙◌, append-nil, arith}
-use Rattle.std.specs.Prelude.{◌&&◌, ◌==◌, nat_lt, nat_le}
-use Rattle.std.proofs.lemmas.Bool.{false≢true}
-use Rattle.std.proofs.lemmas.Bool.Decides.{nat_tests}
-use Rattle.raft_base.specs.declared.entry_index.EntryIndex.{EntryIndex}
-use Rattle.raft_base.specs.declared.pipe_log.LogQueue.TheVariants.{Append}
-use Rattle.raft_base.specs.Runs.{RisesFrom, IsRun, end_of}
-use Rattle.raft_table.specs.Marks.{entries_within, is_under}
-use Rattle.raft_table.specs.Overlay.{has_clean, greatest_compaction, least_cut, is_unjoined, rewritten_within}
-use Rattle.raft_table.specs.Steps.{Step, Compact, AreSteps, table_of, after}
-use Rattle.raft_table.specs.Table.{Table}
-use Rattle.raft_table.specs.TableEntries.{entry_at, from, start_of}
-use Rattle.raft_table.proofs.LastWordLemmas.{last_entry_stands}
-use Rattle.raft_table.proofs.MarkRuns.{no_table}
-use Rattle.raft_table.proofs.RunLemmas.{rises}
-use Rattle.raft_history.proofs.RewrittenLemmas.{IsAtOrAbove, cut_reached, entry_reached}
-use Rattle.raft_engine_laws.specs.Speaking.{is_index_spoken, unspoken, IsOver}
+use Rattle.raft_engine_laws.proofs.Common.{◌≡◌, ℕ, suc, ◌<◌, ◌≤◌, Bool, true, false, cond, not, List, [], ◌∷◌, ◌++◌, Option, Some, None, refl, sym, ap, subst, ◌∙◌, append-nil, arith, ◌&&◌, ◌==◌, nat_lt, nat_le, false≢true, nat_tests, EntryIndex, Append, RisesFrom, IsRun, end_of}
+use Rattle.raft_engine_laws.proofs.Common.{entries_within, is_under, has_clean, greatest_compaction, least_cut, is_unjoined, rewritten_within, Step, Compact, AreSteps, table_of, after, Table, entry_at, from, start_of, last_entry_stands, no_table, rises, IsAtOrAbove, cut_reached}
+use Rattle.raft_engine_laws.proofs.Common.{entry_reached, is_index_spoken, unspoken, IsOver}
 use Rattle.raft_engine_laws.proofs.EachLemmas.{Each, each_left}
 use Rattle.raft_engine_laws.proofs.OverLemmas.{steps_over}
 use Rattle.raft_engine_laws.proofs.SpokenWords.{spoken_words, unspoken_within, unspoken_cleaned}

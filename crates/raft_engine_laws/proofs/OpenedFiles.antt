@@ -1,33 +1,8 @@
 -- Any files that could be read: once the rewrite queue is told, the tables that were found are kept.
-use Rattle.std.proofs.Common.{◌≡◌, ℕ, List, [], ◌∷◌, ◌++◌, Option, Some, None, inl, inr, refl, sym, ap, subst, ◌∙◌}
-use Rattle.std.specs.Option.{option_and_then}
+use Rattle.raft_engine_laws.proofs.Common.{◌≡◌, ℕ, List, [], ◌∷◌, ◌++◌, Option, Some, None, inl, inr, refl, sym, ap, subst, ◌∙◌, option_and_then, EntryIndex, LogQueue, Append, Rewrite, overlay, Step, Compact, table_of, after, Table, AreTableEntries, start_of, same_some}
+use Rattle.raft_engine_laws.proofs.Common.{after-append, no_table, table_after, Event, batches, IsReadingOfBoth, steps_of, IsSoundIn, HaveStatus, Apart, RegionStep, Tables, steps_on, steps_of_items, tables_after, reading_by_region, files-append, in_files-append, status-append}
+use Rattle.raft_engine_laws.proofs.Common.{steps_good, own_none, HasNoMarker, IsRegionKept, AreKept, MayBeToldLater, IsToldNowOrLater, AreMoved, IsRewrittenNext, unspoken, AreRemovals, SayEnoughAtOpening}
 use Rattle.std.specs.FinMap as finite
-use Rattle.raft_base.specs.declared.entry_index.EntryIndex.{EntryIndex}
-use Rattle.raft_base.specs.declared.pipe_log.LogQueue.{LogQueue}
-use Rattle.raft_base.specs.declared.pipe_log.LogQueue.TheVariants.{Append, Rewrite}
-use Rattle.raft_table.specs.Overlay.{overlay}
-use Rattle.raft_table.specs.Steps.{Step, Compact, table_of, after}
-use Rattle.raft_table.specs.Table.{Table}
-use Rattle.raft_table.specs.TableEntries.{AreTableEntries, start_of}
-use Rattle.raft_table.proofs.MarkEntries.{same_some}
-use Rattle.raft_table.proofs.MarkLaws.{after-append}
-use Rattle.raft_table.proofs.MarkRuns.{no_table, table_after}
-use Rattle.raft_history.specs.Batches.{Event, batches}
-use Rattle.raft_history.specs.BothQueues.{IsReadingOfBoth}
-use Rattle.raft_history.specs.Effects.{steps_of}
-use Rattle.raft_history.specs.Histories.{IsSoundIn, HaveStatus, Apart}
-use Rattle.raft_history.specs.RegionSteps.{RegionStep, Tables, steps_on, steps_of_items, tables_after}
-use Rattle.raft_history.proofs.ReadingLemmas.{reading_by_region}
-use Rattle.raft_history.proofs.SoundLemmas.{files-append, in_files-append, status-append, steps_good}
-use Rattle.raft_history.proofs.StepListLemmas.{own_none}
-use Rattle.raft_engine_laws.specs.Groups.{HasNoMarker}
-use Rattle.raft_engine_laws.specs.KeptRegions.{IsRegionKept}
-use Rattle.raft_engine_laws.specs.KeptTables.{AreKept}
-use Rattle.raft_engine_laws.specs.MarksTold.{MayBeToldLater, IsToldNowOrLater}
-use Rattle.raft_engine_laws.specs.MovedRecords.{AreMoved}
-use Rattle.raft_engine_laws.specs.NextBatches.{IsRewrittenNext}
-use Rattle.raft_engine_laws.specs.Speaking.{unspoken}
-use Rattle.raft_engine_laws.specs.Telling.{AreRemovals, SayEnoughAtOpening}
 use Rattle.raft_engine_laws.proofs.BothTables.{both_records}
 use Rattle.raft_engine_laws.proofs.OpenedTables.{opened_kept, later_kept, again_nothing}
 use Rattle.raft_engine_laws.proofs.FoundTables.{kept_found}

@@ -1,24 +1,7 @@
 -- A region of any files that a recovery could read: once the rewrite queue is told, what was found is kept.
-use Rattle.std.proofs.Common.{◌≡◌, ℕ, Bool, true, false, cond, List, [], ◌∷◌, ◌++◌, Option, Some, None, inl, inr, refl, sym, ap, subst, ◌∙◌, append-nil}
+use Rattle.raft_engine_laws.proofs.Common.{◌≡◌, ℕ, Bool, true, false, cond, List, [], ◌∷◌, ◌++◌, Option, Some, None, inl, inr, refl, sym, ap, subst, ◌∙◌, append-nil, false≢true, EntryIndex, Append, Rewrite, IsRun, Stored, last_pair, overlay, Step, Compact, AreSteps, table_of}
+use Rattle.raft_engine_laws.proofs.Common.{after, Table, placed_in, start_of, AreTableEntries, last_pair_stands, placed_in_other, placed_in-append, IsMovedPair, IsRegionKept, unspoken, is_key_dropped, pair_left, AreRemovals, SayEnoughAtOpening, MayBeToldLater}
 use Rattle.std.specs.FinMap as finite
-use Rattle.std.proofs.lemmas.Bool.{false≢true}
-use Rattle.raft_base.specs.declared.entry_index.EntryIndex.{EntryIndex}
-use Rattle.raft_base.specs.declared.pipe_log.LogQueue.TheVariants.{Append, Rewrite}
-use Rattle.raft_base.specs.Runs.{IsRun}
-use Rattle.raft_table.specs.KeyValues.{Stored}
-use Rattle.raft_table.specs.LastWord.{last_pair}
-use Rattle.raft_table.specs.Overlay.{overlay}
-use Rattle.raft_table.specs.Steps.{Step, Compact, AreSteps, table_of, after}
-use Rattle.raft_table.specs.Table.{Table}
-use Rattle.raft_table.specs.TableEntries.{placed_in, start_of, AreTableEntries}
-use Rattle.raft_table.proofs.LastWordLemmas.{last_pair_stands}
-use Rattle.raft_table.proofs.PlaceLemmas.{placed_in_other}
-use Rattle.raft_table.proofs.RunLemmas.{placed_in-append}
-use Rattle.raft_contexts.specs.MovedPlaces.{IsMovedPair}
-use Rattle.raft_engine_laws.specs.KeptRegions.{IsRegionKept}
-use Rattle.raft_engine_laws.specs.Speaking.{unspoken, is_key_dropped, pair_left}
-use Rattle.raft_engine_laws.specs.Telling.{AreRemovals, SayEnoughAtOpening}
-use Rattle.raft_engine_laws.specs.MarksTold.{MayBeToldLater}
 use Rattle.raft_engine_laws.proofs.KeyLemmas.{no_word}
 use Rattle.raft_engine_laws.proofs.MovedLemmas.{moved_self}
 use Rattle.raft_engine_laws.proofs.OpenedEntries.{LeavesOf, leaves, own_spoken}

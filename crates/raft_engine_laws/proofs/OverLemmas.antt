@@ -1,18 +1,7 @@
 -- Entries that are what steps leave, and the own entries of these steps behind: through one step more, and through many.
-use Rattle.std.proofs.Common.{◌≡◌, ℕ, suc, ◌≤◌, Bool, true, false, cond, List, [], ◌∷◌, ◌++◌, Option, Some, None, option_map, refl, sym, ap, subst, ◌∙◌, arith, append_assoc, append-nil}
-use Rattle.std.specs.Option.{option_and_then}
-use Rattle.raft_base.specs.declared.entry_index.EntryIndex.{EntryIndex}
-use Rattle.raft_base.specs.declared.pipe_log.LogQueue.TheVariants.{Append}
-use Rattle.raft_base.specs.Runs.{RisesFrom, IsRun, end_of}
-use Rattle.raft_table.specs.Marks.{misses}
-use Rattle.raft_table.specs.Start.{leaves_hole}
-use Rattle.raft_table.specs.Steps.{Step, Run, Compact, Truncate, Put, Del, AtomicGroup, Clean, IsStep, AreSteps, IsTableOf, table_of, after_step, after}
-use Rattle.raft_table.specs.Table.{Table}
-use Rattle.raft_table.specs.TableEntries.{below, from}
-use Rattle.raft_table.proofs.MarkEntries.{same_some}
-use Rattle.raft_table.proofs.MarkRuns.{first_rising, table_after_step}
-use Rattle.raft_table.proofs.RunLemmas.{hole_end, end_of-append, below_start}
-use Rattle.raft_engine_laws.specs.Speaking.{is_index_spoken, unspoken, IsOver}
+use Rattle.raft_engine_laws.proofs.Common.{◌≡◌, ℕ, suc, ◌≤◌, Bool, true, false, cond, List, [], ◌∷◌, ◌++◌, Option, Some, None, option_map, refl, sym, ap, subst, ◌∙◌, arith, append_assoc, append-nil, option_and_then, EntryIndex, Append, RisesFrom, IsRun, end_of, misses}
+use Rattle.raft_engine_laws.proofs.Common.{leaves_hole, Step, Run, Compact, Truncate, Put, Del, AtomicGroup, Clean, IsStep, AreSteps, IsTableOf, table_of, after_step, after, Table, below, from, same_some, first_rising, table_after_step, hole_end, end_of-append, below_start}
+use Rattle.raft_engine_laws.proofs.Common.{is_index_spoken, unspoken, IsOver}
 use Rattle.raft_engine_laws.proofs.UnspokenLemmas.{unspoken-append, unspoken-steps, unspoken-twice, unspoken-run, unspoken-compact, unspoken-truncate, unspoken-clean, unspoken-swap, unspoken-nil}
 use Rattle.raft_engine_laws.proofs.WriteWords.{put_by}
 

@@ -1,16 +1,6 @@
 -- What a recovery of both queues gives, beside the kept entries.
-use Rattle.std.proofs.Common.{◌≡◌, ℕ, ◌<◌, ◌≤◌, Bool, true, false, cond, not, ◌||◌, List, [], ◌∷◌, ◌++◌, Option, Some, None, refl, sym, ap, subst, ◌∙◌, arith, append-nil}
-use Rattle.std.specs.Prelude.{◌&&◌, ◌==◌, nat_lt, nat_le}
-use Rattle.std.proofs.lemmas.Bool.Decides.{nat_tests}
-use Rattle.raft_base.specs.declared.entry_index.EntryIndex.{EntryIndex}
-use Rattle.raft_base.specs.declared.pipe_log.LogQueue.TheVariants.{Append, Rewrite}
-use Rattle.raft_base.specs.Runs.{IsRun, end_of}
-use Rattle.raft_table.specs.Marks.{is_under, entries_within}
-use Rattle.raft_table.specs.Overlay.{has_clean, greatest_compaction, least_cut, is_unjoined, rewritten_within}
-use Rattle.raft_table.specs.Steps.{Step}
-use Rattle.raft_table.specs.TableEntries.{placed_in, RewrittenInFront}
-use Rattle.raft_engine_laws.specs.MovedRecords.{AreMoved}
-use Rattle.raft_engine_laws.specs.Speaking.{AreCovered, is_index_spoken, unspoken, IsOver}
+use Rattle.raft_engine_laws.proofs.Common.{◌≡◌, ℕ, ◌<◌, ◌≤◌, Bool, true, false, cond, not, ◌||◌, List, [], ◌∷◌, ◌++◌, Option, Some, None, refl, sym, ap, subst, ◌∙◌, arith, append-nil, ◌&&◌, ◌==◌, nat_lt, nat_le, nat_tests, EntryIndex, Append, Rewrite, IsRun, end_of, is_under}
+use Rattle.raft_engine_laws.proofs.Common.{entries_within, has_clean, greatest_compaction, least_cut, is_unjoined, rewritten_within, Step, placed_in, RewrittenInFront, AreMoved, AreCovered, is_index_spoken, unspoken, IsOver}
 use Rattle.raft_engine_laws.proofs.EachLemmas.{Each, each_left, left_each, each_gone, gone_each, end_of-left, ends_at, ends_under, index_weaker, first_end}
 use Rattle.raft_engine_laws.proofs.MovedLemmas.{moved_self, moved-append, moved_parts, moved_each, moved_end, moved_none}
 use Rattle.raft_engine_laws.proofs.SpokenWords.{spoken_words, unspoken_within, unspoken_cleaned}

@@ -1,28 +1,9 @@
 -- What both queues give under each key, beside the kept pairs.
-use Rattle.std.proofs.Common.{◌≡◌, ◌⊎◌, ℕ, Bool, true, false, cond, not, ◌||◌, List, [], ◌∷◌, Option, Some, None, inl, inr, refl, sym, ap, subst, ◌∙◌}
-use Rattle.std.specs.Option.{option_or, option_and_then}
-use Rattle.std.specs.Ordering.{nat_cmp}
-use Rattle.std.specs.Cmp.Lexicographic.{slice_cmp, nat_list_cmp_total}
+use Rattle.raft_engine_laws.proofs.Common.{◌≡◌, ◌⊎◌, ℕ, Bool, true, false, cond, not, ◌||◌, List, [], ◌∷◌, Option, Some, None, inl, inr, refl, sym, ap, subst, ◌∙◌, option_or, option_and_then, nat_cmp, slice_cmp, nat_list_cmp_total, false≢true, EntryIndex, LogQueue, Append}
+use Rattle.raft_engine_laws.proofs.Common.{Rewrite, KeySet, without, Keys, Stored, pairs_over, is_same_key, speaks_of_key, said_of_key, last_pair, has_clean, deleted_of, overlay, Step, Run, Compact, Truncate, Put, Del, AtomicGroup, Clean, table_of, Table, get-pairs_over}
+use Rattle.raft_engine_laws.proofs.Common.{last_pair_stands, get-without, settled, IsMovedPair, IsRegionKept, AreMovedPairs, is_key_spoken, is_key_dropped, pair_left}
 use Rattle.std.specs.FinMap as finite
 use Rattle.std.specs.FinSet as finset
-use Rattle.std.proofs.lemmas.Bool.{false≢true}
-use Rattle.raft_base.specs.declared.entry_index.EntryIndex.{EntryIndex}
-use Rattle.raft_base.specs.declared.pipe_log.LogQueue.{LogQueue}
-use Rattle.raft_base.specs.declared.pipe_log.LogQueue.TheVariants.{Append, Rewrite}
-use Rattle.raft_table.specs.KeySets.{KeySet, without}
-use Rattle.raft_table.specs.KeyValues.{Keys, Stored, pairs_over}
-use Rattle.raft_table.specs.LastWord.{is_same_key, speaks_of_key, said_of_key, last_pair}
-use Rattle.raft_table.specs.Overlay.{has_clean, deleted_of, overlay}
-use Rattle.raft_table.specs.Steps.{Step, Run, Compact, Truncate, Put, Del, AtomicGroup, Clean, table_of}
-use Rattle.raft_table.specs.Table.{Table}
-use Rattle.raft_table.proofs.KeyValueLaws.{get-pairs_over}
-use Rattle.raft_table.proofs.LastWordLemmas.{last_pair_stands}
-use Rattle.raft_table.proofs.MarkTables.{get-without}
-use Rattle.raft_history.proofs.RewrittenLemmas.{settled}
-use Rattle.raft_contexts.specs.MovedPlaces.{IsMovedPair}
-use Rattle.raft_engine_laws.specs.KeptRegions.{IsRegionKept}
-use Rattle.raft_engine_laws.specs.MovedRecords.{AreMovedPairs}
-use Rattle.raft_engine_laws.specs.Speaking.{is_key_spoken, is_key_dropped, pair_left}
 use Rattle.raft_engine_laws.proofs.KeyLemmas.{none_that, not_dropped, clean_speaks}
 
 neither : (a b : Bool) → (a || b) ≡ false → (a ≡ false) × (b ≡ false)

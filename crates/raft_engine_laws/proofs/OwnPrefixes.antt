@@ -1,20 +1,7 @@
 -- Of files that keep tables, nothing that a recovery finds was dropped in front: so all may be told later.
-use Rattle.std.proofs.Common.{◌≡◌, ℕ, ◌≤◌, Bool, true, false, cond, ◌||◌, List, [], ◌∷◌, ◌++◌, refl, sym, ap, subst, ◌∙◌}
+use Rattle.raft_engine_laws.proofs.Common.{◌≡◌, ℕ, ◌≤◌, Bool, true, false, cond, ◌||◌, List, [], ◌∷◌, ◌++◌, refl, sym, ap, subst, ◌∙◌, EntryIndex, Rewrite, Step, Compact, table_of, Table, placed_in, is_placed_in, start_of, same_some, rises, Event, batches, IsReadingOfBoth}
+use Rattle.raft_engine_laws.proofs.Common.{steps_of, RegionStep, Tables, steps_on, IsRegionKept, AreKept, is_index_spoken, unspoken}
 use Rattle.std.specs.FinMap as finite
-use Rattle.raft_base.specs.declared.entry_index.EntryIndex.{EntryIndex}
-use Rattle.raft_base.specs.declared.pipe_log.LogQueue.TheVariants.{Rewrite}
-use Rattle.raft_table.specs.Steps.{Step, Compact, table_of}
-use Rattle.raft_table.specs.Table.{Table}
-use Rattle.raft_table.specs.TableEntries.{placed_in, is_placed_in, start_of}
-use Rattle.raft_table.proofs.MarkEntries.{same_some}
-use Rattle.raft_table.proofs.RunLemmas.{rises}
-use Rattle.raft_history.specs.Batches.{Event, batches}
-use Rattle.raft_history.specs.BothQueues.{IsReadingOfBoth}
-use Rattle.raft_history.specs.Effects.{steps_of}
-use Rattle.raft_history.specs.RegionSteps.{RegionStep, Tables, steps_on}
-use Rattle.raft_engine_laws.specs.KeptRegions.{IsRegionKept}
-use Rattle.raft_engine_laws.specs.KeptTables.{AreKept}
-use Rattle.raft_engine_laws.specs.Speaking.{is_index_spoken, unspoken}
 use Rattle.raft_engine_laws.proofs.EachLemmas.{Each}
 use Rattle.raft_engine_laws.proofs.FoundTables.{kept_found}
 use Rattle.raft_engine_laws.proofs.OpenedEntries.{all_from, rise_above}

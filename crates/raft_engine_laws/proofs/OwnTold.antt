@@ -1,20 +1,7 @@
 -- Where no rewritten entry is left in front of what was found, nothing is told at once.
-use Rattle.std.proofs.Common.{◌≡◌, ◌≢◌, ℕ, List, [], ◌∷◌, Option, Some, None, refl, sym, ◌∙◌}
+use Rattle.raft_engine_laws.proofs.Common.{◌≡◌, ◌≢◌, ℕ, List, [], ◌∷◌, Option, Some, None, refl, sym, ◌∙◌, Append, Rewrite, Item, Step, table_of, no_table, table_after, Event, batches, IsReadingOfBoth, steps_of, IsSoundIn, Tables, content_step, steps_of_items, steps_on}
+use Rattle.raft_engine_laws.proofs.Common.{steps_good, own_head, with_step, IsToldByMark, Joins, AreAllSteps}
 use Rattle.std.specs.FinMap as finite
-use Rattle.raft_base.specs.declared.pipe_log.LogQueue.TheVariants.{Append, Rewrite}
-use Rattle.raft_records.specs.Item.{Item}
-use Rattle.raft_table.specs.Steps.{Step, table_of}
-use Rattle.raft_table.proofs.MarkRuns.{no_table, table_after}
-use Rattle.raft_history.specs.Batches.{Event, batches}
-use Rattle.raft_history.specs.BothQueues.{IsReadingOfBoth}
-use Rattle.raft_history.specs.Effects.{steps_of}
-use Rattle.raft_history.specs.Histories.{IsSoundIn}
-use Rattle.raft_history.specs.RegionSteps.{Tables, content_step, steps_of_items, steps_on}
-use Rattle.raft_history.proofs.SoundLemmas.{steps_good}
-use Rattle.raft_history.proofs.StepListLemmas.{own_head}
-use Rattle.raft_history.proofs.Words.{with_step}
-use Rattle.raft_engine_laws.specs.MarksTold.{IsToldByMark, Joins}
-use Rattle.raft_engine_laws.specs.Telling.{AreAllSteps}
 use Rattle.raft_engine_laws.proofs.BothTables.{both_records}
 use Rattle.raft_engine_laws.proofs.ToldNow.{none_at_once}
 

@@ -1,25 +1,8 @@
 -- The front of the rewrite files goes: what a table has of the later ones alone, beside what it has of all.
-use Rattle.std.proofs.Common.{◌≡◌, ◌⊎◌, ℕ, ◌<◌, ◌≤◌, Bool, true, false, cond, List, [], ◌∷◌, ◌++◌, Option, Some, None, inl, inr, refl, sym, ap, subst, ◌∙◌, append-nil, append_assoc, arith}
-use Rattle.std.specs.Option.{option_and_then}
-use Rattle.std.specs.Cmp.Lexicographic.{nat_list_cmp_total}
+use Rattle.raft_engine_laws.proofs.Common.{◌≡◌, ◌⊎◌, ℕ, ◌<◌, ◌≤◌, Bool, true, false, cond, List, [], ◌∷◌, ◌++◌, Option, Some, None, inl, inr, refl, sym, ap, subst, ◌∙◌, append-nil, append_assoc, arith, option_and_then, nat_list_cmp_total, EntryIndex, Rewrite, IsRun, end_of}
+use Rattle.raft_engine_laws.proofs.Common.{place_seq, Stored, is_same_key, misses, leaves_hole, Step, Run, Compact, Truncate, Put, Del, AtomicGroup, Clean, AreSteps, IsTableOf, table_of, after_step, after, Table, below, from, placed_in, same_some, table_after_step, hole_end}
+use Rattle.raft_engine_laws.proofs.Common.{below-append, from-append, AreFrom, NeedsNoneBelow, IsRegionKept, unspoken}
 use Rattle.std.specs.FinMap as finite
-use Rattle.raft_base.specs.declared.entry_index.EntryIndex.{EntryIndex}
-use Rattle.raft_base.specs.declared.pipe_log.LogQueue.TheVariants.{Rewrite}
-use Rattle.raft_base.specs.Runs.{IsRun, end_of}
-use Rattle.raft_table.specs.Fetches.{place_seq}
-use Rattle.raft_table.specs.KeyValues.{Stored}
-use Rattle.raft_table.specs.LastWord.{is_same_key}
-use Rattle.raft_table.specs.Marks.{misses}
-use Rattle.raft_table.specs.Start.{leaves_hole}
-use Rattle.raft_table.specs.Steps.{Step, Run, Compact, Truncate, Put, Del, AtomicGroup, Clean, AreSteps, IsTableOf, table_of, after_step, after}
-use Rattle.raft_table.specs.Table.{Table}
-use Rattle.raft_table.specs.TableEntries.{below, from, placed_in}
-use Rattle.raft_table.proofs.MarkEntries.{same_some}
-use Rattle.raft_table.proofs.MarkRuns.{table_after_step}
-use Rattle.raft_table.proofs.RunLemmas.{hole_end, below-append, from-append}
-use Rattle.raft_engine_laws.specs.DeletedFiles.{AreFrom, NeedsNoneBelow}
-use Rattle.raft_engine_laws.specs.KeptRegions.{IsRegionKept}
-use Rattle.raft_engine_laws.specs.Speaking.{unspoken}
 use Rattle.raft_engine_laws.proofs.FileWords.{AreBelow, seq_clash}
 use Rattle.raft_engine_laws.proofs.LowSteps.{below_low, from_low}
 use Rattle.raft_engine_laws.proofs.OverLemmas.{end_behind}

@@ -1,28 +1,8 @@
 -- What one reading of a queue gives has its places and files in the queue.
-use Rattle.std.proofs.Common.{◌≡◌, ℕ, true, List, [], ◌∷◌, Option, Some, None, sym, subst, ◌∙◌}
-use Rattle.std.specs.Prelude.{◌<◌, ◌^◌, ◌-◌}
-use Rattle.std.specs.List.{AllByRecursion}
+use Rattle.raft_engine_laws.proofs.Common.{◌≡◌, ℕ, true, List, [], ◌∷◌, Option, Some, None, sym, subst, ◌∙◌, ◌<◌, ◌^◌, ◌-◌, AllByRecursion, EntryIndex, LogQueue, Append, Rewrite, Stored, said_of_key, last_pair, Step, Run, Compact, Truncate, Put, Del, AtomicGroup, Clean, table_of}
+use Rattle.raft_engine_laws.proofs.Common.{after, Table, IsStepOfQueue, placed_in, is_placed_in, last_pair_stands, same_some, each_placed, Event, BatchSteps, batches, steps_of, FilesFrom, IsSoundIn, RegionStep, steps_of_items, each_step_of, items_in_queue, AreInFiles}
+use Rattle.raft_engine_laws.proofs.Common.{each_weaker}
 use Rattle.std.specs.FinMap as finite
-use Rattle.raft_base.specs.declared.entry_index.EntryIndex.{EntryIndex}
-use Rattle.raft_base.specs.declared.pipe_log.LogQueue.{LogQueue}
-use Rattle.raft_base.specs.declared.pipe_log.LogQueue.TheVariants.{Append, Rewrite}
-use Rattle.raft_table.specs.KeyValues.{Stored}
-use Rattle.raft_table.specs.LastWord.{said_of_key, last_pair}
-use Rattle.raft_table.specs.Steps.{Step, Run, Compact, Truncate, Put, Del, AtomicGroup, Clean, table_of, after}
-use Rattle.raft_table.specs.Table.{Table}
-use Rattle.raft_table.specs.TakenSteps.{IsStepOfQueue}
-use Rattle.raft_table.specs.TableEntries.{placed_in, is_placed_in}
-use Rattle.raft_table.proofs.LastWordLemmas.{last_pair_stands}
-use Rattle.raft_table.proofs.MarkEntries.{same_some}
-use Rattle.raft_table.proofs.PlaceLemmas.{each_placed}
-use Rattle.raft_history.specs.Batches.{Event, BatchSteps, batches}
-use Rattle.raft_history.specs.Effects.{steps_of}
-use Rattle.raft_history.specs.Histories.{FilesFrom, IsSoundIn}
-use Rattle.raft_history.specs.RegionSteps.{RegionStep, steps_of_items}
-use Rattle.raft_history.proofs.EachStepLemmas.{each_step_of}
-use Rattle.raft_history.proofs.QueueLemmas.{items_in_queue}
-use Rattle.raft_history.proofs.Words.{AreInFiles}
-use Rattle.raft_history.proofs.EffectLemmas.{each_weaker}
 use Rattle.raft_engine_laws.proofs.KeyLemmas.{pair_such}
 use Rattle.raft_engine_laws.proofs.StepEntries.{PutsSuch, steps_are}
 

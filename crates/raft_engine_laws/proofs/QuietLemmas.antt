@@ -1,20 +1,7 @@
 -- What takes nothing away that is rewritten needn't be told.
-use Rattle.std.proofs.Common.{◌≡◌, ℕ, List, [], ◌∷◌, ◌++◌, Option, None, refl, sym, ap, subst, ◌∙◌, cond}
+use Rattle.raft_engine_laws.proofs.Common.{◌≡◌, ℕ, List, [], ◌∷◌, ◌++◌, Option, None, refl, sym, ap, subst, ◌∙◌, cond, list_any, EntryIndex, Rewrite, same_some, Step, Run, table_of, Table, below, Event, IsOneReading, RegionStep, Tables, steps_on, IsRegionKept, AreKept, drops_key}
+use Rattle.raft_engine_laws.proofs.Common.{unspoken, SayEnough, SayTheSame}
 use Rattle.std.specs.FinMap as finite
-use Rattle.std.specs.List.{list_any}
-use Rattle.raft_base.specs.declared.entry_index.EntryIndex.{EntryIndex}
-use Rattle.raft_base.specs.declared.pipe_log.LogQueue.TheVariants.{Rewrite}
-use Rattle.raft_table.proofs.MarkEntries.{same_some}
-use Rattle.raft_table.specs.Steps.{Step, Run, table_of}
-use Rattle.raft_table.specs.Table.{Table}
-use Rattle.raft_table.specs.TableEntries.{below}
-use Rattle.raft_history.specs.Batches.{Event}
-use Rattle.raft_history.specs.Histories.{IsOneReading}
-use Rattle.raft_history.specs.RegionSteps.{RegionStep, Tables, steps_on}
-use Rattle.raft_engine_laws.specs.KeptRegions.{IsRegionKept}
-use Rattle.raft_engine_laws.specs.KeptTables.{AreKept}
-use Rattle.raft_engine_laws.specs.Speaking.{drops_key, unspoken}
-use Rattle.raft_engine_laws.specs.Telling.{SayEnough, SayTheSame}
 use Rattle.raft_engine_laws.proofs.TestLemmas.{or_none, any-append}
 use Rattle.raft_engine_laws.proofs.UnspokenLemmas.{unspoken_same, spoken-append, unspoken-steps, unspoken-run}
 

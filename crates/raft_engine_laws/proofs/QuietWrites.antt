@@ -1,29 +1,8 @@
 -- Steps of a new batch that take nothing away of the tables needn't be told.
-use Rattle.std.proofs.Common.{◌≡◌, ℕ, suc, ◌<◌, ◌≤◌, max, Bool, true, false, cond, not, ◌||◌, List, [], ◌∷◌, ◌++◌, map, Option, Some, refl, sym, ap, subst, ◌∙◌, arith}
-use Rattle.std.specs.Prelude.{filter, nat_le, nat_lt}
-use Rattle.std.specs.List.{list_any}
+use Rattle.raft_engine_laws.proofs.Common.{◌≡◌, ℕ, suc, ◌<◌, ◌≤◌, max, Bool, true, false, cond, not, ◌||◌, List, [], ◌∷◌, ◌++◌, map, Option, Some, refl, sym, ap, subst, ◌∙◌, arith, filter, nat_le, nat_lt, list_any, false≢true, eqb-true, nat_tests, EntryIndex, Append, Rewrite}
+use Rattle.raft_engine_laws.proofs.Common.{end_of, speaks_of_index, Step, Run, Compact, Truncate, Put, Del, AtomicGroup, Clean, table_of, Table, placed_in, is_placed_in, same_some, Event, IsOneReading, RegionStep, Tables, steps_on, steps_of_items, own-append, own_cons, is_on}
+use Rattle.raft_engine_laws.proofs.Common.{Appending, after_items, AreKept, Records, is_index_spoken, unspoken, drops_key, is_key_dropped, Deed, Write, written, deleted, MayBeGone, in_files_from, IsNextIn, IsSafe, SayEnough, takes_away, takes_from, taking_steps}
 use Rattle.std.specs.FinMap as finite
-use Rattle.std.proofs.lemmas.Bool.{false≢true, eqb-true}
-use Rattle.std.proofs.lemmas.Bool.Decides.{nat_tests}
-use Rattle.raft_base.specs.declared.entry_index.EntryIndex.{EntryIndex}
-use Rattle.raft_base.specs.declared.pipe_log.LogQueue.TheVariants.{Append, Rewrite}
-use Rattle.raft_base.specs.Runs.{end_of}
-use Rattle.raft_table.specs.LastWord.{speaks_of_index}
-use Rattle.raft_table.specs.Steps.{Step, Run, Compact, Truncate, Put, Del, AtomicGroup, Clean, table_of}
-use Rattle.raft_table.specs.Table.{Table}
-use Rattle.raft_table.specs.TableEntries.{placed_in, is_placed_in}
-use Rattle.raft_table.proofs.MarkEntries.{same_some}
-use Rattle.raft_history.specs.Batches.{Event}
-use Rattle.raft_history.specs.Histories.{IsOneReading}
-use Rattle.raft_history.specs.RegionSteps.{RegionStep, Tables, steps_on, steps_of_items}
-use Rattle.raft_history.proofs.StepListLemmas.{own-append, own_cons}
-use Rattle.raft_history.proofs.Words.{is_on}
-use Rattle.raft_accessor.specs.Writes.{Appending, after_items}
-use Rattle.raft_engine_laws.specs.KeptTables.{AreKept}
-use Rattle.raft_engine_laws.specs.Records.{Records}
-use Rattle.raft_engine_laws.specs.Speaking.{is_index_spoken, unspoken, drops_key, is_key_dropped}
-use Rattle.raft_engine_laws.specs.Crashes.{Deed, Write, written, deleted, MayBeGone, in_files_from, IsNextIn, IsSafe}
-use Rattle.raft_engine_laws.specs.Telling.{SayEnough, takes_away, takes_from, taking_steps}
 use Rattle.raft_engine_laws.proofs.EachLemmas.{Each}
 use Rattle.raft_engine_laws.proofs.SafeWrites.{written_safe, untold_fewer}
 use Rattle.raft_engine_laws.proofs.CrashLemmas.{all_gone}

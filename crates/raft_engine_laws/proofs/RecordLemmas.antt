@@ -1,27 +1,9 @@
 -- The records of tables: after new steps, of tables that are found, and of moved ones.
-use Rattle.std.proofs.Common.{◌≡◌, ℕ, Bool, true, false, cond, ◌||◌, List, [], ◌∷◌, ◌++◌, Option, Some, None, option_map, refl, sym, ap, subst, ◌∙◌, inl, inr, append-nil}
-use Rattle.std.specs.Prelude.{filter, flat_map, nat_lt, nat_le}
-use Rattle.std.specs.Option.{option_and_then}
-use Rattle.std.specs.Ordering.{nat_cmp, eq_by_cmp}
-use Rattle.std.specs.Cmp.Lexicographic.{slice_cmp, nat_list_cmp_total}
+use Rattle.raft_engine_laws.proofs.Common.{◌≡◌, ℕ, Bool, true, false, cond, ◌||◌, List, [], ◌∷◌, ◌++◌, Option, Some, None, option_map, refl, sym, ap, subst, ◌∙◌, inl, inr, append-nil, filter, flat_map, nat_lt, nat_le, option_and_then, nat_cmp, eq_by_cmp, slice_cmp}
+use Rattle.raft_engine_laws.proofs.Common.{nat_list_cmp_total, flat_map-append, EntryIndex, FileId, Stored, Keys, value_at, leaves_hole, starts_in_front, Step, Run, Compact, Truncate, Put, Del, AtomicGroup, Clean, table_of, Table, below, from, same_some, Event, Tables}
+use Rattle.raft_engine_laws.proofs.Common.{steps_of_items, steps_on, own-append, own_none, IsMovedPair, Appending, after_items, AreMoved, AreFound, AreCopies, AreRecordsMoved, IsPairMoved, Entry, Records, no_records, no_base, entries_told, after_change, after_changes, live}
+use Rattle.raft_engine_laws.proofs.Common.{HasRecords, HaveRecords}
 use Rattle.std.specs.FinMap as finite
-use Rattle.std.proofs.lemmas.List.Concat.{flat_map-append}
-use Rattle.raft_base.specs.declared.entry_index.EntryIndex.{EntryIndex}
-use Rattle.raft_base.specs.declared.pipe_log.FileId.{FileId}
-use Rattle.raft_table.specs.KeyValues.{Stored, Keys, value_at}
-use Rattle.raft_table.specs.Start.{leaves_hole, starts_in_front}
-use Rattle.raft_table.specs.Steps.{Step, Run, Compact, Truncate, Put, Del, AtomicGroup, Clean, table_of}
-use Rattle.raft_table.specs.Table.{Table}
-use Rattle.raft_table.specs.TableEntries.{below, from}
-use Rattle.raft_table.proofs.MarkEntries.{same_some}
-use Rattle.raft_history.specs.Batches.{Event}
-use Rattle.raft_history.specs.RegionSteps.{Tables, steps_of_items, steps_on}
-use Rattle.raft_history.proofs.StepListLemmas.{own-append, own_none}
-use Rattle.raft_contexts.specs.MovedPlaces.{IsMovedPair}
-use Rattle.raft_accessor.specs.Writes.{Appending, after_items}
-use Rattle.raft_engine_laws.specs.MovedRecords.{AreMoved, AreFound}
-use Rattle.raft_engine_laws.specs.Moving.{AreCopies, AreRecordsMoved, IsPairMoved}
-use Rattle.raft_engine_laws.specs.Records.{Entry, Records, no_records, no_base, entries_told, after_change, after_changes, live, HasRecords, HaveRecords}
 use Rattle.raft_engine_laws.proofs.RewriteReadings.{no_tables}
 use Rattle.raft_engine_laws.proofs.WriteWords.{after_write, after_writes}
 use Rattle.raft_engine_laws.proofs.WrittenTables.{items_by_region}

@@ -1,12 +1,5 @@
 -- What a recovery gives of a kept region.
-use Rattle.std.proofs.Common.{◌≡◌, ℕ, List, ◌++◌}
-use Rattle.raft_base.specs.declared.entry_index.EntryIndex.{EntryIndex}
-use Rattle.raft_table.specs.Overlay.{overlay}
-use Rattle.raft_table.specs.Steps.{Step, table_of}
-use Rattle.raft_table.specs.Table.{Table}
-use Rattle.raft_engine_laws.specs.KeptRegions.{IsRegionKept}
-use Rattle.raft_engine_laws.specs.MovedRecords.{AreMoved}
-use Rattle.raft_engine_laws.specs.Speaking.{unspoken}
+use Rattle.raft_engine_laws.proofs.Common.{◌≡◌, ℕ, List, ◌++◌, EntryIndex, overlay, Step, table_of, Table, IsRegionKept, AreMoved, unspoken}
 use Rattle.raft_engine_laws.proofs.MovedLemmas.{run_seen}
 use Rattle.raft_engine_laws.proofs.OverlaidLemmas.{overlaid_moved, overlaid_is}
 

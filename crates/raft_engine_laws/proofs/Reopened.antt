@@ -1,21 +1,7 @@
 -- Kept tables that are read again are kept, and the rewrite queue has been told nothing yet of what stands in the append files.
-use Rattle.std.proofs.Common.{◌≡◌, ℕ, List, [], ◌∷◌, ◌++◌, sym, ap, subst, ◌∙◌}
-use Rattle.std.specs.Prelude.{flat_map}
+use Rattle.raft_engine_laws.proofs.Common.{◌≡◌, ℕ, List, [], ◌∷◌, ◌++◌, sym, ap, subst, ◌∙◌, flat_map, EntryIndex, Append, Rewrite, overlay, Step, table_of, Event, BatchSteps, batches, IsReadingOfBoth, steps_of, FilesFrom, RegionStep, Tables, steps_on, steps_of_items}
+use Rattle.raft_engine_laws.proofs.Common.{without_marker, own-append, own_none, plain_steps, IsRegionKept, AreKept}
 use Rattle.std.specs.FinMap as finite
-use Rattle.raft_base.specs.declared.entry_index.EntryIndex.{EntryIndex}
-use Rattle.raft_base.specs.declared.pipe_log.LogQueue.TheVariants.{Append, Rewrite}
-use Rattle.raft_table.specs.Overlay.{overlay}
-use Rattle.raft_table.specs.Steps.{Step, table_of}
-use Rattle.raft_history.specs.Batches.{Event, BatchSteps, batches}
-use Rattle.raft_history.specs.BothQueues.{IsReadingOfBoth}
-use Rattle.raft_history.specs.Effects.{steps_of}
-use Rattle.raft_history.specs.Histories.{FilesFrom}
-use Rattle.raft_history.specs.RegionSteps.{RegionStep, Tables, steps_on, steps_of_items}
-use Rattle.raft_history.proofs.SoundLemmas.{without_marker}
-use Rattle.raft_history.proofs.StepListLemmas.{own-append, own_none}
-use Rattle.raft_history.proofs.WithoutMarkers.{plain_steps}
-use Rattle.raft_engine_laws.specs.KeptRegions.{IsRegionKept}
-use Rattle.raft_engine_laws.specs.KeptTables.{AreKept}
 use Rattle.raft_engine_laws.proofs.FoundTables.{found_records}
 use Rattle.raft_engine_laws.proofs.QueueSteps.{read_places, read_files, read_pairs}
 use Rattle.raft_engine_laws.proofs.ReopenedRegion.{reopened_kept}

@@ -1,19 +1,7 @@
 -- A kept region that is read again is kept, and all its steps are untold.
-use Rattle.std.proofs.Common.{◌≡◌, ℕ, cond, List, ◌++◌, Some, None, inl, inr, refl, sym, ap, subst, ◌∙◌, append-nil}
+use Rattle.raft_engine_laws.proofs.Common.{◌≡◌, ℕ, cond, List, ◌++◌, Some, None, inl, inr, refl, sym, ap, subst, ◌∙◌, append-nil, EntryIndex, Append, Rewrite, Stored, last_pair, overlay, Step, table_of, Table, placed_in, AreTableEntries, RewrittenInFront, placed_in_other}
+use Rattle.raft_engine_laws.proofs.Common.{placed_in-append, IsMovedPair, IsRegionKept, unspoken}
 use Rattle.std.specs.FinMap as finite
-use Rattle.raft_base.specs.declared.entry_index.EntryIndex.{EntryIndex}
-use Rattle.raft_base.specs.declared.pipe_log.LogQueue.TheVariants.{Append, Rewrite}
-use Rattle.raft_table.specs.KeyValues.{Stored}
-use Rattle.raft_table.specs.LastWord.{last_pair}
-use Rattle.raft_table.specs.Overlay.{overlay}
-use Rattle.raft_table.specs.Steps.{Step, table_of}
-use Rattle.raft_table.specs.Table.{Table}
-use Rattle.raft_table.specs.TableEntries.{placed_in, AreTableEntries, RewrittenInFront}
-use Rattle.raft_table.proofs.PlaceLemmas.{placed_in_other}
-use Rattle.raft_table.proofs.RunLemmas.{placed_in-append}
-use Rattle.raft_contexts.specs.MovedPlaces.{IsMovedPair}
-use Rattle.raft_engine_laws.specs.KeptRegions.{IsRegionKept}
-use Rattle.raft_engine_laws.specs.Speaking.{unspoken}
 use Rattle.raft_engine_laws.proofs.KeyLemmas.{no_word}
 use Rattle.raft_engine_laws.proofs.MovedLemmas.{moved_self}
 use Rattle.raft_engine_laws.proofs.OverlaidPairs.{own_last, overlaid_pair_is, by_speaking, whole_left}

@@ -1,29 +1,8 @@
 -- The front of the rewrite files is deleted.
-use Rattle.std.proofs.Common.{◌≡◌, ℕ, List, [], ◌++◌, Option, Some, None, inr, refl, sym, ap, subst, ◌∙◌, append-nil}
-use Rattle.std.specs.Option.{option_and_then}
+use Rattle.raft_engine_laws.proofs.Common.{◌≡◌, ℕ, List, [], ◌++◌, Option, Some, None, inr, refl, sym, ap, subst, ◌∙◌, append-nil, option_and_then, slice_cmp, nat_cmp, EntryIndex, Rewrite, Stored, table_of, after, Table, last_pair_stands, same_some, after-append, no_table}
+use Rattle.raft_engine_laws.proofs.Common.{table_after, Event, batches, effects, steps_of, EachApart, groups_in, whole_groups, apart_back, sound_in_front, sound_in_back, IsSoundIn, IsOneReading, Tables, batches-append, steps_good, own_none, NeedsNoneBelow, AreFilesBelow}
+use Rattle.raft_engine_laws.proofs.Common.{IsRegionKept, AreKept}
 use Rattle.std.specs.FinMap as finite
-use Rattle.std.specs.Cmp.Lexicographic.{slice_cmp}
-use Rattle.std.specs.Ordering.{nat_cmp}
-use Rattle.raft_base.specs.declared.entry_index.EntryIndex.{EntryIndex}
-use Rattle.raft_base.specs.declared.pipe_log.LogQueue.TheVariants.{Rewrite}
-use Rattle.raft_table.specs.KeyValues.{Stored}
-use Rattle.raft_table.specs.Steps.{table_of, after}
-use Rattle.raft_table.specs.Table.{Table}
-use Rattle.raft_table.proofs.LastWordLemmas.{last_pair_stands}
-use Rattle.raft_table.proofs.MarkEntries.{same_some}
-use Rattle.raft_table.proofs.MarkLaws.{after-append}
-use Rattle.raft_table.proofs.MarkRuns.{no_table, table_after}
-use Rattle.raft_history.specs.Batches.{Event, batches}
-use Rattle.raft_history.specs.Effects.{effects, steps_of, EachApart}
-use Rattle.raft_history.specs.WaitingGroups.{groups_in, whole_groups}
-use Rattle.raft_history.proofs.StretchOfHistory.{apart_back, sound_in_front, sound_in_back}
-use Rattle.raft_history.specs.Histories.{IsSoundIn, IsOneReading}
-use Rattle.raft_history.specs.RegionSteps.{Tables}
-use Rattle.raft_history.proofs.SoundLemmas.{batches-append, steps_good}
-use Rattle.raft_history.proofs.StepListLemmas.{own_none}
-use Rattle.raft_engine_laws.specs.DeletedFiles.{NeedsNoneBelow, AreFilesBelow}
-use Rattle.raft_engine_laws.specs.KeptRegions.{IsRegionKept}
-use Rattle.raft_engine_laws.specs.KeptTables.{AreKept}
 use Rattle.raft_engine_laws.proofs.FileSteps.{steps_below}
 use Rattle.raft_engine_laws.proofs.GroupLemmas.{steps_split}
 use Rattle.raft_engine_laws.proofs.LowEntries.{pair_below}

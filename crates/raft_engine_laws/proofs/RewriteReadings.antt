@@ -1,24 +1,8 @@
 -- One reading of the rewrite queue: no step is refused, and a batch without a group marker takes effect alone.
-use Rattle.std.proofs.Common.{◌≡◌, ℕ, List, [], ◌∷◌, ◌++◌, Option, Some, None, refl, sym, ap, ◌∙◌}
-use Rattle.std.specs.Prelude.{flat_map}
-use Rattle.std.specs.Option.{option_and_then}
+use Rattle.raft_engine_laws.proofs.Common.{◌≡◌, ℕ, List, [], ◌∷◌, ◌++◌, Option, Some, None, refl, sym, ap, ◌∙◌, flat_map, option_and_then, nat_cmp, Rewrite, Step, Run, Compact, Truncate, Put, Del, AtomicGroup, Clean, table_of, after_step, after, Table, Event, batch_of, batches}
+use Rattle.raft_engine_laws.proofs.Common.{steps_of, Numbered, Effect, effects, steps_by, IsOneReading, cleaned_in, RegionStep, Tables, steps_on, steps_of_items, tables_after, with_table, groups_in, steps_by_batch, steps-one, reading_by_region, batches-append, own-append}
+use Rattle.raft_engine_laws.proofs.Common.{own_none, region_steps_of_whole, own-whole_group, HasNoMarker}
 use Rattle.std.specs.FinMap as finite
-use Rattle.std.specs.Ordering.{nat_cmp}
-use Rattle.raft_base.specs.declared.pipe_log.LogQueue.TheVariants.{Rewrite}
-use Rattle.raft_table.specs.Steps.{Step, Run, Compact, Truncate, Put, Del, AtomicGroup, Clean, table_of, after_step, after}
-use Rattle.raft_table.specs.Table.{Table}
-use Rattle.raft_history.specs.Batches.{Event, batch_of, batches}
-use Rattle.raft_history.specs.Effects.{steps_of, Numbered, Effect, effects, steps_by}
-use Rattle.raft_history.specs.Histories.{IsOneReading, cleaned_in}
-use Rattle.raft_history.specs.RegionSteps.{RegionStep, Tables, steps_on, steps_of_items, tables_after, with_table}
-use Rattle.raft_history.specs.WaitingGroups.{groups_in, steps_by_batch}
-use Rattle.raft_history.proofs.MoreLemmas.{steps-one}
-use Rattle.raft_history.proofs.ReadingLemmas.{reading_by_region}
-use Rattle.raft_history.proofs.SoundLemmas.{batches-append}
-use Rattle.raft_history.proofs.StepListLemmas.{own-append, own_none}
-use Rattle.raft_history.specs.MarkedRegions.{region_steps_of_whole}
-use Rattle.raft_history.proofs.ReadLemmas.{own-whole_group}
-use Rattle.raft_engine_laws.specs.Groups.{HasNoMarker}
 
 -- no step is refused in the rewrite queue
 step_taken : (t : Table) (s : Step) → (v : Option Table) × (after_step Rewrite t s ≡ Some v)

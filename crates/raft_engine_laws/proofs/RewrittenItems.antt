@@ -1,28 +1,8 @@
 -- Records of one region that a batch moves past a gate: what it makes of its table, and of what is read of the rewrite queue.
-use Rattle.std.proofs.Common.{◌≡◌, ℕ, true, false, List, [], ◌∷◌, ◌++◌, length, Option, Some, option_map, inl, refl, sym, ap, subst, ◌∙◌, append-nil, arith}
-use Rattle.std.specs.List.{AllByRecursion}
-use Rattle.std.specs.Option.{option_and_then}
+use Rattle.raft_engine_laws.proofs.Common.{◌≡◌, ℕ, true, false, List, [], ◌∷◌, ◌++◌, length, Option, Some, option_map, inl, refl, sym, ap, subst, ◌∙◌, append-nil, arith, AllByRecursion, option_and_then, nat_tests, EntryIndex, FileId, Append, Rewrite, IsRun, entries, Keys}
+use Rattle.raft_engine_laws.proofs.Common.{entries_after_rewrite, is_misplaced, may_move, entries_after_replay, Run, table_of, after, Table, placed_in, AreTableEntries, entry_count, same_some, placed_in_other, placed_in-append, Tables, with_table, steps_of_items, steps_on}
+use Rattle.raft_engine_laws.proofs.Common.{IsOther, with_own, with_other, own_head, Rewriting, after_items, AreCopies, AreRecordsMoved, IsPairMoved, IsFetched, put_items, AreOrdinary}
 use Rattle.std.specs.FinMap as finite
-use Rattle.std.proofs.lemmas.Bool.Decides.{nat_tests}
-use Rattle.raft_base.specs.declared.entry_index.EntryIndex.{EntryIndex}
-use Rattle.raft_base.specs.declared.pipe_log.FileId.{FileId}
-use Rattle.raft_base.specs.declared.pipe_log.LogQueue.TheVariants.{Append, Rewrite}
-use Rattle.raft_base.specs.Runs.{IsRun}
-use Rattle.raft_records.specs.Item.{entries}
-use Rattle.raft_table.specs.KeyValues.{Keys}
-use Rattle.raft_table.specs.Rewriting.{entries_after_rewrite, is_misplaced, may_move}
-use Rattle.raft_table.specs.Start.{entries_after_replay}
-use Rattle.raft_table.specs.Steps.{Run, table_of, after}
-use Rattle.raft_table.specs.Table.{Table}
-use Rattle.raft_table.specs.TableEntries.{placed_in, AreTableEntries, entry_count}
-use Rattle.raft_table.proofs.MarkEntries.{same_some}
-use Rattle.raft_table.proofs.PlaceLemmas.{placed_in_other}
-use Rattle.raft_table.proofs.RunLemmas.{placed_in-append}
-use Rattle.raft_history.specs.RegionSteps.{Tables, with_table, steps_of_items, steps_on}
-use Rattle.raft_history.proofs.MapLemmas.{IsOther, with_own, with_other}
-use Rattle.raft_history.proofs.StepListLemmas.{own_head}
-use Rattle.raft_accessor.specs.Writes.{Rewriting, after_items}
-use Rattle.raft_engine_laws.specs.Moving.{AreCopies, AreRecordsMoved, IsPairMoved, IsFetched, put_items, AreOrdinary}
 use Rattle.raft_engine_laws.proofs.CopiedEntries.{copies_take_places, copies_read_behind}
 use Rattle.raft_engine_laws.proofs.CopiedPairs.{moved_all, put_all, pairs_copied}
 use Rattle.raft_engine_laws.proofs.RewrittenPuts.{puts_move, puts_read}

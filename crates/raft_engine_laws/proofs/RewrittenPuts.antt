@@ -1,19 +1,7 @@
 -- Keys that are put by a rewriting, in the kept tables and in what is read of the rewrite queue.
-use Rattle.std.proofs.Common.{◌≡◌, ℕ, if◌then◌else◌, List, [], ◌∷◌, Option, Some, None, option_map, refl, sym, ap, subst, ◌∙◌}
-use Rattle.std.specs.Option.{option_and_then}
+use Rattle.raft_engine_laws.proofs.Common.{◌≡◌, ℕ, if◌then◌else◌, List, [], ◌∷◌, Option, Some, None, option_map, refl, sym, ap, subst, ◌∙◌, option_and_then, FileId, Rewrite, Keys, file_at, Put, table_of, after, Table, rewritten_in, same_some, Tables, with_table, steps_of_items}
+use Rattle.raft_engine_laws.proofs.Common.{steps_on, IsOther, with_own, with_other, own_none, own_head, with_step, Rewriting, after_items, AreOrdinary, put_items}
 use Rattle.std.specs.FinMap as finite
-use Rattle.raft_base.specs.declared.pipe_log.FileId.{FileId}
-use Rattle.raft_base.specs.declared.pipe_log.LogQueue.TheVariants.{Rewrite}
-use Rattle.raft_table.specs.KeyValues.{Keys, file_at}
-use Rattle.raft_table.specs.Steps.{Put, table_of, after}
-use Rattle.raft_table.specs.Table.{Table, rewritten_in}
-use Rattle.raft_table.proofs.MarkEntries.{same_some}
-use Rattle.raft_history.specs.RegionSteps.{Tables, with_table, steps_of_items, steps_on}
-use Rattle.raft_history.proofs.MapLemmas.{IsOther, with_own, with_other}
-use Rattle.raft_history.proofs.StepListLemmas.{own_none, own_head}
-use Rattle.raft_history.proofs.Words.{with_step}
-use Rattle.raft_accessor.specs.Writes.{Rewriting, after_items}
-use Rattle.raft_engine_laws.specs.Moving.{AreOrdinary, put_items}
 use Rattle.raft_engine_laws.proofs.CopiedPairs.{moved_all, put_all}
 
 -- ---- the kept tables

@@ -1,24 +1,7 @@
 -- Records of a kept region move to the rewrite queue.
-use Rattle.std.proofs.Common.{◌≡◌, ℕ, true, List, [], ◌∷◌, ◌++◌, Option, Some, None, inl, inr, refl, sym, ap, subst, ◌∙◌, append-nil, append_assoc}
-use Rattle.std.specs.List.{AllByRecursion}
+use Rattle.raft_engine_laws.proofs.Common.{◌≡◌, ℕ, true, List, [], ◌∷◌, ◌++◌, Option, Some, None, inl, inr, refl, sym, ap, subst, ◌∙◌, append-nil, append_assoc, AllByRecursion, EntryIndex, FileId, Append, Rewrite, Stored, last_pair, Step, Table, placed_in, is_placed_in}
+use Rattle.raft_engine_laws.proofs.Common.{AreTableEntries, RewrittenInFront, same_some, each_placed, placed_in_other, placed_in-append, each_right, IsMovedPair, IsRegionKept, AreMoved, AreCopies, AreRecordsMoved, unspoken}
 use Rattle.std.specs.FinMap as finite
-use Rattle.raft_base.specs.declared.entry_index.EntryIndex.{EntryIndex}
-use Rattle.raft_base.specs.declared.pipe_log.FileId.{FileId}
-use Rattle.raft_base.specs.declared.pipe_log.LogQueue.TheVariants.{Append, Rewrite}
-use Rattle.raft_table.specs.KeyValues.{Stored}
-use Rattle.raft_table.specs.LastWord.{last_pair}
-use Rattle.raft_table.specs.Steps.{Step}
-use Rattle.raft_table.specs.Table.{Table}
-use Rattle.raft_table.specs.TableEntries.{placed_in, is_placed_in, AreTableEntries, RewrittenInFront}
-use Rattle.raft_table.proofs.MarkEntries.{same_some}
-use Rattle.raft_table.proofs.PlaceLemmas.{each_placed, placed_in_other}
-use Rattle.raft_table.proofs.RunLemmas.{placed_in-append}
-use Rattle.raft_history.proofs.EffectLemmas.{each_right}
-use Rattle.raft_contexts.specs.MovedPlaces.{IsMovedPair}
-use Rattle.raft_engine_laws.specs.KeptRegions.{IsRegionKept}
-use Rattle.raft_engine_laws.specs.MovedRecords.{AreMoved}
-use Rattle.raft_engine_laws.specs.Moving.{AreCopies, AreRecordsMoved}
-use Rattle.raft_engine_laws.specs.Speaking.{unspoken}
 use Rattle.raft_engine_laws.proofs.MovedLemmas.{moved-append}
 use Rattle.raft_engine_laws.proofs.SoundEntries.{consecutive_seen, consecutive_kept, in_two, IsPlaced, each_in_queue, all_appended}
 use Rattle.raft_engine_laws.proofs.UnspokenLemmas.{unspoken-append, unspoken-none}

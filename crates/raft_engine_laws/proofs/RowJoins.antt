@@ -1,8 +1,5 @@
 -- Two neighbors know together whether each group of their batches stands in a row.
-use Rattle.std.proofs.Common.{◌≡◌, ◌↔◌, ℕ, true, List, [], ◌∷◌, ◌++◌, Option, None, refl, sym, subst, ◌∙◌, append-nil}
-use Rattle.raft_history.specs.Batches.{Event, batch_of}
-use Rattle.raft_engine_laws.specs.GroupsInRows.{MayStandBy, StandBehind, AreGroupsInRows, left_open, open_behind}
-use Rattle.raft_engine_laws.specs.RowSummaries.{Summary, FirstMayStand, IsSummaryOf, IsSeam, AreJoined}
+use Rattle.raft_engine_laws.proofs.Common.{◌≡◌, ◌↔◌, ℕ, true, List, [], ◌∷◌, ◌++◌, Option, None, refl, sym, subst, ◌∙◌, append-nil, Event, batch_of, MayStandBy, StandBehind, AreGroupsInRows, left_open, open_behind, Summary, FirstMayStand, IsSummaryOf, IsSeam, AreJoined}
 
 stand_first : (x : Option (ℕ × ℕ)) (h g : List Event) → StandBehind x (h ++ g) → StandBehind x h
 stand_first x [] g k = tt

@@ -1,13 +1,6 @@
 -- A group whose batches stand in a row is one effect, apart from all before it.
-use Rattle.std.proofs.Common.{◌≡◌, ℕ, suc, ◌+◌, ◌<◌, true, List, [], ◌∷◌, ◌++◌, length, refl, sym, ap, subst, ◌∙◌, append-nil, append_assoc, arith}
-use Rattle.std.proofs.lemmas.Bool.{eq-eqb}
-use Rattle.raft_records.specs.declared.atomic_group.AtomicGroupStatus.TheVariants.{Begin, Middle, End}
-use Rattle.raft_history.specs.Batches.{BatchSteps, batch_with_marker}
-use Rattle.raft_history.specs.Effects.{Numbered, numbered_from, markers_of, open_stretch, Effect, completed_as, effects, steps_by, steps_of, AreApart, EachApart}
-use Rattle.raft_history.specs.RegionSteps.{RegionStep}
-use Rattle.raft_history.proofs.EffectLemmas.{each_weaker, numbered_from-append, all_steps-append, all_steps-one}
-use Rattle.raft_history.proofs.MarkerLemmas.{markers_of-append, open_stretch-append}
-use Rattle.raft_history.proofs.Words.{all_steps, are_middles}
+use Rattle.raft_engine_laws.proofs.Common.{◌≡◌, ℕ, suc, ◌+◌, ◌<◌, true, List, [], ◌∷◌, ◌++◌, length, refl, sym, ap, subst, ◌∙◌, append-nil, append_assoc, arith, eq-eqb, Begin, Middle, End, BatchSteps, batch_with_marker, Numbered, numbered_from, markers_of, open_stretch, Effect}
+use Rattle.raft_engine_laws.proofs.Common.{completed_as, effects, steps_by, steps_of, AreApart, EachApart, RegionStep, each_weaker, numbered_from-append, all_steps-append, all_steps-one, markers_of-append, open_stretch-append, all_steps, are_middles}
 use Rattle.raft_engine_laws.proofs.ApartLemmas.{last_low, apart_more, effects_more, effects_held}
 
 abbrev pub middles : ℕ → List (List RegionStep × ℕ) → List BatchSteps

@@ -1,14 +1,6 @@
 -- A stop, and what is found then.
-use Rattle.std.proofs.Common.{◌≡◌, ℕ, ◌≤◌, List, ◌∷◌, sym, ap, subst, ◌∙◌, arith}
-use Rattle.raft_base.specs.declared.entry_index.EntryIndex.{EntryIndex}
-use Rattle.raft_base.specs.declared.pipe_log.LogQueue.TheVariants.{Append, Rewrite}
-use Rattle.raft_history.specs.Batches.{Event}
-use Rattle.raft_history.specs.BothQueues.{IsReadingOfBoth}
-use Rattle.raft_history.specs.Histories.{FilesFrom, IsSoundIn, Apart}
-use Rattle.raft_history.specs.RegionSteps.{RegionStep, Tables}
-use Rattle.raft_engine_laws.specs.KeptTables.{AreKept}
-use Rattle.raft_engine_laws.specs.Records.{Records, live, HaveRecords}
-use Rattle.raft_engine_laws.specs.Crashes.{Deed, Crash, MayBeGone, in_files_from, IsLeft, IsKeptWith, LoseNothing, IsSafe}
+use Rattle.raft_engine_laws.proofs.Common.{◌≡◌, ℕ, ◌≤◌, List, ◌∷◌, sym, ap, subst, ◌∙◌, arith, EntryIndex, Append, Rewrite, Event, IsReadingOfBoth, FilesFrom, IsSoundIn, Apart, RegionStep, Tables, AreKept, Records, live, HaveRecords, Deed, Crash, MayBeGone, in_files_from, IsLeft}
+use Rattle.raft_engine_laws.proofs.Common.{IsKeptWith, LoseNothing, IsSafe}
 use Rattle.raft_engine_laws.proofs.FoundTables.{kept_found}
 use Rattle.raft_engine_laws.proofs.RecordLemmas.{found_have}
 use Rattle.raft_engine_laws.proofs.Reopened.{reopened, all_steps_of}

@@ -1,16 +1,6 @@
 -- Files that are deleted are not missed.
-use Rattle.std.proofs.Common.{◌≡◌, ℕ, ◌≤◌, List, [], ◌∷◌, ◌++◌, inl, inr, refl, sym, subst, ◌∙◌, arith}
-use Rattle.raft_base.specs.declared.entry_index.EntryIndex.{EntryIndex}
-use Rattle.raft_base.specs.declared.pipe_log.LogQueue.{LogQueue}
-use Rattle.raft_base.specs.declared.pipe_log.LogQueue.TheVariants.{Append, Rewrite}
-use Rattle.raft_history.specs.Batches.{Event}
-use Rattle.raft_history.specs.Histories.{FilesFrom}
-use Rattle.raft_history.specs.RegionSteps.{Tables}
-use Rattle.raft_engine_laws.specs.DeletedFiles.{AreLeastFrom}
-use Rattle.raft_engine_laws.specs.Groups.{EndNoOlderGroup}
-use Rattle.raft_engine_laws.specs.KeptTables.{AreKept}
-use Rattle.raft_engine_laws.specs.Records.{Records, live, HaveRecords}
-use Rattle.raft_engine_laws.specs.Crashes.{Deed, Delete, written, deleted, IsSynced, MayBeGone, in_files_from, IsSafe}
+use Rattle.raft_engine_laws.proofs.Common.{◌≡◌, ℕ, ◌≤◌, List, [], ◌∷◌, ◌++◌, inl, inr, refl, sym, subst, ◌∙◌, arith, EntryIndex, LogQueue, Append, Rewrite, Event, FilesFrom, Tables, AreLeastFrom, EndNoOlderGroup, AreKept, Records, live, HaveRecords, Deed, Delete, written}
+use Rattle.raft_engine_laws.proofs.Common.{deleted, IsSynced, MayBeGone, in_files_from, IsSafe}
 use Rattle.raft_engine_laws.proofs.AppendDeletions.{shorter}
 use Rattle.raft_engine_laws.proofs.GroupFronts.{none_across}
 use Rattle.raft_engine_laws.proofs.NeededFiles.{append_needs, rewrite_needs}

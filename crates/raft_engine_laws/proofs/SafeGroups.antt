@@ -1,35 +1,9 @@
 -- Records that move within the rewrite queue, with one batch or with a whole group, are safe.
-use Rattle.std.proofs.Common.{◌≡◌, ◌≢◌, ℕ, ◌≤◌, Bool, true, false, List, [], ◌∷◌, ◌++◌, Option, Some, None, if◌then◌else◌, refl, sym, ap, subst, ◌∙◌, append_assoc, append-nil, arith}
-use Rattle.std.specs.Prelude.{flat_map}
-use Rattle.std.specs.List.{AllByRecursion}
-use Rattle.std.specs.Option.{option_and_then}
+use Rattle.raft_engine_laws.proofs.Common.{◌≡◌, ◌≢◌, ℕ, ◌≤◌, Bool, true, false, List, [], ◌∷◌, ◌++◌, Option, Some, None, if◌then◌else◌, refl, sym, ap, subst, ◌∙◌, append_assoc, append-nil, arith, flat_map, AllByRecursion, option_and_then, EntryIndex, FileId, LogQueue, Rewrite}
+use Rattle.raft_engine_laws.proofs.Common.{AtomicGroupStatus, Begin, Middle, End, Item, Keys, Step, AtomicGroup, table_of, after, Table, placed_in, AreTableEntries, same_some, after-append, Event, batch_of, batches, Effect, effects, steps_by, steps_of, whole_steps, EachApart}
+use Rattle.raft_engine_laws.proofs.Common.{Apart, IsOneReading, RegionStep, Tables, names, steps_on, steps_of_items, batches-append, own_none, Rewriting, after_items, HasNoMarker, LeavesOpen, IsBeforeEnd, IsMarked, IsWholeGroup, AreKept, IsPairMoved, AreRecordsMoved, MoveAgain}
+use Rattle.raft_engine_laws.proofs.Common.{Records, unspoken, Deed, Write, written, deleted, IsSynced, MayBeGone, in_files_from, AreInFileOf, IsNextIn, IsSafe}
 use Rattle.std.specs.FinMap as finite
-use Rattle.raft_base.specs.declared.entry_index.EntryIndex.{EntryIndex}
-use Rattle.raft_base.specs.declared.pipe_log.FileId.{FileId}
-use Rattle.raft_base.specs.declared.pipe_log.LogQueue.{LogQueue}
-use Rattle.raft_base.specs.declared.pipe_log.LogQueue.TheVariants.{Rewrite}
-use Rattle.raft_records.specs.declared.atomic_group.AtomicGroupStatus.{AtomicGroupStatus}
-use Rattle.raft_records.specs.declared.atomic_group.AtomicGroupStatus.TheVariants.{Begin, Middle, End}
-use Rattle.raft_records.specs.Item.{Item}
-use Rattle.raft_table.specs.KeyValues.{Keys}
-use Rattle.raft_table.specs.Steps.{Step, AtomicGroup, table_of, after}
-use Rattle.raft_table.specs.Table.{Table}
-use Rattle.raft_table.specs.TableEntries.{placed_in, AreTableEntries}
-use Rattle.raft_table.proofs.MarkEntries.{same_some}
-use Rattle.raft_table.proofs.MarkLaws.{after-append}
-use Rattle.raft_history.specs.Batches.{Event, batch_of, batches}
-use Rattle.raft_history.specs.Effects.{Effect, effects, steps_by, steps_of, whole_steps, EachApart}
-use Rattle.raft_history.specs.Histories.{Apart, IsOneReading}
-use Rattle.raft_history.specs.RegionSteps.{RegionStep, Tables, names, steps_on, steps_of_items}
-use Rattle.raft_history.proofs.SoundLemmas.{batches-append}
-use Rattle.raft_history.proofs.StepListLemmas.{own_none}
-use Rattle.raft_accessor.specs.Writes.{Rewriting, after_items}
-use Rattle.raft_engine_laws.specs.Groups.{HasNoMarker, LeavesOpen, IsBeforeEnd, IsMarked, IsWholeGroup}
-use Rattle.raft_engine_laws.specs.KeptTables.{AreKept}
-use Rattle.raft_engine_laws.specs.Moving.{IsPairMoved, AreRecordsMoved, MoveAgain}
-use Rattle.raft_engine_laws.specs.Records.{Records}
-use Rattle.raft_engine_laws.specs.Speaking.{unspoken}
-use Rattle.raft_engine_laws.specs.Crashes.{Deed, Write, written, deleted, IsSynced, MayBeGone, in_files_from, AreInFileOf, IsNextIn, IsSafe}
 use Rattle.raft_engine_laws.proofs.AgainItems.{region_again}
 use Rattle.raft_engine_laws.proofs.ApartLemmas.{effects_held}
 use Rattle.raft_engine_laws.proofs.GroupFiles.{of_file}

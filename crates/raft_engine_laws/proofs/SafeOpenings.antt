@@ -1,30 +1,8 @@
 -- An engine is opened over any sound files.
-use Rattle.std.proofs.Common.{◌≡◌, ◌⊎◌, ℕ, ◌≤◌, cond, List, [], ◌∷◌, ◌++◌, Option, None, option_map, inl, inr, refl, sym, ap, subst, ◌∙◌, arith}
+use Rattle.raft_engine_laws.proofs.Common.{◌≡◌, ◌⊎◌, ℕ, ◌≤◌, cond, List, [], ◌∷◌, ◌++◌, Option, None, option_map, inl, inr, refl, sym, ap, subst, ◌∙◌, arith, EntryIndex, LogQueue, Append, Rewrite, IsRun, Stored, overlay, overlaid_table, Step, AreSteps, table_of, Table}
+use Rattle.raft_engine_laws.proofs.Common.{AreTableEntries, same_some, no_table, table_after, Event, batches, IsReadingOfBoth, steps_of, is_named, FilesFrom, Apart, IsSoundIn, RegionStep, Tables, steps_on, steps_of_items, steps_good, HasNoMarker, AreKept, IsToldNowOrLater}
+use Rattle.raft_engine_laws.proofs.Common.{IsRewrittenNext, Records, entries_told, after_changes, live, HasRecords, HaveRecords, Deed, Write, Sync, Crash, written, deleted, MayStand, in_files_from, IsLeft, IsNextIn, LoseNothing, IsSafe, AreRemovals, SayEnoughAtOpening}
 use Rattle.std.specs.FinMap as finite
-use Rattle.raft_base.specs.declared.entry_index.EntryIndex.{EntryIndex}
-use Rattle.raft_base.specs.declared.pipe_log.LogQueue.{LogQueue}
-use Rattle.raft_base.specs.declared.pipe_log.LogQueue.TheVariants.{Append, Rewrite}
-use Rattle.raft_base.specs.Runs.{IsRun}
-use Rattle.raft_table.specs.KeyValues.{Stored}
-use Rattle.raft_table.specs.Overlay.{overlay, overlaid_table}
-use Rattle.raft_table.specs.Steps.{Step, AreSteps, table_of}
-use Rattle.raft_table.specs.Table.{Table}
-use Rattle.raft_table.specs.TableEntries.{AreTableEntries}
-use Rattle.raft_table.proofs.MarkEntries.{same_some}
-use Rattle.raft_table.proofs.MarkRuns.{no_table, table_after}
-use Rattle.raft_history.specs.Batches.{Event, batches}
-use Rattle.raft_history.specs.BothQueues.{IsReadingOfBoth}
-use Rattle.raft_history.specs.Effects.{steps_of, is_named}
-use Rattle.raft_history.specs.Histories.{FilesFrom, Apart, IsSoundIn}
-use Rattle.raft_history.specs.RegionSteps.{RegionStep, Tables, steps_on, steps_of_items}
-use Rattle.raft_history.proofs.SoundLemmas.{steps_good}
-use Rattle.raft_engine_laws.specs.Groups.{HasNoMarker}
-use Rattle.raft_engine_laws.specs.KeptTables.{AreKept}
-use Rattle.raft_engine_laws.specs.MarksTold.{IsToldNowOrLater}
-use Rattle.raft_engine_laws.specs.NextBatches.{IsRewrittenNext}
-use Rattle.raft_engine_laws.specs.Records.{Records, entries_told, after_changes, live, HasRecords, HaveRecords}
-use Rattle.raft_engine_laws.specs.Crashes.{Deed, Write, Sync, Crash, written, deleted, MayStand, in_files_from, IsLeft, IsNextIn, LoseNothing, IsSafe}
-use Rattle.raft_engine_laws.specs.Telling.{AreRemovals, SayEnoughAtOpening}
 use Rattle.raft_engine_laws.proofs.BaseRecords as before
 use Rattle.raft_engine_laws.proofs.BothTables.{both_records}
 use Rattle.raft_engine_laws.proofs.FoundTables.{kept_found}

@@ -1,22 +1,8 @@
 -- What is written to the rewrite queue is safe.
-use Rattle.std.proofs.Common.{◌≡◌, ◌⊎◌, ℕ, ◌≤◌, List, [], ◌∷◌, ◌++◌, Some, inl, inr, refl, sym, ap, subst, ◌∙◌, arith}
+use Rattle.raft_engine_laws.proofs.Common.{◌≡◌, ◌⊎◌, ℕ, ◌≤◌, List, [], ◌∷◌, ◌++◌, Some, inl, inr, refl, sym, ap, subst, ◌∙◌, arith, EntryIndex, Rewrite, table_of, Table, Event, Apart, IsOneReading, RegionStep, Tables, steps_on, steps_of_items, files-append, Rewriting}
+use Rattle.raft_engine_laws.proofs.Common.{after_items, HasNoMarker, LeavesOpen, AreKept, AreRecordsMoved, IsMovingBatch, IsRewrittenNext, Records, live, HaveRecords, Deed, Write, written, deleted, IsSynced, MayStand, MayBeGone, in_files_from, IsLeft, IsNextIn, IsKeptWith}
+use Rattle.raft_engine_laws.proofs.Common.{IsSafe, AreRemovals, SayTheSame}
 use Rattle.std.specs.FinMap as finite
-use Rattle.raft_base.specs.declared.entry_index.EntryIndex.{EntryIndex}
-use Rattle.raft_base.specs.declared.pipe_log.LogQueue.TheVariants.{Rewrite}
-use Rattle.raft_table.specs.Steps.{table_of}
-use Rattle.raft_table.specs.Table.{Table}
-use Rattle.raft_history.specs.Batches.{Event}
-use Rattle.raft_history.specs.Histories.{Apart, IsOneReading}
-use Rattle.raft_history.specs.RegionSteps.{RegionStep, Tables, steps_on, steps_of_items}
-use Rattle.raft_history.proofs.SoundLemmas.{files-append}
-use Rattle.raft_accessor.specs.Writes.{Rewriting, after_items}
-use Rattle.raft_engine_laws.specs.Groups.{HasNoMarker, LeavesOpen}
-use Rattle.raft_engine_laws.specs.KeptTables.{AreKept}
-use Rattle.raft_engine_laws.specs.Moving.{AreRecordsMoved, IsMovingBatch}
-use Rattle.raft_engine_laws.specs.NextBatches.{IsRewrittenNext}
-use Rattle.raft_engine_laws.specs.Records.{Records, live, HaveRecords}
-use Rattle.raft_engine_laws.specs.Crashes.{Deed, Write, written, deleted, IsSynced, MayStand, MayBeGone, in_files_from, IsLeft, IsNextIn, IsKeptWith, IsSafe}
-use Rattle.raft_engine_laws.specs.Telling.{AreRemovals, SayTheSame}
 use Rattle.raft_engine_laws.proofs.GroupRows.{alone_apart, open_apart}
 use Rattle.raft_engine_laws.proofs.KeptRewrites.{telling_kept, held_kept, moved_kept}
 use Rattle.raft_engine_laws.proofs.MovingBatches.{moves, moving_kept}

@@ -1,19 +1,7 @@
 -- What is done to the append queue, and to queues that are synced, is safe.
-use Rattle.std.proofs.Common.{◌≡◌, ◌⊎◌, ℕ, ◌≤◌, List, [], ◌∷◌, ◌++◌, Some, inl, inr, refl, sym, ap, subst, ◌∙◌, arith}
+use Rattle.raft_engine_laws.proofs.Common.{◌≡◌, ◌⊎◌, ℕ, ◌≤◌, List, [], ◌∷◌, ◌++◌, Some, inl, inr, refl, sym, ap, subst, ◌∙◌, arith, EntryIndex, Append, Rewrite, Event, IsOneReading, RegionStep, Tables, steps_on, steps_of_items, files-append, table_of, Appending, after_items}
+use Rattle.raft_engine_laws.proofs.Common.{AreKept, IsWrittenNext, Records, no_base, live, HaveRecords, Deed, Write, Sync, written, deleted, MayStand, MayBeGone, in_files_from, IsLeft, IsNextIn, IsKeptWith, IsSafe, SayEnough, SayTheSame}
 use Rattle.std.specs.FinMap as finite
-use Rattle.raft_base.specs.declared.entry_index.EntryIndex.{EntryIndex}
-use Rattle.raft_base.specs.declared.pipe_log.LogQueue.TheVariants.{Append, Rewrite}
-use Rattle.raft_history.specs.Batches.{Event}
-use Rattle.raft_history.specs.Histories.{IsOneReading}
-use Rattle.raft_history.specs.RegionSteps.{RegionStep, Tables, steps_on, steps_of_items}
-use Rattle.raft_history.proofs.SoundLemmas.{files-append}
-use Rattle.raft_table.specs.Steps.{table_of}
-use Rattle.raft_accessor.specs.Writes.{Appending, after_items}
-use Rattle.raft_engine_laws.specs.KeptTables.{AreKept}
-use Rattle.raft_engine_laws.specs.NextBatches.{IsWrittenNext}
-use Rattle.raft_engine_laws.specs.Records.{Records, no_base, live, HaveRecords}
-use Rattle.raft_engine_laws.specs.Crashes.{Deed, Write, Sync, written, deleted, MayStand, MayBeGone, in_files_from, IsLeft, IsNextIn, IsKeptWith, IsSafe}
-use Rattle.raft_engine_laws.specs.Telling.{SayEnough, SayTheSame}
 use Rattle.raft_engine_laws.proofs.AlikeTables.{alike_taken}
 use Rattle.raft_engine_laws.proofs.KeptWrites.{written_kept}
 use Rattle.raft_engine_laws.proofs.NoFiles.{none_kept}

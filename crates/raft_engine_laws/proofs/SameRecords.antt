@@ -1,16 +1,6 @@
 -- A table with the same records as a kept one is kept.
-use Rattle.std.proofs.Common.{◌≡◌, ℕ, List, sym, ap, subst, ◌∙◌}
+use Rattle.raft_engine_laws.proofs.Common.{◌≡◌, ℕ, List, sym, ap, subst, ◌∙◌, EntryIndex, Append, Rewrite, last_pair, Step, Table, placed_in, AreTableEntries, IsMovedPair, IsRegionKept, AreMoved, unspoken}
 use Rattle.std.specs.FinMap as finite
-use Rattle.raft_base.specs.declared.entry_index.EntryIndex.{EntryIndex}
-use Rattle.raft_base.specs.declared.pipe_log.LogQueue.TheVariants.{Append, Rewrite}
-use Rattle.raft_table.specs.LastWord.{last_pair}
-use Rattle.raft_table.specs.Steps.{Step}
-use Rattle.raft_table.specs.Table.{Table}
-use Rattle.raft_table.specs.TableEntries.{placed_in, AreTableEntries}
-use Rattle.raft_contexts.specs.MovedPlaces.{IsMovedPair}
-use Rattle.raft_engine_laws.specs.KeptRegions.{IsRegionKept}
-use Rattle.raft_engine_laws.specs.MovedRecords.{AreMoved}
-use Rattle.raft_engine_laws.specs.Speaking.{unspoken}
 
 -- a table's entries, and the pairs under each key, are those of another
 pub record HasRecordsOf (t u : Table) : Type 0 where

@@ -1,25 +1,8 @@
 -- The front of the append files goes.
-use Rattle.std.proofs.Common.{◌≡◌, ℕ, ◌<◌, ◌≤◌, Bool, true, false, ◌||◌, List, [], ◌∷◌, ◌++◌, Option, Some, None, inl, inr, refl, sym, ap, subst, ◌∙◌, append-nil, arith}
-use Rattle.std.specs.List.{AllByRecursion, list_any}
-use Rattle.std.specs.Option.{option_and_then}
+use Rattle.raft_engine_laws.proofs.Common.{◌≡◌, ℕ, ◌<◌, ◌≤◌, Bool, true, false, ◌||◌, List, [], ◌∷◌, ◌++◌, Option, Some, None, inl, inr, refl, sym, ap, subst, ◌∙◌, append-nil, arith, AllByRecursion, list_any, option_and_then, false≢true, EntryIndex, Append, Rewrite, place_seq}
+use Rattle.raft_engine_laws.proofs.Common.{Stored, speaks_of_key, last_pair, Step, AreSteps, table_of, after, Table, placed_in, after-append, no_table, table_after, placed_in-append, IsMovedPair, AreFrom, NeedsNoneBelow, IsRegionKept, AreMoved, is_key_spoken, is_index_spoken}
+use Rattle.raft_engine_laws.proofs.Common.{unspoken, IsOver}
 use Rattle.std.specs.FinMap as finite
-use Rattle.std.proofs.lemmas.Bool.{false≢true}
-use Rattle.raft_base.specs.declared.entry_index.EntryIndex.{EntryIndex}
-use Rattle.raft_base.specs.declared.pipe_log.LogQueue.TheVariants.{Append, Rewrite}
-use Rattle.raft_table.specs.Fetches.{place_seq}
-use Rattle.raft_table.specs.KeyValues.{Stored}
-use Rattle.raft_table.specs.LastWord.{speaks_of_key, last_pair}
-use Rattle.raft_table.specs.Steps.{Step, AreSteps, table_of, after}
-use Rattle.raft_table.specs.Table.{Table}
-use Rattle.raft_table.specs.TableEntries.{placed_in}
-use Rattle.raft_table.proofs.MarkLaws.{after-append}
-use Rattle.raft_table.proofs.MarkRuns.{no_table, table_after}
-use Rattle.raft_table.proofs.RunLemmas.{placed_in-append}
-use Rattle.raft_contexts.specs.MovedPlaces.{IsMovedPair}
-use Rattle.raft_engine_laws.specs.DeletedFiles.{AreFrom, NeedsNoneBelow}
-use Rattle.raft_engine_laws.specs.KeptRegions.{IsRegionKept}
-use Rattle.raft_engine_laws.specs.MovedRecords.{AreMoved}
-use Rattle.raft_engine_laws.specs.Speaking.{is_key_spoken, is_index_spoken, unspoken, IsOver}
 use Rattle.raft_engine_laws.proofs.EachLemmas.{each_left, left_each, each_gone, gone_each}
 use Rattle.raft_engine_laws.proofs.FileWords.{IsSeqBelow, AreBelow, IsStepBelow}
 use Rattle.raft_engine_laws.proofs.KeyLemmas.{pair_later, pair_prefix}

@@ -1,16 +1,6 @@
 -- Entries beside kept ones are consecutive as these are, and rewritten places stand in front.
-use Rattle.std.proofs.Common.{◌≡◌, ◌⊎◌, ℕ, suc, ◌<◌, ◌-◌, ◌^◌, Bool, true, false, cond, List, [], ◌∷◌, ◌++◌, inl, inr, refl, sym, ap, subst, ◌∙◌, append-nil}
-use Rattle.std.specs.List.{AllByRecursion}
-use Rattle.std.proofs.lemmas.Bool.{false≢true}
-use Rattle.raft_base.specs.declared.entry_index.EntryIndex.{EntryIndex}
-use Rattle.raft_base.specs.declared.pipe_log.LogQueue.{LogQueue}
-use Rattle.raft_base.specs.declared.pipe_log.LogQueue.TheVariants.{Append, Rewrite}
-use Rattle.raft_base.specs.Runs.{RisesFrom, IsRun, IsConsecutive}
-use Rattle.raft_table.specs.TableEntries.{placed_in, is_placed_in, RewrittenInFront}
-use Rattle.raft_table.proofs.PlaceLemmas.{placed_each, placed_in_other}
-use Rattle.raft_table.proofs.RunLemmas.{placed_in-append}
-use Rattle.raft_history.proofs.EffectLemmas.{each-append, each_weaker}
-use Rattle.raft_engine_laws.specs.MovedRecords.{AreMoved}
+use Rattle.raft_engine_laws.proofs.Common.{◌≡◌, ◌⊎◌, ℕ, suc, ◌<◌, ◌-◌, ◌^◌, Bool, true, false, cond, List, [], ◌∷◌, ◌++◌, inl, inr, refl, sym, ap, subst, ◌∙◌, append-nil, AllByRecursion, false≢true, EntryIndex, LogQueue, Append, Rewrite, RisesFrom, IsRun, IsConsecutive}
+use Rattle.raft_engine_laws.proofs.Common.{placed_in, is_placed_in, RewrittenInFront, placed_each, placed_in_other, placed_in-append, each-append, each_weaker, AreMoved}
 use Rattle.raft_engine_laws.proofs.EachLemmas.{Each}
 use Rattle.raft_engine_laws.proofs.MovedLemmas.{moved_each, run_seen}
 

@@ -1,14 +1,6 @@
 -- What steps leave, in the words of overlays.
-use Rattle.std.proofs.Common.{◌≡◌, ℕ, Bool, true, false, not, ◌||◌, List, [], ◌∷◌, Option, Some, None, refl, sym, ap, arith}
-use Rattle.std.specs.Prelude.{◌&&◌, nat_lt, nat_le, max}
-use Rattle.std.proofs.lemmas.Bool.Decides.{nat_tests}
-use Rattle.std.proofs.lemmas.Bool.{false≢true}
-use Rattle.raft_base.specs.declared.entry_index.EntryIndex.{EntryIndex}
-use Rattle.raft_table.specs.KeyValues.{lesser}
-use Rattle.raft_table.specs.Marks.{is_under, entries_within}
-use Rattle.raft_table.specs.Overlay.{has_clean, greatest_compaction, least_cut}
-use Rattle.raft_table.specs.Steps.{Step, Run, Compact, Truncate, Put, Del, AtomicGroup, Clean}
-use Rattle.raft_engine_laws.specs.Speaking.{is_index_spoken, unspoken}
+use Rattle.raft_engine_laws.proofs.Common.{◌≡◌, ℕ, Bool, true, false, not, ◌||◌, List, [], ◌∷◌, Option, Some, None, refl, sym, ap, arith, ◌&&◌, nat_lt, nat_le, max, nat_tests, false≢true, EntryIndex, lesser, is_under, entries_within, has_clean, greatest_compaction, least_cut}
+use Rattle.raft_engine_laws.proofs.Common.{Step, Run, Compact, Truncate, Put, Del, AtomicGroup, Clean, is_index_spoken, unspoken}
 use Rattle.raft_engine_laws.proofs.TestLemmas.{or_later}
 use Rattle.raft_engine_laws.proofs.UnspokenLemmas.{same_filter, filter-none}
 

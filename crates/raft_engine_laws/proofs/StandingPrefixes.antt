@@ -1,7 +1,5 @@
 -- What may stand is a prefix of what was written, with all that was synced.
-use Rattle.std.proofs.Common.{◌≡◌, ◌⊎◌, List, [], ◌∷◌, ◌++◌, inl, inr, refl, sym, ap, ◌∙◌, append-nil, append_assoc}
-use Rattle.raft_history.specs.Batches.{Event}
-use Rattle.raft_engine_laws.specs.Crashes.{Deed, Write, Sync, Delete, Crash, written, synced, MayStand}
+use Rattle.raft_engine_laws.proofs.Common.{◌≡◌, ◌⊎◌, List, [], ◌∷◌, ◌++◌, inl, inr, refl, sym, ap, ◌∙◌, append-nil, append_assoc, Event, Deed, Write, Sync, Delete, Crash, written, synced, MayStand}
 
 -- ---- lists
 

@@ -1,30 +1,10 @@
 -- Tables take items that move records within the rewrite queue, of many regions and in any order, if their rewritten pairs are in no later file.
-use Rattle.std.proofs.Common.{◌≡◌, ℕ, ◌≤◌, eqb, Bool, true, false, cond, List, [], ◌∷◌, ◌++◌, Option, Some, None, option_map, inl, inr, refl, sym, ap, subst, ◌∙◌, append-nil, arith}
-use Rattle.std.specs.Prelude.{flat_map, nat_lt}
-use Rattle.std.proofs.lemmas.Bool.{false≢true}
-use Rattle.std.proofs.lemmas.Bool.Decides.{nat_tests}
-use Rattle.std.specs.List.{AllByRecursion}
-use Rattle.std.specs.Option.{option_and_then}
+use Rattle.raft_engine_laws.proofs.Common.{◌≡◌, ℕ, ◌≤◌, eqb, Bool, true, false, cond, List, [], ◌∷◌, ◌++◌, Option, Some, None, option_map, inl, inr, refl, sym, ap, subst, ◌∙◌, append-nil, arith, flat_map, nat_lt, false≢true, nat_tests, AllByRecursion, option_and_then, EntryIndex}
+use Rattle.raft_engine_laws.proofs.Common.{FileId, LogQueue, Append, Rewrite, OpType, is_reserved, Item, Content, Pair, entries, command, pair, Stored, moved_to, with_moved, Run, Put, Del, Step, table_of, Table, after_rewrite_key, rewritten_in, rewritten_pair, placed_in}
+use Rattle.raft_engine_laws.proofs.Common.{AreTableEntries, RegionStep, Tables, pair_step, steps_of_items, steps_on, with_table, by_region, with_own, with_other, own_head, own_other, with_step, Rewriting, after_content, after_items, after_rewrite_pair, with_change, with_same}
+use Rattle.raft_engine_laws.proofs.Common.{AreCopies, IsPutAgain, MoveAgain, MovesAgain, entries_on, run_of}
 use Rattle.std.specs.FinMap as finite
-use Rattle.raft_base.specs.declared.entry_index.EntryIndex.{EntryIndex}
-use Rattle.raft_base.specs.declared.pipe_log.FileId.{FileId}
-use Rattle.raft_base.specs.declared.pipe_log.LogQueue.{LogQueue}
-use Rattle.raft_base.specs.declared.pipe_log.LogQueue.TheVariants.{Append, Rewrite}
-use Rattle.raft_records.specs.declared.key_value.OpType.{OpType}
 use Rattle.raft_records.specs.declared.key_value.OpType.TheVariants as operations
-use Rattle.raft_records.specs.Group.{is_reserved}
-use Rattle.raft_records.specs.Item.{Item, Content, Pair, entries, command, pair}
-use Rattle.raft_table.specs.KeyValues.{Stored, moved_to, with_moved}
-use Rattle.raft_table.specs.Steps.{Run, Put, Del, Step, table_of}
-use Rattle.raft_table.specs.Table.{Table, after_rewrite_key, rewritten_in, rewritten_pair}
-use Rattle.raft_table.specs.TableEntries.{placed_in, AreTableEntries}
-use Rattle.raft_history.specs.RegionSteps.{RegionStep, Tables, pair_step, steps_of_items, steps_on, with_table}
-use Rattle.raft_history.proofs.MapLemmas.{by_region, with_own, with_other}
-use Rattle.raft_history.proofs.StepListLemmas.{own_head, own_other}
-use Rattle.raft_history.proofs.Words.{with_step}
-use Rattle.raft_accessor.specs.Writes.{Rewriting, after_content, after_items, after_rewrite_pair, with_change}
-use Rattle.raft_accessor.proofs.MapLemmas.{with_same}
-use Rattle.raft_engine_laws.specs.Moving.{AreCopies, IsPutAgain, MoveAgain, MovesAgain, entries_on, run_of}
 use Rattle.raft_engine_laws.proofs.AgainSteps.{IsAgain, copies_split, put_again, run_again, takes}
 use Rattle.raft_engine_laws.proofs.CopiedPairs.{now_there}
 

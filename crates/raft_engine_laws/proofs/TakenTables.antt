@@ -1,23 +1,9 @@
 -- Steps that take something away of a table, and those that don't.
-use Rattle.std.proofs.Common.{◌≡◌, ℕ, Bool, true, false, cond, not, ◌||◌, List, [], ◌∷◌, Option, Some, None, refl, sym, ap, ◌∙◌}
-use Rattle.std.specs.Prelude.{map, filter, is_some, ◌&&◌}
+use Rattle.raft_engine_laws.proofs.Common.{◌≡◌, ℕ, Bool, true, false, cond, not, ◌||◌, List, [], ◌∷◌, Option, Some, None, refl, sym, ap, ◌∙◌, map, filter, is_some, ◌&&◌, AllByRecursion, list_any, nat_cmp, is_eq, slice_cmp, nat_list_cmp_total, find, is_some-find, eq_by_cmp_equiv}
+use Rattle.raft_engine_laws.proofs.Common.{false≢true, any-filter_same, EntryIndex, Stored, speaks_of_index, is_same_key, Step, Run, Compact, Truncate, Put, Del, AtomicGroup, Clean, Table, takes_pair, takes_of, is_index_spoken, unspoken, is_key_dropped, drops_key, pair_left}
+use Rattle.raft_engine_laws.proofs.Common.{AreRemovals}
 use Rattle.std.proofs.Common.{Ordering, Less, Equal, Greater}
-use Rattle.std.specs.List.{AllByRecursion, list_any}
-use Rattle.std.specs.Ordering.{nat_cmp, is_eq}
-use Rattle.std.specs.Cmp.Lexicographic.{slice_cmp, nat_list_cmp_total}
 use Rattle.std.specs.FinMap as finite
-use Rattle.std.specs.FinMap.Entries.{find, is_some-find}
-use Rattle.std.proofs.lemmas.Cmp.{eq_by_cmp_equiv}
-use Rattle.std.proofs.lemmas.Bool.{false≢true}
-use Rattle.std.proofs.lemmas.Map.Views.{any-filter_same}
-use Rattle.raft_base.specs.declared.entry_index.EntryIndex.{EntryIndex}
-use Rattle.raft_table.specs.KeyValues.{Stored}
-use Rattle.raft_table.specs.LastWord.{speaks_of_index, is_same_key}
-use Rattle.raft_table.specs.Steps.{Step, Run, Compact, Truncate, Put, Del, AtomicGroup, Clean}
-use Rattle.raft_table.specs.Table.{Table}
-use Rattle.raft_contexts.specs.TakenAway.{takes_pair, takes_of}
-use Rattle.raft_engine_laws.specs.Speaking.{is_index_spoken, unspoken, is_key_dropped, drops_key, pair_left}
-use Rattle.raft_engine_laws.specs.Telling.{AreRemovals}
 use Rattle.raft_engine_laws.proofs.TestLemmas.{or_first, or_later, any_weaker}
 
 -- ---- entries

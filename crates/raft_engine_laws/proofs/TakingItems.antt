@@ -1,21 +1,10 @@
 -- The items that take something away of the tables, beside the steps that do, and where they are placed.
-use Rattle.std.proofs.Common.{◌≡◌, ℕ, Bool, true, false, cond, List, [], ◌∷◌, ◌++◌, map, Option, Some, None, refl, sym, ap, subst, ◌∙◌}
+use Rattle.raft_engine_laws.proofs.Common.{◌≡◌, ℕ, Bool, true, false, cond, List, [], ◌∷◌, ◌++◌, map, Option, Some, None, refl, sym, ap, subst, ◌∙◌, CompressionType, FileBlockHandle, FileId, end_of, OpType, is_reserved, Item, Content, entries, command, pair, placed_content}
+use Rattle.raft_engine_laws.proofs.Common.{placed_item, Step, table_of, Tables, content_step, pair_step, steps_on, steps_of_items, with_step, some_is, none_some, SayTheSame, takes_away, taking_steps, told_of, told_items, is_deletion, content_takes_away, item_takes_from}
+use Rattle.raft_engine_laws.proofs.Common.{taking_items}
 use Rattle.std.specs.FinMap as finite
-use Rattle.raft_base.specs.declared.compression_type.CompressionType.{CompressionType}
-use Rattle.raft_base.specs.declared.pipe_log.FileBlockHandle.{FileBlockHandle}
-use Rattle.raft_base.specs.declared.pipe_log.FileId.{FileId}
-use Rattle.raft_base.specs.Runs.{end_of}
 use Rattle.raft_records.specs.declared.command.Command.TheVariants as commands
-use Rattle.raft_records.specs.declared.key_value.OpType.{OpType}
 use Rattle.raft_records.specs.declared.key_value.OpType.TheVariants as operations
-use Rattle.raft_records.specs.Group.{is_reserved}
-use Rattle.raft_records.specs.Item.{Item, Content, entries, command, pair}
-use Rattle.raft_records.specs.ItemBatch.{placed_content, placed_item}
-use Rattle.raft_table.specs.Steps.{Step, table_of}
-use Rattle.raft_history.specs.RegionSteps.{Tables, content_step, pair_step, steps_on, steps_of_items}
-use Rattle.raft_history.proofs.Words.{with_step}
-use Rattle.raft_accessor.proofs.MapLemmas.{some_is, none_some}
-use Rattle.raft_engine_laws.specs.Telling.{SayTheSame, takes_away, taking_steps, told_of, told_items, is_deletion, content_takes_away, item_takes_from, taking_items}
 use Rattle.raft_engine_laws.proofs.ToldItems.{told_same}
 
 -- ---- items and their steps

@@ -1,8 +1,5 @@
 -- Tests that are put together.
-use Rattle.std.proofs.Common.{◌≡◌, Bool, true, false, not, ◌||◌, List, [], ◌∷◌, ◌++◌, refl}
-use Rattle.std.specs.Prelude.{◌&&◌}
-use Rattle.std.specs.List.{list_any}
-use Rattle.std.proofs.lemmas.Bool.{false≢true}
+use Rattle.raft_engine_laws.proofs.Common.{◌≡◌, Bool, true, false, not, ◌||◌, List, [], ◌∷◌, ◌++◌, refl, ◌&&◌, list_any, false≢true}
 
 pub or_first : (a b : Bool) → a ≡ true → (a || b) ≡ true
 or_first true b e = refl

@@ -1,55 +1,14 @@
 -- What a context of the append queue takes away of rewritten tables is told of each region, at once or later.
-use Rattle.std.proofs.Common.{◌≡◌, ℕ, Bool, true, false, cond, ◌||◌, List, [], ◌∷◌, ◌++◌, map, Option, Some, None, refl, sym, ap, subst, ◌∙◌}
-use Rattle.std.specs.Prelude.{filter, flat_map, is_some, nat_le, ◌&&◌}
+use Rattle.raft_engine_laws.proofs.Common.{◌≡◌, ℕ, Bool, true, false, cond, ◌||◌, List, [], ◌∷◌, ◌++◌, map, Option, Some, None, refl, sym, ap, subst, ◌∙◌, filter, flat_map, is_some, nat_le, ◌&&◌, AllByRecursion, list_any, nat_cmp, slice_cmp, false≢true, nil_from_length, IsRun}
+use Rattle.raft_engine_laws.proofs.Common.{end_of, EntryIndex, FileId, Append, Rewrite, OpType, is_reserved, Content, Item, command, entries, pair, Batch, is_same_key, Mark, entries_within, is_under, IsExactMark, greatest_compaction, has_clean, is_unjoined, least_cut, overlay}
+use Rattle.raft_engine_laws.proofs.Common.{Stands, Step, Run, Compact, Truncate, Put, Del, AtomicGroup, Clean, IsTableOf, table_of, Stored, Table, empty_table, AreTableEntries, RewrittenInFront, is_placed_in, placed_in, same_some, overlay_exact, overlay_run, each_placed}
+use Rattle.raft_engine_laws.proofs.Common.{placed_in_other, in_front_of, BatchSteps, Event, batches, IsReadingOfBoth, AreExact, steps_of, IsSoundIn, MarkedRegions, region_in, RegionStep, Tables, content_step, pair_step, steps_of_items, steps_on, exact_reading, each_step_of}
+use Rattle.raft_engine_laws.proofs.Common.{each-append, each_filter, steps_good, with_step, RecoverContext, bounds_told, cut_told, first_in, first_of, front_told, is_apart_at, is_front_dropped, item_of_step, items_of_steps, items_of_table, keys_deleted, steps_at_once}
+use Rattle.raft_engine_laws.proofs.Common.{steps_later, takes_of, told_by_mark, IsTakenAway, TakenAway, IsToldByMark, IsToldNowOrLater, is_key_dropped, AreBothRead, IsTakenToldByMarks, IsTakenToldNowOrLater, AreAllSteps, TakeAway}
 use Rattle.std.specs.FinMap as finite
 use Rattle.std.specs.FinSet as finset
-use Rattle.std.specs.List.{AllByRecursion, list_any}
-use Rattle.std.specs.Ordering.{nat_cmp}
-use Rattle.std.specs.Cmp.Lexicographic.{slice_cmp}
-use Rattle.std.proofs.lemmas.Bool.{false≢true}
-use Rattle.std.proofs.lemmas.List.{nil_from_length}
-use Rattle.raft_base.specs.Runs.{IsRun, end_of}
-use Rattle.raft_base.specs.declared.entry_index.EntryIndex.{EntryIndex}
-use Rattle.raft_base.specs.declared.pipe_log.FileId.{FileId}
-use Rattle.raft_base.specs.declared.pipe_log.LogQueue.TheVariants.{Append, Rewrite}
 use Rattle.raft_records.specs.declared.command.Command.TheVariants as commands
-use Rattle.raft_records.specs.declared.key_value.OpType.{OpType}
 use Rattle.raft_records.specs.declared.key_value.OpType.TheVariants as operations
-use Rattle.raft_records.specs.Group.{is_reserved}
-use Rattle.raft_records.specs.Item.{Content, Item, command, entries, pair}
-use Rattle.raft_records.specs.LogBatch.{Batch}
-use Rattle.raft_table.specs.LastWord.{is_same_key}
-use Rattle.raft_table.specs.Marks.{Mark, entries_within, is_under}
-use Rattle.raft_table.specs.Overlay.{IsExactMark, greatest_compaction, has_clean, is_unjoined, least_cut, overlay}
-use Rattle.raft_table.specs.Stands.{Stands}
-use Rattle.raft_table.specs.Steps.{Step, Run, Compact, Truncate, Put, Del, AtomicGroup, Clean, IsTableOf, table_of}
-use Rattle.raft_table.specs.KeyValues.{Stored}
-use Rattle.raft_table.specs.Table.{Table, empty_table}
-use Rattle.raft_table.specs.TableEntries.{AreTableEntries, RewrittenInFront, is_placed_in, placed_in}
-use Rattle.raft_table.proofs.MarkEntries.{same_some}
-use Rattle.raft_table.proofs.OverlayLemmas.{overlay_exact, overlay_run}
-use Rattle.raft_table.proofs.PlaceLemmas.{each_placed, placed_in_other}
-use Rattle.raft_table.proofs.RewriteLemmas.{in_front_of}
-use Rattle.raft_history.specs.Batches.{BatchSteps, Event, batches}
-use Rattle.raft_history.specs.BothQueues.{IsReadingOfBoth}
-use Rattle.raft_history.specs.Contexts.{AreExact}
-use Rattle.raft_history.specs.Effects.{steps_of}
-use Rattle.raft_history.specs.Histories.{IsSoundIn}
-use Rattle.raft_history.specs.MarkedRegions.{MarkedRegions, region_in}
-use Rattle.raft_history.specs.RegionSteps.{RegionStep, Tables, content_step, pair_step, steps_of_items, steps_on}
-use Rattle.raft_history.proofs.ContextLaws.{exact_reading}
-use Rattle.raft_history.proofs.EachStepLemmas.{each_step_of}
-use Rattle.raft_history.proofs.EffectLemmas.{each-append, each_filter}
-use Rattle.raft_history.proofs.SoundLemmas.{steps_good}
-use Rattle.raft_history.proofs.Words.{with_step}
-use Rattle.raft_contexts.specs.RecoverContext.{RecoverContext}
-use Rattle.raft_contexts.specs.TakenAway.{bounds_told, cut_told, first_in, first_of, front_told, is_apart_at, is_front_dropped, item_of_step, items_of_steps, items_of_table, keys_deleted, steps_at_once, steps_later, takes_of, told_by_mark}
-use Rattle.raft_contexts.specs.TakenBatches.{IsTakenAway}
-use Rattle.raft_contexts.specs.declared.taken_away.TakenAway.{TakenAway}
-use Rattle.raft_engine_laws.specs.MarksTold.{IsToldByMark, IsToldNowOrLater}
-use Rattle.raft_engine_laws.specs.Speaking.{is_key_dropped}
-use Rattle.raft_engine_laws.specs.TakenTold.{AreBothRead, IsTakenToldByMarks, IsTakenToldNowOrLater}
-use Rattle.raft_engine_laws.specs.Telling.{AreAllSteps, TakeAway}
 use Rattle.raft_engine_laws.proofs.BothTables.{both_records}
 use Rattle.raft_engine_laws.proofs.MarksTold.{deleted_drop}
 use Rattle.raft_engine_laws.proofs.QueueSteps.{IsBounded, read_bounded, read_places, steps_of_queue, steps_placed}

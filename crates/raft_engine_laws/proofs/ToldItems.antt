@@ -1,27 +1,9 @@
 -- What is told of items takes away what they take away.
-use Rattle.std.proofs.Common.{◌≡◌, ℕ, Bool, true, false, cond, eqb, ◌||◌, List, [], ◌∷◌, ◌++◌, Option, Some, None, option_map, refl, sym, ap, subst, ◌∙◌}
-use Rattle.std.specs.List.{AllByRecursion}
-use Rattle.std.specs.Option.{option_or, option_and_then}
-use Rattle.raft_base.specs.declared.pipe_log.FileId.{FileId}
-use Rattle.raft_base.specs.declared.pipe_log.LogQueue.{LogQueue}
-use Rattle.raft_base.specs.declared.pipe_log.LogQueue.TheVariants.{Append, Rewrite}
+use Rattle.raft_engine_laws.proofs.Common.{◌≡◌, ℕ, Bool, true, false, cond, eqb, ◌||◌, List, [], ◌∷◌, ◌++◌, Option, Some, None, option_map, refl, sym, ap, subst, ◌∙◌, AllByRecursion, option_or, option_and_then, FileId, LogQueue, Append, Rewrite, OpType, first_marker, is_reserved}
+use Rattle.raft_engine_laws.proofs.Common.{marker_byte, marker_byte_in, status_of, Item, Content, entries, command, pair, speaks_of_index, Step, Run, Truncate, Put, Del, marker_in, AreInFile, IsInFile, IsPairIn, HaveStatus, RegionStep, content_step, pair_step, steps_on}
+use Rattle.raft_engine_laws.proofs.Common.{steps_of_items, each-append, own-append, own_none, own_cons, with_step, some_is, none_some, HasNoMarker, is_index_spoken, is_key_dropped, drops_key, IsRemoval, AreRemovals, SayTheSame, TakesAway, TakeAway, told_of, told_items}
 use Rattle.raft_records.specs.declared.command.Command.TheVariants as commands
-use Rattle.raft_records.specs.declared.key_value.OpType.{OpType}
 use Rattle.raft_records.specs.declared.key_value.OpType.TheVariants as operations
-use Rattle.raft_records.specs.Group.{first_marker, is_reserved, marker_byte, marker_byte_in, status_of}
-use Rattle.raft_records.specs.Item.{Item, Content, entries, command, pair}
-use Rattle.raft_table.specs.LastWord.{speaks_of_index}
-use Rattle.raft_table.specs.Steps.{Step, Run, Truncate, Put, Del}
-use Rattle.raft_history.specs.Batches.{marker_in}
-use Rattle.raft_history.specs.Histories.{AreInFile, IsInFile, IsPairIn, HaveStatus}
-use Rattle.raft_history.specs.RegionSteps.{RegionStep, content_step, pair_step, steps_on, steps_of_items}
-use Rattle.raft_history.proofs.EffectLemmas.{each-append}
-use Rattle.raft_history.proofs.StepListLemmas.{own-append, own_none, own_cons}
-use Rattle.raft_history.proofs.Words.{with_step}
-use Rattle.raft_accessor.proofs.MapLemmas.{some_is, none_some}
-use Rattle.raft_engine_laws.specs.Groups.{HasNoMarker}
-use Rattle.raft_engine_laws.specs.Speaking.{is_index_spoken, is_key_dropped, drops_key}
-use Rattle.raft_engine_laws.specs.Telling.{IsRemoval, AreRemovals, SayTheSame, TakesAway, TakeAway, told_of, told_items}
 use Rattle.raft_engine_laws.proofs.KeptWrites.{on_region}
 use Rattle.raft_engine_laws.proofs.TestLemmas.{any-append}
 

@@ -1,20 +1,7 @@
 -- What a region mark tells at once or later of a region that is found.
-use Rattle.std.proofs.Common.{◌≡◌, ℕ, Bool, true, false, cond, ◌||◌, List, [], ◌∷◌, ◌++◌, Option, Some, None, inl, inr, refl, sym, ap, subst, ◌∙◌}
-use Rattle.std.specs.Prelude.{filter, ◌&&◌}
-use Rattle.std.specs.List.{list_any}
-use Rattle.std.proofs.lemmas.Bool.{false≢true}
-use Rattle.raft_base.specs.declared.entry_index.EntryIndex.{EntryIndex}
-use Rattle.raft_base.specs.declared.pipe_log.LogQueue.TheVariants.{Append}
-use Rattle.raft_base.specs.Runs.{IsRun, end_of}
-use Rattle.raft_table.specs.Marks.{Mark, entries_within}
-use Rattle.raft_table.specs.Overlay.{IsExactMark, greatest_compaction, has_clean, is_unjoined, least_cut, overlay, rewritten_within}
-use Rattle.raft_table.specs.Steps.{Step, Compact, AreSteps, after, table_of}
-use Rattle.raft_table.specs.Table.{Table}
-use Rattle.raft_table.specs.TableEntries.{from, start_of}
-use Rattle.raft_contexts.specs.TakenAway.{first_of, front_told, is_apart_at, is_front_dropped, stays_under, steps_at_once, steps_later, takes_of, told_by_mark}
-use Rattle.raft_engine_laws.specs.MarksTold.{IsToldNowOrLater, Joins, told_at_once}
-use Rattle.raft_engine_laws.specs.Speaking.{unspoken}
-use Rattle.raft_engine_laws.specs.Telling.{AreRemovals, SayEnoughAtOpening}
+use Rattle.raft_engine_laws.proofs.Common.{◌≡◌, ℕ, Bool, true, false, cond, ◌||◌, List, [], ◌∷◌, ◌++◌, Option, Some, None, inl, inr, refl, sym, ap, subst, ◌∙◌, filter, ◌&&◌, list_any, false≢true, EntryIndex, Append, IsRun, end_of, Mark, entries_within, IsExactMark}
+use Rattle.raft_engine_laws.proofs.Common.{greatest_compaction, has_clean, is_unjoined, least_cut, overlay, rewritten_within, Step, Compact, AreSteps, after, table_of, Table, from, start_of, first_of, front_told, is_apart_at, is_front_dropped, stays_under, steps_at_once}
+use Rattle.raft_engine_laws.proofs.Common.{steps_later, takes_of, told_by_mark, IsToldNowOrLater, Joins, told_at_once, unspoken, AreRemovals, SayEnoughAtOpening}
 use Rattle.raft_engine_laws.proofs.OpenedEntries.{all_from, from_first, lie_in_front, told_is}
 use Rattle.raft_engine_laws.proofs.SpokenWords.{unspoken_cleaned, unspoken_within}
 use Rattle.raft_engine_laws.proofs.TakenTables.{fewer_removals}

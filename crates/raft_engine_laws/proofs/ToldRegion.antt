@@ -1,21 +1,7 @@
 -- The rewrite queue is told what untold steps take away.
-use Rattle.std.proofs.Common.{◌≡◌, ℕ, Bool, true, false, cond, ◌||◌, List, [], ◌∷◌, ◌++◌, Option, Some, None, refl, sym, ap, ◌∙◌}
-use Rattle.std.specs.List.{list_any}
-use Rattle.std.specs.Option.{option_and_then}
-use Rattle.std.specs.Ordering.{nat_cmp}
-use Rattle.std.specs.Cmp.Lexicographic.{slice_cmp, nat_list_cmp_total}
+use Rattle.raft_engine_laws.proofs.Common.{◌≡◌, ℕ, Bool, true, false, cond, ◌||◌, List, [], ◌∷◌, ◌++◌, Option, Some, None, refl, sym, ap, ◌∙◌, list_any, option_and_then, nat_cmp, slice_cmp, nat_list_cmp_total, EntryIndex, LogQueue, Rewrite, Stored, is_same_key, Step, Run}
+use Rattle.raft_engine_laws.proofs.Common.{Compact, Truncate, Put, Del, AtomicGroup, Clean, table_of, after_step, after, Table, same_some, IsRegionKept, is_index_spoken, unspoken, drops_key, is_key_dropped, pair_left, IsRemoval, AreRemovals, SayTheSame}
 use Rattle.std.specs.FinMap as finite
-use Rattle.raft_base.specs.declared.entry_index.EntryIndex.{EntryIndex}
-use Rattle.raft_base.specs.declared.pipe_log.LogQueue.{LogQueue}
-use Rattle.raft_base.specs.declared.pipe_log.LogQueue.TheVariants.{Rewrite}
-use Rattle.raft_table.specs.KeyValues.{Stored}
-use Rattle.raft_table.specs.LastWord.{is_same_key}
-use Rattle.raft_table.specs.Steps.{Step, Run, Compact, Truncate, Put, Del, AtomicGroup, Clean, table_of, after_step, after}
-use Rattle.raft_table.specs.Table.{Table}
-use Rattle.raft_table.proofs.MarkEntries.{same_some}
-use Rattle.raft_engine_laws.specs.KeptRegions.{IsRegionKept}
-use Rattle.raft_engine_laws.specs.Speaking.{is_index_spoken, unspoken, drops_key, is_key_dropped, pair_left}
-use Rattle.raft_engine_laws.specs.Telling.{IsRemoval, AreRemovals, SayTheSame}
 use Rattle.raft_engine_laws.proofs.OverLemmas.{unspoken-other}
 use Rattle.raft_engine_laws.proofs.TestLemmas.{or_later, any-append}
 use Rattle.raft_engine_laws.proofs.UnspokenLemmas.{spoken-append, unspoken_same, unspoken-none, unspoken-steps, unspoken-compact, unspoken-truncate, unspoken-clean}

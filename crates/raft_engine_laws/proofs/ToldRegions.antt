@@ -1,31 +1,11 @@
 -- What the items that tell of all rewritten tables are on each region.
-use Rattle.std.proofs.Common.{◌≡◌, ℕ, ◌+◌, Bool, true, false, cond, List, [], ◌∷◌, ◌++◌, map, Option, Some, None, IsPermutation, refl, sym, ap, subst, ◌∙◌, append-nil, arith}
+use Rattle.raft_engine_laws.proofs.Common.{◌≡◌, ℕ, ◌+◌, Bool, true, false, cond, List, [], ◌∷◌, ◌++◌, map, Option, Some, None, IsPermutation, refl, sym, ap, subst, ◌∙◌, append-nil, arith, nat_cmp_total, eqb, flat_map, is_some, nat_eq, is_sorted, AllByRecursion, nat_cmp, eqb-true}
+use Rattle.raft_engine_laws.proofs.Common.{false≢true, All-from_recursion, recursion_from_All, All-permutation, IsPermutation-sym, is_reserved, Item, Mark, Step, Run, Compact, Truncate, Put, Del, AtomicGroup, Clean, table_of, Table, empty_table, same_some, find-below}
+use Rattle.raft_engine_laws.proofs.Common.{first_of_both, second_of_both, MarkedRegions, region_in, Tables, steps_of_items, steps_on, own-append, own_cons, own_none, own_other, with_step, eq_self, none_some, Once, same_test, added, added-permuted, first_in, item_of_step}
+use Rattle.raft_engine_laws.proofs.Common.{items_of_steps, items_of_table}
 use lib.Dec.{T}
-use Rattle.std.specs.Cmp.{nat_cmp_total}
-use Rattle.std.specs.Prelude.{eqb, flat_map, is_some, nat_eq}
 use Rattle.std.specs.FinMap as finite
-use Rattle.std.specs.FinMap.{find, is_sorted}
-use Rattle.std.specs.List.{AllByRecursion}
-use Rattle.std.specs.Ordering.{nat_cmp}
-use Rattle.std.proofs.lemmas.Bool.{eqb-true, false≢true}
-use Rattle.std.proofs.lemmas.List.Elements.{All-from_recursion, recursion_from_All}
-use Rattle.std.proofs.lemmas.List.Sorted.{All-permutation, IsPermutation-sym}
-use Rattle.raft_records.specs.Group.{is_reserved}
-use Rattle.raft_records.specs.Item.{Item}
-use Rattle.raft_table.specs.Marks.{Mark}
-use Rattle.raft_table.specs.Steps.{Step, Run, Compact, Truncate, Put, Del, AtomicGroup, Clean, table_of}
-use Rattle.raft_table.specs.Table.{Table, empty_table}
-use Rattle.raft_table.proofs.MarkEntries.{same_some}
-use Rattle.raft_table.proofs.Shown.{find-below, first_of_both, second_of_both}
-use Rattle.raft_history.specs.MarkedRegions.{MarkedRegions, region_in}
-use Rattle.raft_history.specs.RegionSteps.{Tables, steps_of_items, steps_on}
-use Rattle.raft_history.proofs.StepListLemmas.{own-append, own_cons, own_none, own_other}
-use Rattle.raft_history.proofs.Words.{with_step}
-use Rattle.raft_accessor.proofs.MapLemmas.{eq_self, none_some}
-use Rattle.raft_accessor.proofs.OrderLemmas.{Once}
-use Rattle.raft_accessor.proofs.RegionTablesLemmas.{same_test}
-use Rattle.raft_accessor.proofs.TotalSums.{added, added-permuted}
-use Rattle.raft_contexts.specs.TakenAway.{first_in, item_of_step, items_of_steps, items_of_table}
+use Rattle.std.specs.FinMap.{find}
 use Rattle.raft_engine_laws.proofs.ToldItems.{steps-append}
 
 -- a step that an item tells: a command, or the deletion of a key that isn't reserved

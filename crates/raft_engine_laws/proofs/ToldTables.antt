@@ -1,25 +1,9 @@
 -- What a region mark tells of a rewritten table is what its steps take away of it.
-use Rattle.std.proofs.Common.{◌≡◌, ℕ, Bool, true, false, cond, ◌||◌, List, [], ◌∷◌, ◌++◌, Option, Some, None, refl, sym, ap, subst, ◌∙◌}
-use Rattle.std.specs.Prelude.{map, filter, is_some, ◌&&◌}
-use Rattle.std.specs.List.{AllByRecursion, list_any}
-use Rattle.std.specs.Ordering.{nat_cmp}
-use Rattle.std.specs.Cmp.Lexicographic.{slice_cmp}
+use Rattle.raft_engine_laws.proofs.Common.{◌≡◌, ℕ, Bool, true, false, cond, ◌||◌, List, [], ◌∷◌, ◌++◌, Option, Some, None, refl, sym, ap, subst, ◌∙◌, map, filter, is_some, ◌&&◌, AllByRecursion, list_any, nat_cmp, slice_cmp, is_some-find, false≢true, EntryIndex, Stored}
+use Rattle.raft_engine_laws.proofs.Common.{speaks_of_index, is_same_key, Mark, IsExactMark, Step, Compact, Del, Clean, Table, start_of, bounds_told, cut_told, keys_deleted, takes_of, takes_pair, told_by_mark, Joins, MayBeToldLater, told_at_once, is_index_spoken, unspoken}
+use Rattle.raft_engine_laws.proofs.Common.{is_key_dropped, drops_key, pair_left, AreRemovals, SayEnoughAtOpening}
 use Rattle.std.specs.FinMap as finite
-use Rattle.std.specs.FinMap.Entries.{is_some-find}
 use Rattle.std.specs.FinSet as finset
-use Rattle.std.proofs.lemmas.Bool.{false≢true}
-use Rattle.raft_base.specs.declared.entry_index.EntryIndex.{EntryIndex}
-use Rattle.raft_table.specs.KeyValues.{Stored}
-use Rattle.raft_table.specs.LastWord.{speaks_of_index, is_same_key}
-use Rattle.raft_table.specs.Marks.{Mark}
-use Rattle.raft_table.specs.Overlay.{IsExactMark}
-use Rattle.raft_table.specs.Steps.{Step, Compact, Del, Clean}
-use Rattle.raft_table.specs.Table.{Table}
-use Rattle.raft_table.specs.TableEntries.{start_of}
-use Rattle.raft_contexts.specs.TakenAway.{bounds_told, cut_told, keys_deleted, takes_of, takes_pair, told_by_mark}
-use Rattle.raft_engine_laws.specs.MarksTold.{Joins, MayBeToldLater, told_at_once}
-use Rattle.raft_engine_laws.specs.Speaking.{is_index_spoken, unspoken, is_key_dropped, drops_key, pair_left}
-use Rattle.raft_engine_laws.specs.Telling.{AreRemovals, SayEnoughAtOpening}
 use Rattle.raft_engine_laws.proofs.EachLemmas.{each_left}
 use Rattle.raft_engine_laws.proofs.MarksTold.{bounds_say, clean_drops, deleted_drop, keeps_keys}
 use Rattle.raft_engine_laws.proofs.TakenTables.{any_kept, dels_drop, dels_removals, dels_speak, each_quiet, fewer_any, fewer_removals, none_take, self_same, taken_entries, taken_take}

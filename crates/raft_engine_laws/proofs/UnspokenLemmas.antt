@@ -1,15 +1,6 @@
 -- What steps leave of older entries.
-use Rattle.std.proofs.Common.{◌≡◌, ℕ, Bool, true, false, cond, not, ◌||◌, List, [], ◌∷◌, ◌++◌, refl, sym, ap, ◌∙◌, arith}
-use Rattle.std.specs.Prelude.{◌&&◌, nat_lt, nat_le, filter}
-use Rattle.std.specs.List.{AllByRecursion}
-use Rattle.std.proofs.lemmas.List.Elements.{filter-append}
-use Rattle.std.proofs.lemmas.Bool.Decides.{nat_tests}
-use Rattle.raft_base.specs.declared.entry_index.EntryIndex.{EntryIndex}
-use Rattle.raft_table.specs.LastWord.{speaks_of_index}
-use Rattle.raft_table.specs.Steps.{Step, Run, Compact, Truncate, Clean}
-use Rattle.raft_table.specs.TableEntries.{below, from}
-use Rattle.raft_history.proofs.EffectLemmas.{each_filter}
-use Rattle.raft_engine_laws.specs.Speaking.{is_index_spoken, unspoken}
+use Rattle.raft_engine_laws.proofs.Common.{◌≡◌, ℕ, Bool, true, false, cond, not, ◌||◌, List, [], ◌∷◌, ◌++◌, refl, sym, ap, ◌∙◌, arith, ◌&&◌, nat_lt, nat_le, filter, AllByRecursion, filter-append, nat_tests, EntryIndex, speaks_of_index, Step, Run, Compact, Truncate, Clean, below}
+use Rattle.raft_engine_laws.proofs.Common.{from, each_filter, is_index_spoken, unspoken}
 use Rattle.raft_engine_laws.proofs.TestLemmas.{any-append, not_or, or_none, or_swapped}
 
 -- two filters are one

@@ -1,10 +1,5 @@
 -- A new step of the append queue on a table, and what a step puts.
-use Rattle.std.specs.Prelude.{ℕ, List, [], ◌∷◌, Option, Some, option_map}
-use Rattle.std.specs.Option.{option_and_then}
-use Rattle.raft_base.specs.declared.entry_index.EntryIndex.{EntryIndex}
-use Rattle.raft_base.specs.declared.pipe_log.LogQueue.TheVariants.{Append}
-use Rattle.raft_table.specs.Steps.{Step, Run, table_of, after_step}
-use Rattle.raft_table.specs.Table.{Table, after_append}
+use Rattle.raft_engine_laws.proofs.Common.{ℕ, List, [], ◌∷◌, Option, Some, option_map, option_and_then, EntryIndex, Append, Step, Run, table_of, after_step, Table, after_append}
 
 -- the entries that a step puts
 abbrev pub put_by : Step → List EntryIndex

@@ -1,22 +1,8 @@
 -- One step more on a kept region.
-use Rattle.std.proofs.Common.{◌≡◌, ℕ, Bool, true, false, cond, ◌||◌, List, [], ◌∷◌, ◌++◌, Option, Some, None, refl, sym, ap, subst, ◌∙◌, append-nil}
-use Rattle.std.specs.List.{list_any}
-use Rattle.std.specs.Option.{option_and_then}
+use Rattle.raft_engine_laws.proofs.Common.{◌≡◌, ℕ, Bool, true, false, cond, ◌||◌, List, [], ◌∷◌, ◌++◌, Option, Some, None, refl, sym, ap, subst, ◌∙◌, append-nil, list_any, option_and_then, EntryIndex, Append, Rewrite, Stored, speaks_of_index, speaks_of_key, said_of_key}
+use Rattle.raft_engine_laws.proofs.Common.{last_pair, Step, Run, Compact, Truncate, Put, Del, AtomicGroup, Clean, IsStep, AreSteps, table_of, after_step, after, Table, IsStepOfQueue, placed_in, AreTableEntries, after-append, placed_in-append, IsMovedPair, IsRegionKept, AreMoved}
+use Rattle.raft_engine_laws.proofs.Common.{is_key_spoken, unspoken, IsOver, drops_key, pair_left}
 use Rattle.std.specs.FinMap as finite
-use Rattle.raft_base.specs.declared.entry_index.EntryIndex.{EntryIndex}
-use Rattle.raft_base.specs.declared.pipe_log.LogQueue.TheVariants.{Append, Rewrite}
-use Rattle.raft_table.specs.KeyValues.{Stored}
-use Rattle.raft_table.specs.LastWord.{speaks_of_index, speaks_of_key, said_of_key, last_pair}
-use Rattle.raft_table.specs.Steps.{Step, Run, Compact, Truncate, Put, Del, AtomicGroup, Clean, IsStep, AreSteps, table_of, after_step, after}
-use Rattle.raft_table.specs.Table.{Table}
-use Rattle.raft_table.specs.TakenSteps.{IsStepOfQueue}
-use Rattle.raft_table.specs.TableEntries.{placed_in, AreTableEntries}
-use Rattle.raft_table.proofs.MarkLaws.{after-append}
-use Rattle.raft_table.proofs.RunLemmas.{placed_in-append}
-use Rattle.raft_contexts.specs.MovedPlaces.{IsMovedPair}
-use Rattle.raft_engine_laws.specs.KeptRegions.{IsRegionKept}
-use Rattle.raft_engine_laws.specs.MovedRecords.{AreMoved}
-use Rattle.raft_engine_laws.specs.Speaking.{is_key_spoken, unspoken, IsOver, drops_key, pair_left}
 use Rattle.raft_engine_laws.proofs.KeyLemmas.{not_dropping, said_drops}
 use Rattle.raft_engine_laws.proofs.MovedLemmas.{moved_self, moved-append, moved_left, moved_hole, run_seen}
 use Rattle.raft_engine_laws.proofs.OverLemmas.{over_one, put_spoken, entries_after, no_hole}

@@ -1,25 +1,8 @@
 -- One new step of the append queue on a table: it is taken when it is read again, and what it leaves.
-use Rattle.std.proofs.Common.{◌≡◌, ℕ, Bool, true, false, cond, not, ◌||◌, List, [], ◌∷◌, ◌++◌, Option, Some, None, option_map, inl, refl, sym, ap, ◌∙◌}
-use Rattle.std.specs.List.{list_any}
-use Rattle.std.specs.Option.{option_or, option_and_then}
-use Rattle.std.specs.Ordering.{nat_cmp}
-use Rattle.std.specs.Cmp.Lexicographic.{slice_cmp, nat_list_cmp_total}
+use Rattle.raft_engine_laws.proofs.Common.{◌≡◌, ℕ, Bool, true, false, cond, not, ◌||◌, List, [], ◌∷◌, ◌++◌, Option, Some, None, option_map, inl, refl, sym, ap, ◌∙◌, list_any, option_or, option_and_then, nat_cmp, slice_cmp, nat_list_cmp_total, EntryIndex, LogQueue, Append}
+use Rattle.raft_engine_laws.proofs.Common.{Rewrite, Stored, speaks_of_key, said_of_key, last_that, last_pair, leaves_hole, starts_in_front, Step, Run, Compact, Truncate, Put, Del, AtomicGroup, Clean, table_of, after_step, Table, IsStepOfQueue, below, placed_in, is_placed_in}
+use Rattle.raft_engine_laws.proofs.Common.{same_some, each_placed, placed_in_other, filter_comm, IsMovedPair, is_index_spoken, unspoken}
 use Rattle.std.specs.FinMap as finite
-use Rattle.raft_base.specs.declared.entry_index.EntryIndex.{EntryIndex}
-use Rattle.raft_base.specs.declared.pipe_log.LogQueue.{LogQueue}
-use Rattle.raft_base.specs.declared.pipe_log.LogQueue.TheVariants.{Append, Rewrite}
-use Rattle.raft_table.specs.KeyValues.{Stored}
-use Rattle.raft_table.specs.LastWord.{speaks_of_key, said_of_key, last_that, last_pair}
-use Rattle.raft_table.specs.Start.{leaves_hole, starts_in_front}
-use Rattle.raft_table.specs.Steps.{Step, Run, Compact, Truncate, Put, Del, AtomicGroup, Clean, table_of, after_step}
-use Rattle.raft_table.specs.Table.{Table}
-use Rattle.raft_table.specs.TakenSteps.{IsStepOfQueue}
-use Rattle.raft_table.specs.TableEntries.{below, placed_in, is_placed_in}
-use Rattle.raft_table.proofs.MarkEntries.{same_some}
-use Rattle.raft_table.proofs.PlaceLemmas.{each_placed, placed_in_other}
-use Rattle.raft_table.proofs.RunLemmas.{filter_comm}
-use Rattle.raft_contexts.specs.MovedPlaces.{IsMovedPair}
-use Rattle.raft_engine_laws.specs.Speaking.{is_index_spoken, unspoken}
 use Rattle.raft_engine_laws.proofs.TestLemmas.{any-append, or_none}
 use Rattle.raft_engine_laws.proofs.WriteWords.{after_write, put_by}
 

@@ -1,34 +1,11 @@
 -- New items on the tables of all regions.
-use Rattle.std.proofs.Common.{◌≡◌, ℕ, Bool, true, false, cond, ◌||◌, List, [], ◌∷◌, ◌++◌, Option, Some, None, option_map, if◌then◌else◌, inl, inr, refl, sym, ap, subst, ◌∙◌, append-nil, append_assoc}
-use Rattle.std.specs.Prelude.{filter}
-use Rattle.std.specs.List.{AllByRecursion}
-use Rattle.std.specs.Option.{option_and_then}
+use Rattle.raft_engine_laws.proofs.Common.{◌≡◌, ℕ, Bool, true, false, cond, ◌||◌, List, [], ◌∷◌, ◌++◌, Option, Some, None, option_map, if◌then◌else◌, inl, inr, refl, sym, ap, subst, ◌∙◌, append-nil, append_assoc, filter, AllByRecursion, option_and_then, EntryIndex, FileId}
+use Rattle.raft_engine_laws.proofs.Common.{Append, OpType, is_reserved, Item, Content, entries, command, pair, leaves_hole, starts_in_front, Step, Run, Compact, Truncate, Put, Del, AtomicGroup, Clean, AreSteps, table_of, Table, after_append, IsStepOfQueue, below, from}
+use Rattle.raft_engine_laws.proofs.Common.{AreTableEntries, same_some, run_below, run_from, run_replayed, each_placed, AreTableEntries-nil, RewrittenInFront-below, RewrittenInFront-from, in_front_appended, RegionStep, Tables, with_table, content_step, pair_step, steps_of_items}
+use Rattle.raft_engine_laws.proofs.Common.{steps_on, with_step, own_none, own_head, own_other, by_region, with_own, with_other, Appending, after_content, after_items, after_pair, with_change, none_some, with_same, IsRegionKept}
 use Rattle.std.specs.FinMap as finite
-use Rattle.raft_base.specs.declared.entry_index.EntryIndex.{EntryIndex}
-use Rattle.raft_base.specs.declared.pipe_log.FileId.{FileId}
-use Rattle.raft_base.specs.declared.pipe_log.LogQueue.TheVariants.{Append}
 use Rattle.raft_records.specs.declared.command.Command.TheVariants as commands
-use Rattle.raft_records.specs.declared.key_value.OpType.{OpType}
 use Rattle.raft_records.specs.declared.key_value.OpType.TheVariants as operations
-use Rattle.raft_records.specs.Group.{is_reserved}
-use Rattle.raft_records.specs.Item.{Item, Content, entries, command, pair}
-use Rattle.raft_table.specs.Start.{leaves_hole, starts_in_front}
-use Rattle.raft_table.specs.Steps.{Step, Run, Compact, Truncate, Put, Del, AtomicGroup, Clean, AreSteps, table_of}
-use Rattle.raft_table.specs.Table.{Table, after_append}
-use Rattle.raft_table.specs.TakenSteps.{IsStepOfQueue}
-use Rattle.raft_table.specs.TableEntries.{below, from, AreTableEntries}
-use Rattle.raft_table.proofs.MarkEntries.{same_some}
-use Rattle.raft_table.proofs.MarkRuns.{run_below, run_from, run_replayed}
-use Rattle.raft_table.proofs.PlaceLemmas.{each_placed}
-use Rattle.raft_table.proofs.SoundLemmas.{AreTableEntries-nil, RewrittenInFront-below, RewrittenInFront-from}
-use Rattle.raft_table.proofs.StartLemmas.{in_front_appended}
-use Rattle.raft_history.specs.RegionSteps.{RegionStep, Tables, with_table, content_step, pair_step, steps_of_items, steps_on}
-use Rattle.raft_history.proofs.Words.{with_step}
-use Rattle.raft_history.proofs.StepListLemmas.{own_none, own_head, own_other}
-use Rattle.raft_history.proofs.MapLemmas.{by_region, with_own, with_other}
-use Rattle.raft_accessor.specs.Writes.{Appending, after_content, after_items, after_pair, with_change}
-use Rattle.raft_accessor.proofs.MapLemmas.{none_some, with_same}
-use Rattle.raft_engine_laws.specs.KeptRegions.{IsRegionKept}
 use Rattle.raft_engine_laws.proofs.WriteWords.{after_write, after_writes}
 use Rattle.raft_engine_laws.proofs.WrittenRegion.{write_kept}
 

@@ -10,8 +10,9 @@ ghost use Rattle.raft_records.specs.ItemBatch.{with_offsets_from};
 ghost use Rattle.raft_records.specs.LogBatch.{entry_block, log_batch_bytes};
 ghost use Rattle.raft_engine_laws.specs.Contents.{HaveBytes};
 
-/// States that the entry bytes of a batch with items that was written behind other bytes are read at the place of its
-/// entries, whatever comes after; and that among entry bytes each entry that was added has its byte string.
+/// States that the bytes of entries are read where they were written. If a batch with items was written
+/// behind other bytes, its entry bytes are read at the place of its entries, whatever comes behind; and in
+/// these each entry that was added has its byte string.
 pub fn written_entries_are_read()
     ensures block { (signature : Option ℕ) (item : Item) (items : List Item) (es old rest : List ℕ)
         → IsEntryBlockOf (length (entry_block es))

@@ -21,17 +21,19 @@ ghost use Rattle.raft_engine_laws.specs.Records.{Records, no_base, live, HaveRec
 ghost use Rattle.raft_engine_laws.specs.Crashes.{Deed, Write, Sync, Delete, Crash, written, synced, MayStand, MayBeGone, in_files_from, AreInFileOf, FilesEndNoOlderGroup, IsSynced, IsLeft, IsNextIn, LoseNothing, IsSafe};
 ghost use Rattle.raft_engine_laws.specs.Telling.{AreRemovals, SayEnough, SayEnoughAtOpening, SayTheSame, taking_steps};
 
-/// States what is found whenever the machine crashes: whatever is left of both queues, each by itself, can be read, and
-/// the reading of both has the records of the batches that stand of the append queue. These are all that were synced
-/// and a prefix of those since, so that only a written batch changes records, and it is found whole or not at all.
+/// States what is found whenever the machine crashes, if what was done to both queues is safe. Whatever is
+/// left of both queues, each by itself, can be read. The reading of both has the records that there were
+/// before, as those batches of the append queue change them that the crash left: all that were synced, and a
+/// prefix of those written since. So only a batch that is written changes records, and it is found whole or
+/// not at all.
 pub fn nothing_is_lost()
     ensures { (content : EntryIndex → List ℕ) (base : ℕ → Records) (appended rewritten : List Deed) (untold : List RegionStep)
         (tables : Tables) → IsSafe content base appended rewritten untold tables
         → LoseNothing content base appended rewritten }
 {}
 
-/// States that what may stand of a queue are the prefixes of what was written that have all that was synced, and nothing
-/// else.
+/// States what a crash may leave of a queue: exactly the prefixes of what was written that have all that was
+/// synced.
 pub fn prefixes_may_stand()
     ensures front { (deeds : List Deed) (more lost : List Event) → written deeds ≡ (synced deeds ++ more) ++ lost
         → MayStand deeds (synced deeds ++ more) }
@@ -44,9 +46,9 @@ pub fn empty_queues_are_safe()
     ensures { (content : EntryIndex → List ℕ) → IsSafe content no_base [] [] [] finite.empty }
 {}
 
-/// States that a batch which the tables take may be written to the append queue at any time. The rewrite queue hasn't
-/// been told it then; but of its steps only those need to be told which take something away of the tables: no put, and no
-/// run behind all entries of its region.
+/// States that a batch that the tables take may be written to the append queue at any time. Its steps are
+/// then *untold*: the rewrite queue doesn't know yet what they take away. Of them only those have to be told
+/// that take something away from the tables: no put, and no run behind all entries of its region.
 pub fn writing_is_safe()
     ensures all { (content : EntryIndex → List ℕ) (base : ℕ → Records) (appended rewritten : List Deed) (untold : List RegionStep)
         (tables new : Tables) (e : Event) → IsSafe content base appended rewritten untold tables
@@ -68,9 +70,10 @@ pub fn syncing_is_safe()
         → IsSafe content base appended (Sync ∷ rewritten) untold tables }
 {}
 
-/// States that once the append queue is synced, the rewrite queue may be told what untold steps take away, or some of it;
-/// that steps which say the same may stand for the untold ones; and that those need not be told which take away nothing of
-/// what the rewrite files give, whichever of them are gone.
+/// States when the rewrite queue may be told, by a batch, what untold steps take away. Once the append queue
+/// is synced, it may be told all of it or some. Other steps may stand for the untold ones if they say the
+/// same. Steps needn't be told that take away nothing of what the rewrite files give, whichever of these are
+/// gone.
 pub fn telling_is_safe()
     ensures told { (content : EntryIndex → List ℕ) (base : ℕ → Records) (appended rewritten : List Deed) (untold : List RegionStep)
         (tables : Tables) (e : Event) → IsSafe content base appended rewritten untold tables
@@ -90,7 +93,8 @@ pub fn telling_is_safe()
         → IsSafe content base appended rewritten fewer tables }
 {}
 
-/// States that a batch which begins a group or goes on with one may be written to the rewrite queue at any time.
+/// States that a batch that begins a group, or goes on with one, may be written to the rewrite queue at any
+/// time.
 pub fn open_groups_are_safe()
     ensures { (content : EntryIndex → List ℕ) (base : ℕ → Records) (appended rewritten : List Deed) (untold : List RegionStep)
         (tables : Tables) (e : Event) → IsSafe content base appended rewritten untold tables
@@ -98,10 +102,11 @@ pub fn open_groups_are_safe()
         → IsSafe content base appended (Write e ∷ rewritten) untold tables }
 {}
 
-/// States that once the append queue is synced and the rewrite queue is told, records may move: with one batch, or with
-/// the last of a whole group, whichever rewrite files are gone by then; and so with a batch that has copies of one
-/// region's records, and within the rewrite queue with copies of rewritten records of any regions, in one batch or in a
-/// group whose batches stand in a row in one file.
+/// States when records may move to the rewrite queue: once the append queue is synced and no step is untold.
+/// They move with one batch, or with the last batch of a whole group, if their places are right whichever
+/// rewrite files may be deleted by then (clause `records`). A batch with copies of one region's records may
+/// move them. So may copies of rewritten records of any regions, in one batch, or in a group whose batches
+/// follow one another in one file.
 pub fn moving_is_safe()
     ensures records { (content : EntryIndex → List ℕ) (base : ℕ → Records) (appended rewritten : List Deed) (tables new : Tables) (e : Event)
         → IsSafe content base appended rewritten [] tables → IsNextIn Rewrite rewritten e → IsSynced appended
@@ -132,9 +137,9 @@ pub fn moving_is_safe()
         → IsSafe content base appended (Write e ∷ rewritten) [] new }
 {}
 
-/// States that once the rewrite queue is told and both queues are synced, the files of a queue below a number may be
-/// deleted that is not above any table's least file there. In the rewrite queue those that stay are to end no group that
-/// began in those that go.
+/// States when files may be deleted: once no step is untold and both queues are synced, those of a queue
+/// below a number that isn't above any table's least file there. In the rewrite queue the files that stay
+/// must end no group that began in those that go.
 pub fn deleting_is_safe()
     ensures append { (content : EntryIndex → List ℕ) (base : ℕ → Records) (appended rewritten : List Deed) (tables : Tables) (n : ℕ)
         → IsSafe content base appended rewritten [] tables → IsSynced appended → IsSynced rewritten
@@ -146,18 +151,18 @@ pub fn deleting_is_safe()
         → IsSafe content base appended (Delete n ∷ rewritten) [] tables }
 {}
 
-/// States that where each group is in one file, the files that stay end no group that began in those that go, wherever
-/// these end.
+/// States that if each group is in one file, the files that stay end no group that began in those that go,
+/// wherever the latter end.
 pub fn groups_in_one_file_let_files_go()
     ensures none { FilesEndNoOlderGroup [] }
     ensures more { (h k : List Event) (seq : ℕ) → FilesEndNoOlderGroup h → AreInFileOf seq k → EndNoOlderGroup k
         → FilesEndNoOlderGroup (h ++ k) }
 {}
 
-/// States that an engine may go on after a crash with the tables that it finds. The rewrite queue hasn't been told then
-/// what stands in the append files that are left. From then on the contents of entries may be told otherwise, and so the
-/// records that there were before, if by these the tables have the records too: so a batch that was lost says nothing of
-/// what is put in its place later.
+/// States that an engine may go on after a crash with the tables that it finds. What is in the append files
+/// that are left is untold then. From then on the contents of entries may be told otherwise, and so the
+/// records that there were before, if by these the tables have the records too: so a batch that was lost says
+/// nothing of what is put in its place later.
 pub fn restarting_is_safe()
     ensures same { (content : EntryIndex → List ℕ) (base : ℕ → Records) (appended rewritten : List Deed)
         (untold : List RegionStep) (tables found : Tables) → IsSafe content base appended rewritten untold tables
@@ -176,11 +181,12 @@ pub fn restarting_is_safe()
         (flat_map (λ (e : Event). steps_of_items e.items) append) found }
 {}
 
-/// States that an engine may be opened over any sound files, whoever wrote these, with the tables that it finds, once the
-/// rewrite queue is told what the append files take away of the rewritten tables and, as a compaction, what lies in front of
-/// the entries that were found, and is synced; at once where there is nothing to tell. That may be told later, of all regions
-/// or of some, where the append files leave no rewritten entry in front of those that were found. The records that there were
-/// before are then those found ones that no batch of the append files makes. No crash until then loses anything.
+/// States when an engine may go on with the tables that it finds in any sound files, whoever wrote them. The
+/// rewrite queue has to be told what the append files take away from the rewritten tables and, as a
+/// compaction, what lies before the entries that were found, and to be synced. If there is nothing to tell,
+/// the engine may go on at once. If the append files leave no rewritten entry before those that were found,
+/// in all regions or in some, that may be told later. The records that there were before are then those found
+/// ones that no batch of the append files makes. No crash until then loses anything.
 pub fn opening_is_safe()
     ensures told { (append rewrite : List Event) (found : Tables) (cleaned : List ℕ) (e : Event)
         → IsSoundIn Append append → IsSoundIn Rewrite rewrite → Apart rewrite

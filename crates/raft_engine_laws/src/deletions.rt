@@ -9,8 +9,9 @@ ghost use Rattle.raft_engine_laws.specs.DeletedFiles.{AreFilesBelow, AreLeastFro
 ghost use Rattle.raft_engine_laws.specs.Groups.{EndNoOlderGroup};
 ghost use Rattle.raft_engine_laws.specs.KeptTables.{AreKept};
 
-/// States that once the rewrite queue is told, the files of a queue below a number may go that is not above any table's
-/// least file there. In the rewrite queue those that stay are to end no group that began in those that go.
+/// States that tables are still kept without the files of a queue below a number that isn't above any table's
+/// least file there, once no step is untold. In the rewrite queue the files that stay must end no group that
+/// began in those that go.
 pub fn files_below_the_least_may_go()
     ensures append { (content : EntryIndex → List ℕ) (n : ℕ) (gone append rewrite : List Event)
         (tables : Tables) → AreKept content (gone ++ append) rewrite [] tables → AreFilesBelow n gone

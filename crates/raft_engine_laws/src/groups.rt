@@ -14,7 +14,8 @@ ghost use Rattle.raft_engine_laws.specs.KeptTables.{AreKept};
 ghost use Rattle.raft_engine_laws.specs.NextBatches.{IsRewrittenNext};
 ghost use Rattle.raft_engine_laws.specs.Crashes.{Deed, written, AreInFileOf, FilesEndNoOlderGroup, IsLeft};
 
-/// States that a batch which begins a group or goes on with one changes nothing.
+/// States that tables are still kept after a batch of the rewrite queue that begins a group or goes on with
+/// one.
 pub fn open_groups_change_nothing()
     ensures { (content : EntryIndex → List ℕ) (append rewrite : List Event)
         (untold : List RegionStep) (tables : Tables) (e : Event)
@@ -22,8 +23,9 @@ pub fn open_groups_change_nothing()
         → AreKept content append (rewrite ++ e ∷ []) untold tables }
 {}
 
-/// States that the effects of a history stay apart with a batch without a group marker, with one that leaves its group
-/// open, and with a group whose batches stand in a row; and which steps come with each.
+/// States that the effects of a history stay apart with one more batch without a group marker, with one that
+/// leaves its group open, and with a whole group whose batches follow one another; and which steps each of
+/// these adds.
 pub fn groups_stand_together()
     ensures alone { (h : List Event) (e : Event) → HasNoMarker e → Apart h → Apart (h ++ e ∷ []) }
     ensures alone_steps { (h : List Event) (e : Event) → HasNoMarker e
@@ -38,9 +40,10 @@ pub fn groups_stand_together()
         ≡ steps_of r (batches h) ++ whole_steps r (flat_map (λ e. steps_of_items e.items) (begin ∷ (middles ++ end ∷ []))) begin.file.seq end.file.seq }
 {}
 
-/// States which batches end no group that began before them: none, a batch without a group marker, one that leaves its
-/// group open, a group whose batches stand in a row, and two such lists of batches one after the other. So the files of an
-/// engine that keeps each group in one file end no group of an older file.
+/// States which batches end no group that began before them: none at all, a batch without a group marker, one
+/// that leaves its group open, a whole group whose batches follow one another, and two such lists of batches
+/// one after the other. So the files of an engine that keeps each group in one file end no group of an older
+/// file.
 pub fn groups_in_one_file_end_no_older_group()
     ensures none { EndNoOlderGroup [] }
     ensures alone { (e : Event) → HasNoMarker e → EndNoOlderGroup (e ∷ []) }
@@ -51,9 +54,11 @@ pub fn groups_in_one_file_end_no_older_group()
         → EndNoOlderGroup (h ++ k) }
 {}
 
-/// States of batches of which each group stands in a row, in one file: their effects are apart, and wherever deleted
-/// files end, those that stay end no group of those. What a crash leaves of them is so again; and so are they with a
-/// batch more that has no group marker, that begins a group, or that goes on with the group of the last row, or ends it.
+/// States what holds of batches if each group is in a *row*, that is in batches that follow one another in
+/// one file. The effects of the batches are apart, and wherever deleted files end, the files that stay end no
+/// group of the deleted ones. The batches that a crash leaves have their groups in rows again. So have the
+/// batches with one more that has no group marker, that begins a group, or that is a Middle or the End of the
+/// group of the last row.
 pub fn groups_stay_in_rows()
     ensures none { AreGroupsInRows [] }
     ensures apart { (h : List Event) → AreGroupsInRows h → Apart h }

@@ -12,13 +12,13 @@ ghost use Rattle.raft_engine_laws.specs.DeletedFiles.{AreLeastFrom, NeedsNoneBel
 ghost use Rattle.raft_engine_laws.specs.KeptTables.{AreKept};
 ghost use Rattle.raft_engine_laws.specs.MovedRecords.{AreFound};
 
-/// States that without a file there are no tables.
+/// States that without a file no tables are kept.
 pub fn without_files_there_are_no_tables()
     ensures { (content : EntryIndex → List ℕ) → AreKept content [] [] [] finite.empty }
 {}
 
-/// States that whatever the files hold, recovery of both queues finds the records of the kept tables, but for places and
-/// files that moved to the rewrite queue.
+/// States that recovery of both queues finds the records of kept tables, whatever else the files hold; only
+/// places and files may be others, if they moved to the rewrite queue.
 pub fn kept_tables_are_found()
     ensures { (content : EntryIndex → List ℕ) (append rewrite : List Event)
         (untold : List RegionStep) (tables found : Tables) (cleaned : List ℕ)
@@ -26,8 +26,8 @@ pub fn kept_tables_are_found()
         → IsReadingOfBoth rewrite append found cleaned → AreFound content tables found }
 {}
 
-/// States that no record of a kept table is in a file below a number that no table's least file in its queue is below: in
-/// the rewrite queue once that is told.
+/// States that no record of a kept table is in a file of a queue below a number that isn't above any table's
+/// least file there; in the rewrite queue, once no step is untold.
 pub fn kept_tables_need_their_files()
     ensures append { (content : EntryIndex → List ℕ) (append rewrite : List Event)
         (untold : List RegionStep) (tables : Tables) → AreKept content append rewrite untold tables

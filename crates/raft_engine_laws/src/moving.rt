@@ -18,8 +18,8 @@ ghost use Rattle.raft_engine_laws.specs.KeptTables.{AreKept};
 ghost use Rattle.raft_engine_laws.specs.Moving.{AreRecordsMoved, IsMovingBatch, MoveAgain};
 ghost use Rattle.raft_engine_laws.specs.NextBatches.{IsRewrittenNext};
 
-/// States that once the rewrite queue is told, records may move: with one batch, or with the last of a whole group, whose
-/// records what is read of the rewrite files has with it.
+/// States that tables are still kept once records have moved, if no step was untold: with one batch, or with
+/// the last one of a whole group, whose records the reading of the rewrite files then has.
 pub fn moved_records_are_kept()
     ensures { (content : EntryIndex → List ℕ) (append rewrite : List Event)
         (tables new rewritten put : Tables) (e : Event) → AreKept content append rewrite [] tables
@@ -30,9 +30,9 @@ pub fn moved_records_are_kept()
         → AreKept content append (rewrite ++ e ∷ []) [] new }
 {}
 
-/// States that once the rewrite queue is told, a batch without a group marker may move records of one region past a gate:
-/// copies of its first appended entries, and key values, as they were fetched. The tables are those that the rewriting of
-/// its items leaves.
+/// States that a batch without a group marker may move records of one region that a gate lets pass, once no
+/// step is untold: copies of its first appended entries, and of its key values, as they were fetched. The
+/// tables are those that the rewriting of its items leaves.
 pub fn moving_items_move_records()
     ensures { (content : EntryIndex → List ℕ) (append rewrite : List Event) (tables new : Tables)
         (e : Event) → AreKept content append rewrite [] tables → IsRewrittenNext rewrite e → HasNoMarker e
@@ -41,8 +41,9 @@ pub fn moving_items_move_records()
         → AreKept content append (rewrite ++ e ∷ []) [] new }
 {}
 
-/// States that tables take items which move records of them within the rewrite queue, in any order, if each run of their
-/// entries is sound, and none of their rewritten pairs is in a file behind the one that these move to.
+/// States that tables take items that move records of theirs within the rewrite queue, in any order, if the
+/// entries of each table are sound, and none of their rewritten key values is in a file above the one that
+/// these move to.
 pub fn tables_take_what_moves_again()
     ensures { (content : EntryIndex → List ℕ) (seq : ℕ) (tables : Tables) (items : List Item)
         → ((r : ℕ) → AreTableEntries (table_of r (finite.get tables r)).entries)

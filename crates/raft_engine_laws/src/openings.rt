@@ -28,7 +28,8 @@ ghost use Rattle.raft_engine_laws.specs.RowSummaries.{Summary, FirstMayStand, Is
 ghost use Rattle.raft_engine_laws.specs.TakenTold.{AreFoundTables, DoesTakenTakeAway, IsTakenToldByMarks, IsTakenToldNowOrLater};
 ghost use Rattle.raft_engine_laws.specs.Telling.{AreAllSteps, AreRemovals, SayEnoughAtOpening};
 
-/// States that once the rewrite queue was told what an opening tells, the next opening of the same append files has nothing to tell.
+/// States that once the rewrite queue was told what an opening tells, the next opening of the same append
+/// files has nothing to tell.
 pub fn a_second_opening_needs_to_tell_nothing()
     ensures { (append rewrite : List Event) (found : Tables) (cleaned : List ℕ) (e : Event)
         → IsSoundIn Append append → IsSoundIn Rewrite rewrite
@@ -41,8 +42,9 @@ pub fn a_second_opening_needs_to_tell_nothing()
         → (r : ℕ) → SayEnoughAtOpening (steps_of r (batches append)) [] (table_of r (finite.get too.rewritten r)) (table_of r (finite.get others r)) }
 {}
 
-/// States that what a region mark takes away of the rewritten table is enough to tell at an opening, and that it may be told later where the
-/// steps leave no rewritten entry in front of what was found; and that nothing is told where nothing needs to be.
+/// States that it is enough to tell at an opening what a region mark takes away from the rewritten table. It
+/// may be told later if the steps leave no rewritten entry before what was found. Nothing is told if nothing
+/// needs to be, and what is told only takes away.
 pub fn region_marks_tell_enough()
     ensures at_once { (m : Mark) (kept : List Step) (rewritten found : Table) → IsExactMark m kept
         → SayEnoughAtOpening kept (told_at_once m rewritten found) rewritten found }
@@ -59,8 +61,8 @@ pub fn contexts_hold_exact_marks()
         → IsExactMark (region_in context.context.regions r).mark (steps_of r (batches h)) }
 {}
 
-/// States that a compaction in front of what was found, which drops rewritten entries, may not be told later: where it isn't told, a truncation that is
-/// written to the append queue brings those entries back.
+/// States why a compaction before what was found, which drops rewritten entries, has to be told at once: as
+/// long as it isn't, a truncation that is written to the append queue brings these entries back.
 pub fn what_is_dropped_in_front_comes_back()
     ensures { (old new : EntryIndex) (t : Table) → t.entries ≡ old ∷ [] → old.index + 1 < new.index
         → (own none : Table) → own.entries ≡ new ∷ [] → none.entries ≡ []
@@ -68,14 +70,15 @@ pub fn what_is_dropped_in_front_comes_back()
         × ((overlay (Run (new ∷ []) ∷ Truncate new.index ∷ []) none t).entries ≡ old ∷ []) }
 {}
 
-/// States that summaries of neighbors are joined to one of both, and that a summary tells whether each group stands in a row.
+/// States that the summaries of two neighbors, joined, are the summary of both, and that a summary tells
+/// whether each group is in a row.
 pub fn row_summaries_are_joined()
     ensures joined { (s t both : Summary) → AreJoined s t both → (h g : List Event) → IsSummaryOf s h → IsSummaryOf t g → IsSummaryOf both (h ++ g) }
     ensures whole { (s : Summary) (h : List Event) → IsSummaryOf s h → (FirstMayStand s.first None × (s.inner ≡ true)) ↔ AreGroupsInRows h }
 {}
 
-/// States that of files that keep tables, as those of an engine, nothing was dropped in front of what is found: so all may be told later,
-/// and of files of which nothing was, whoever wrote them, nothing is told at once.
+/// States that nothing was dropped before what is found in files that keep tables, as those of an engine do,
+/// so everything may be told later. If nothing was dropped, whoever wrote the files, nothing is told at once.
 pub fn own_files_may_be_told_later()
     ensures joins { (content : EntryIndex → List ℕ) (append rewrite : List Event) (untold : List RegionStep) (tables found : Tables) (cleaned : List ℕ)
         → AreKept content append rewrite untold tables
@@ -90,9 +93,9 @@ pub fn own_files_may_be_told_later()
         → items ≡ [] }
 {}
 
-/// States that what a context of the append queue takes away of the tables of one of the rewrite queue is told of each region as its
-/// mark says, and is told at once or may be told later; that it only takes away; and that the entries that both give are those of
-/// tables.
+/// States that what a context of the append queue takes away from the tables of one of the rewrite queue is
+/// told, region by region, as its marks say; at once, or so that it may be told later. It only takes away,
+/// and the entries that both give are those of tables.
 pub fn taken_away_is_told()
     ensures tells { IsTakenToldByMarks }
     ensures says { IsTakenToldNowOrLater }

@@ -15,8 +15,9 @@ ghost use Rattle.raft_engine_laws.specs.MovedRecords.{AreFound};
 ghost use Rattle.raft_engine_laws.specs.Moving.{AreRecordsMoved};
 ghost use Rattle.raft_engine_laws.specs.Records.{Records, entries_told, no_base, live, AreToldAlike, HasRecords, HaveRecords};
 
-/// States that tables with the records of a history have, once they take a batch more, the records of the history with
-/// it, whatever records there were before; and that of tables with the same records each takes what one of them takes.
+/// States that tables with the records of a history have, once they take one more batch, the records of the
+/// history with that batch, whatever records there were before. Of tables with the same records each takes
+/// what one of them takes.
 pub fn records_come_from_written_batches()
     ensures none { (content : EntryIndex → List ℕ) → HaveRecords content finite.empty (live content no_base []) }
     ensures more { (content : EntryIndex → List ℕ) (base : ℕ → Records) (tables new : Tables) (h : List Event) (e : Event)
@@ -28,7 +29,8 @@ pub fn records_come_from_written_batches()
         → (later : Tables) × (after_items Appending others items ≡ Some later) }
 {}
 
-/// States that tables which are found have the records of the kept ones, and that records which move stay the same.
+/// States that tables that were found have the records of the kept ones, and that records that move stay the
+/// same.
 pub fn records_stay_where_places_change()
     ensures found { (content : EntryIndex → List ℕ) (kept found : Tables) (records : ℕ → Records)
         → AreFound content kept found → HaveRecords content kept records → HaveRecords content found records }
@@ -37,8 +39,8 @@ pub fn records_stay_where_places_change()
         → HasRecords content moved rs }
 {}
 
-/// States that where contents are told alike of all entries in tables and in the batches of a history, the tables have the
-/// records of the history by both if they have them by one.
+/// States that tables have the records of a history by either of two ways to tell the contents of entries if
+/// they have them by one, and both tell alike of all entries in the tables and in the batches of the history.
 pub fn records_are_told_alike()
     ensures { (told content : EntryIndex → List ℕ) (base : ℕ → Records) (tables : Tables) (h : List Event)
         → AllByRecursion (λ (e : Event). AllByRecursion (λ (item : Item). AreToldAlike told content item.content) e.items) h

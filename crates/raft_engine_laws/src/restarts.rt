@@ -16,8 +16,8 @@ ghost use Rattle.raft_engine_laws.specs.KeptTables.{AreKept};
 ghost use Rattle.raft_engine_laws.specs.NextBatches.{IsRewrittenNext};
 ghost use Rattle.raft_engine_laws.specs.Telling.{AreRemovals, SayEnoughAtOpening};
 
-/// States that the tables which a recovery found of kept ones are kept by the same files, and that the rewrite queue
-/// hasn't been told then what stands in the append files.
+/// States that the tables that a recovery found of kept ones are kept by the same files. What is in the
+/// append files is untold then.
 pub fn found_tables_are_kept()
     ensures { (content : EntryIndex → List ℕ) (append rewrite : List Event)
         (untold : List RegionStep) (tables found : Tables) (cleaned : List ℕ)
@@ -25,8 +25,9 @@ pub fn found_tables_are_kept()
         → AreKept content append rewrite (flat_map (λ (e : Event). steps_of_items e.items) append) found }
 {}
 
-/// States that the tables which a recovery found of any sound files are kept, whoever wrote these, once the rewrite queue
-/// is told what the append files take away and, as a compaction, what lies in front of the entries that were found.
+/// States that the tables that a recovery found in any sound files, whoever wrote them, are kept once the
+/// rewrite queue is told what the append files take away and, as a compaction, what lies before the entries
+/// that were found.
 pub fn opened_tables_are_kept()
     ensures { (content : EntryIndex → List ℕ) (append rewrite : List Event) (found : Tables)
         (cleaned : List ℕ) (e : Event) → IsSoundIn Append append → IsSoundIn Rewrite rewrite

@@ -20,9 +20,9 @@ ghost use Rattle.raft_engine_laws.specs.NextBatches.{IsRewrittenNext};
 ghost use Rattle.raft_engine_laws.specs.Speaking.{unspoken};
 ghost use Rattle.raft_engine_laws.specs.Telling.{AreRemovals, SayTheSame, SayEnough, TakeAway, told_items, taking_items, taking_steps};
 
-/// States that what is told of items takes away what they take away: each run as a truncation at its first index. It is
-/// made of commands and deletions, whose steps put nothing and which may stand in a batch of any file, without a group
-/// marker.
+/// States that what is told of items takes away what they take away: a run is told as a truncation at its
+/// first index. It is made of commands and deletions, which put nothing, and may be in a batch of any file,
+/// without a group marker.
 pub fn told_items_take_away_the_same()
     ensures same { (items : List Item) (r : ℕ)
         → SayTheSame (steps_on r (steps_of_items (told_items items))) (steps_on r (steps_of_items items)) }
@@ -35,9 +35,9 @@ pub fn told_items_take_away_the_same()
         → HasNoMarker record { items = items; file = file } }
 {}
 
-/// States that of items which are written to tables, those alone need to be told that take something away of these: what
-/// is told of them takes away what the steps of all do that take something away; and that it is the same wherever the
-/// items are placed.
+/// States that of items that are written to tables only those need to be told that take something away from
+/// these: what is told of them takes away what those of their steps do that take something away. It is the
+/// same wherever the items are placed.
 pub fn items_that_take_nothing_away_need_no_telling()
     ensures same { (tables : Tables) (items : List Item) (r : ℕ)
         → SayTheSame (steps_on r (steps_of_items (told_items (taking_items tables items)))) (steps_on r (taking_steps tables (steps_of_items items))) }
@@ -45,7 +45,8 @@ pub fn items_that_take_nothing_away_need_no_telling()
         → told_items (taking_items tables (map (placed_item place compression) items)) ≡ told_items (taking_items tables items) }
 {}
 
-/// States that steps which say the same may stand for the untold ones, step by step, on each region.
+/// States that steps may stand for the untold ones if they say the same, region by region. Lists of steps
+/// that say the same still do, one after the other.
 pub fn what_says_the_same_is_as_untold()
     ensures kept { (content : EntryIndex → List ℕ) (append rewrite : List Event)
         (untold other : List RegionStep) (tables : Tables)
@@ -56,8 +57,8 @@ pub fn what_says_the_same_is_as_untold()
         → SayTheSame (a ++ c) (b ++ d) }
 {}
 
-/// States that once a batch without a group marker has told the rewrite queue, in any order, what untold steps take away,
-/// none is untold; and that where it told some of it, the others are.
+/// States that no step is untold once a batch without a group marker has told the rewrite queue, in any
+/// order, what the untold ones take away. If it told some of it, the others are still untold.
 pub fn told_steps_are_no_longer_untold()
     ensures all { (content : EntryIndex → List ℕ) (append rewrite : List Event)
         (untold : List RegionStep) (tables : Tables) (e : Event)
@@ -73,8 +74,8 @@ pub fn told_steps_are_no_longer_untold()
         → AreKept content append (rewrite ++ e ∷ []) others tables }
 {}
 
-/// States that steps which take away nothing of what the rewrite files give need not be told; so a run behind all of a
-/// region's live rewritten entries.
+/// States that steps that take away nothing of what the rewrite files give needn't be told. Such is a run
+/// behind all of a region's rewritten entries that are live.
 pub fn quiet_steps_need_no_telling()
     ensures kept { (content : EntryIndex → List ℕ) (append rewrite : List Event)
         (untold fewer : List RegionStep) (tables rewritten : Tables)

@@ -7,8 +7,8 @@ ghost use Rattle.raft_history.specs.RegionSteps.{RegionStep, Tables, steps_of_it
 ghost use Rattle.raft_engine_laws.specs.KeptTables.{AreKept};
 ghost use Rattle.raft_engine_laws.specs.NextBatches.{IsWrittenNext};
 
-/// States that once a batch is written to the append queue and to the tables, these are kept, and the rewrite queue hasn't
-/// been told its steps.
+/// States that once a batch is written to the append queue and to the tables, these are kept, and its steps
+/// are untold.
 pub fn written_batches_are_kept()
     ensures { (content : EntryIndex → List ℕ) (append rewrite : List Event)
         (untold : List RegionStep) (tables new : Tables) (e : Event)

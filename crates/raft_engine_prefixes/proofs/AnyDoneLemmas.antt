@@ -1,18 +1,7 @@
 -- What any disk leaves is what may be left of what is done to a queue, if nothing is forged.
-use Rattle.std.proofs.Common.{◌≡◌, ℕ, ◌<◌, ◌≤◌, List, [], ◌++◌, length, take, inl, inr, refl, sym, ap, ◌∙◌, subst, arith, length-append}
-use Rattle.std.specs.List.{AllByRecursion}
-use Rattle.std.proofs.lemmas.Bool.{cases_lt}
-use Rattle.std.proofs.lemmas.List.{take-map, drop-map, length-map, nil_from_length, drop_all}
-use Rattle.raft_base.specs.declared.pipe_log.LogQueue.{LogQueue}
-use Rattle.raft_base.specs.declared.pipe_log.Version.{Version}
-use Rattle.raft_history.specs.Batches.{Event}
-use Rattle.raft_files.specs.Asks.{Act, Ask, acts_on}
-use Rattle.raft_files.specs.Disk.{IsLeftUnordered, NumberedBytes, begun, deletions, synced_deletions}
-use Rattle.raft_engine_laws.specs.Crashes.{Deed, written, synced, deleted, synced_deleted, in_files_from}
-use Rattle.raft_engine_laws.proofs.CrashLemmas.{from_none, whole_stands, synced_low, all_gone}
-use Rattle.raft_engine_prefixes.specs.TornTails.{FilesHoldTorn}
-use Rattle.raft_engine_prefixes.specs.AnyTails.{IsUnforgedLeftOf}
-use Rattle.raft_engine_prefixes.specs.Done.{numbers, AreRisingFrom, AreConsecutive, AreBelow, AreDone, HoldLeft}
+use Rattle.raft_engine_prefixes.proofs.Common.{◌≡◌, ℕ, ◌<◌, ◌≤◌, List, [], ◌++◌, length, take, inl, inr, refl, sym, ap, ◌∙◌, subst, arith, length-append, AllByRecursion, cases_lt, take-map, drop-map, length-map, nil_from_length, drop_all, LogQueue, Version, Event, Act, Ask}
+use Rattle.raft_engine_prefixes.proofs.Common.{acts_on, IsLeftUnordered, NumberedBytes, begun, deletions, synced_deletions, Deed, written, synced, deleted, synced_deleted, in_files_from, from_none, whole_stands, synced_low, all_gone, FilesHoldTorn, IsUnforgedLeftOf, numbers}
+use Rattle.raft_engine_prefixes.proofs.Common.{AreRisingFrom, AreConsecutive, AreBelow, AreDone, HoldLeft}
 use Rattle.raft_engine_prefixes.proofs.PrefixLemmas.{all_held}
 use Rattle.raft_engine_prefixes.proofs.RestLemmas.{RestBehind}
 use Rattle.raft_engine_prefixes.proofs.AnyRestLemmas.{any_stand, unforged_behind}

@@ -1,18 +1,7 @@
 -- What is left of files of which the oldest are deleted, where any bytes stand behind the synced ones.
-use Rattle.std.proofs.Common.{◌≡◌, ℕ, zero, suc, ◌<◌, ◌≤◌, List, [], ◌∷◌, ◌++◌, length, take, drop, inl, inr, refl, sym, ap, ◌∙◌, subst, arith, append_assoc, append-nil, length-append}
-use Rattle.std.proofs.lemmas.Bool.{cases_lt}
-use Rattle.std.proofs.lemmas.List.{take_all, drop_all, take-append-le}
-use Rattle.raft_base.specs.declared.pipe_log.LogQueue.{LogQueue}
-use Rattle.raft_base.specs.declared.pipe_log.Version.{Version}
-use Rattle.raft_history.specs.Batches.{Event}
-use Rattle.raft_files.specs.Asks.{Act, Put, Begin, Sync, Unsynced, Delete, Cut, Found, Read, Ask, acts_on}
-use Rattle.raft_files.specs.Disk.{IsAnyPut, IsLeftUnordered, MayStandUnordered, NumberedBytes, put_behind, cut_last, begun, deletions, synced_files}
-use Rattle.raft_files.proofs.HeldLemmas.{length_on_last}
-use Rattle.raft_recover.specs.Files.{FilesHold}
-use Rattle.raft_engine_prefixes.specs.TornTails.{FilesHoldTorn}
-use Rattle.raft_engine_prefixes.specs.Prefixes.{ArePut}
-use Rattle.raft_engine_prefixes.specs.AnyTails.{FilesHoldPrefix, FilesBeginWith, BeginWithSynced, IsUnforgedLeftOf}
-use Rattle.raft_engine_prefixes.specs.Done.{numbers}
+use Rattle.raft_engine_prefixes.proofs.Common.{◌≡◌, ℕ, zero, suc, ◌<◌, ◌≤◌, List, [], ◌∷◌, ◌++◌, length, take, drop, inl, inr, refl, sym, ap, ◌∙◌, subst, arith, append_assoc, append-nil, length-append, cases_lt, take_all, drop_all, take-append-le, LogQueue, Version, Event, Act}
+use Rattle.raft_engine_prefixes.proofs.Common.{Put, Begin, Sync, Unsynced, Delete, Cut, Found, Read, Ask, acts_on, IsAnyPut, IsLeftUnordered, MayStandUnordered, NumberedBytes, put_behind, cut_last, begun, deletions, synced_files, length_on_last, FilesHold, FilesHoldTorn, ArePut}
+use Rattle.raft_engine_prefixes.proofs.Common.{FilesHoldPrefix, FilesBeginWith, BeginWithSynced, IsUnforgedLeftOf, numbers}
 use Rattle.raft_engine_prefixes.proofs.PrefixLemmas.{all_held}
 use Rattle.raft_engine_prefixes.proofs.TornLemmas.{whole_torn}
 use Rattle.raft_engine_prefixes.proofs.RestLemmas.{RestBehind, take_on_last, oldest_held}

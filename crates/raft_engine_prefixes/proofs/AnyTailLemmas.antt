@@ -1,24 +1,7 @@
 -- What is read where any bytes stand behind those that were synced.
-use Rattle.std.proofs.Common.{◌≡◌, ◌⊎◌, ℕ, ◌+◌, ◌-◌, ◌<◌, ◌≤◌, List, [], ◌∷◌, ◌++◌, length, take, inl, inr, refl, sym, ap, ◌∙◌, subst, arith, append_assoc, append-nil, length-append}
-use Rattle.std.proofs.lemmas.Bool.{cases_lt}
-use Rattle.std.proofs.lemmas.List.{length-take-le, take-append-le, take_all, take-take}
-use Rattle.std.proofs.Math.Seq.{take-append-add}
-use Rattle.raft_base.specs.declared.pipe_log.LogQueue.{LogQueue}
-use Rattle.raft_base.specs.declared.pipe_log.Version.{Version}
-use Rattle.raft_records.specs.FilePart.{Part}
-use Rattle.raft_records.proofs.PartLemmas.{batch_inside}
-use Rattle.raft_history.specs.Batches.{Event}
-use Rattle.raft_files.specs.Asks.{Act, Put, Begin, Sync, Unsynced, Delete, Cut, Found, Read}
-use Rattle.raft_files.specs.Disk.{IsAnyPut, MayStand, MayStandUnordered, NumberedBytes, begun, cut_last, on_last, put_behind, synced_files}
-use Rattle.raft_files.proofs.HeldLemmas.{length_on_last}
-use Rattle.raft_replay.specs.Cuts.{bytes_before}
-use Rattle.raft_replay.specs.Segments.{AreHeldInTurn, HoldsFrom}
-use Rattle.raft_replay.specs.Stops.{IsUnreadableAt}
-use Rattle.raft_replay.proofs.SegmentLemmas.{batch_none, batch_unique, part_unique, same_event}
-use Rattle.raft_recover.specs.Files.{FilesHold, whole_file}
-use Rattle.raft_engine_prefixes.specs.TornTails.{FilesHoldTorn, HoldsTornFrom}
-use Rattle.raft_engine_prefixes.specs.Prefixes.{AreFirstOf, ArePut}
-use Rattle.raft_engine_prefixes.specs.AnyTails.{FilesHoldPrefix, FilesBeginWith}
+use Rattle.raft_engine_prefixes.proofs.Common.{◌≡◌, ◌⊎◌, ℕ, ◌+◌, ◌-◌, ◌<◌, ◌≤◌, List, [], ◌∷◌, ◌++◌, length, take, inl, inr, refl, sym, ap, ◌∙◌, subst, arith, append_assoc, append-nil, length-append, cases_lt, length-take-le, take-append-le, take_all, take-take, take-append-add}
+use Rattle.raft_engine_prefixes.proofs.Common.{LogQueue, Version, Part, batch_inside, Event, Act, Put, Begin, Sync, Unsynced, Delete, Cut, Found, Read, IsAnyPut, MayStand, MayStandUnordered, NumberedBytes, begun, cut_last, on_last, put_behind, synced_files, length_on_last}
+use Rattle.raft_engine_prefixes.proofs.Common.{bytes_before, AreHeldInTurn, HoldsFrom, IsUnreadableAt, batch_none, batch_unique, part_unique, same_event, FilesHold, whole_file, FilesHoldTorn, HoldsTornFrom, AreFirstOf, ArePut, FilesHoldPrefix, FilesBeginWith}
 use Rattle.raft_engine_prefixes.proofs.TornLemmas.{with_all, stands_as, untorn, whole_torn}
 use Rattle.raft_engine_prefixes.proofs.PrefixLemmas.{all_front, begun_whole}
 

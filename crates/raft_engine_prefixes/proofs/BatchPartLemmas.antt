@@ -1,18 +1,6 @@
 -- A part of a batch is none.
-use Rattle.std.proofs.Common.{◌≡◌, ◌≢◌, ℕ, ◌<◌, List, [], ◌∷◌, ◌++◌, Option, length, drop, refl, sym, ap, ◌∙◌, subst, arith, append_assoc, append-nil, length-append}
-use Rattle.std.proofs.lemmas.List.{length-drop}
-use Rattle.raft_codec.specs.Reading.{HasNoFront, HasOneFront}
-use Rattle.raft_base.specs.declared.compression_type.CompressionType.{CompressionType}
-use Rattle.raft_records.specs.FilePart.{Part}
-use Rattle.raft_records.specs.Framing.{IsFramed}
-use Rattle.raft_records.specs.Item.{Item}
-use Rattle.raft_records.specs.ItemBatch.{IsItemBatch}
-use Rattle.raft_records.specs.LogBatch.{IsReadable}
-use Rattle.raft_records.proofs.BatchLemmas.{one_batch}
-use Rattle.raft_records.proofs.FrameLemmas.{header_one, readable}
-use Rattle.raft_records.proofs.ItemLemmas.{same_length}
-use Rattle.raft_records.proofs.Names.{part_signature}
-use Rattle.raft_replay.specs.Stops.{IsUnreadableAt}
+use Rattle.raft_engine_prefixes.proofs.Common.{◌≡◌, ◌≢◌, ℕ, ◌<◌, List, [], ◌∷◌, ◌++◌, Option, length, drop, refl, sym, ap, ◌∙◌, subst, arith, append_assoc, append-nil, length-append, length-drop, HasNoFront, HasOneFront, CompressionType, Part, IsFramed, Item, IsItemBatch}
+use Rattle.raft_engine_prefixes.proofs.Common.{IsReadable, one_batch, header_one, readable, same_length, part_signature, IsUnreadableAt}
 
 -- frames in front of the same bytes have the same header
 same_header : (a b more rest : List ℕ) (s t : Option ℕ) (xs ys : List Item) (i j : ℕ) → IsFramed a s xs i → IsFramed b t ys j

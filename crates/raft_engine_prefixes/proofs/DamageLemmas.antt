@@ -1,9 +1,5 @@
 -- What stands where the reading of a part stops.
-use Rattle.std.proofs.Common.{◌≡◌, ℕ, length, inl, arith}
-use Rattle.std.proofs.lemmas.List.{length-drop}
-use Rattle.raft_records.specs.FilePart.{Part}
-use Rattle.raft_tail.specs.Tails.{IsBrokenOff}
-use Rattle.raft_engine_prefixes.specs.TornTails.{IsDamagedAt}
+use Rattle.raft_engine_prefixes.proofs.Common.{◌≡◌, ℕ, length, inl, arith, length-drop, Part, IsBrokenOff, IsDamagedAt}
 
 -- at the end nothing is left of a batch
 pub end_broken : (part : Part) (at : ℕ) → at ≡ length part.bytes → IsBrokenOff part at

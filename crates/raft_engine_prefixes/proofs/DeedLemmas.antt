@@ -1,25 +1,10 @@
 -- What each ask does to a queue.
-use Rattle.std.proofs.Common.{◌≡◌, ℕ, suc, ◌+◌, ◌<◌, ◌≤◌, max, List, [], ◌∷◌, ◌++◌, length, take, refl, sym, ap, ◌∙◌, subst, arith, length-append}
-use Rattle.std.proofs.lemmas.List.{map-append, length-map}
-use Rattle.raft_base.specs.Signature.{signature_in}
-use Rattle.raft_base.specs.declared.pipe_log.FileBlockHandle.{FileBlockHandle}
-use Rattle.raft_base.specs.declared.pipe_log.LogQueue.{LogQueue}
-use Rattle.raft_base.specs.declared.pipe_log.Version.{Version}
-use Rattle.raft_records.specs.LogBatch.{log_batch_bytes}
-use Rattle.raft_history.specs.Batches.{Event}
-use Rattle.raft_history.specs.Histories.{last_from}
+use Rattle.raft_engine_prefixes.proofs.Common.{◌≡◌, ℕ, suc, ◌+◌, ◌<◌, ◌≤◌, max, List, [], ◌∷◌, ◌++◌, length, take, refl, sym, ap, ◌∙◌, subst, arith, length-append, map-append, length-map, signature_in, FileBlockHandle, LogQueue, Version, log_batch_bytes, Event, last_from, Act}
+use Rattle.raft_engine_prefixes.proofs.Common.{Put, Begin, Cut, Found, Read, NumberedBytes, put_behind, cut_last, begun, deletions, synced_deletions, length_on_last, written_event, FilesHold, whole_file, Deed, Crash, written, synced, deleted, synced_deleted, IsSynced}
+use Rattle.raft_engine_prefixes.proofs.Common.{in_files_from, from_none, from_more, synced_low, ArePut, ArePutWhole, FilesHoldTorn, StopsAt, numbers, AreRisingFrom, AreConsecutive, Follows, AreBelow, AreDone, AreDoneWhole, WrittenBatchIsDone, LastFileIsNext}
 use Rattle.raft_files.specs.Asks as asks
-use Rattle.raft_files.specs.Asks.{Act, Put, Begin, Cut, Found, Read}
-use Rattle.raft_files.specs.Disk.{NumberedBytes, put_behind, cut_last, begun, deletions, synced_deletions}
-use Rattle.raft_files.proofs.HeldLemmas.{length_on_last}
-use Rattle.raft_replay.specs.WrittenParts.{written_event}
-use Rattle.raft_recover.specs.Files.{FilesHold, whole_file}
-use Rattle.raft_engine_laws.specs.Crashes.{Deed, Sync, Delete, Crash, written, synced, deleted, synced_deleted, IsSynced, in_files_from}
-use Rattle.raft_engine_laws.proofs.CrashLemmas.{from_none, from_more, synced_low}
-use Rattle.raft_engine_prefixes.specs.Prefixes.{ArePut, ArePutWhole}
-use Rattle.raft_engine_prefixes.specs.TornTails.{FilesHoldTorn, StopsAt}
+use Rattle.raft_engine_laws.specs.Crashes.{Sync, Delete}
 use Rattle.raft_engine_prefixes.proofs.TornLemmas.{whole_torn}
-use Rattle.raft_engine_prefixes.specs.Done.{numbers, AreRisingFrom, AreConsecutive, Follows, AreBelow, AreDone, AreDoneWhole, WrittenBatchIsDone, LastFileIsNext}
 use Rattle.raft_engine_prefixes.proofs.StepLemmas as steps
 use Rattle.raft_engine_prefixes.proofs.UndamagedLemmas.{begin_undamaged, cut_undamaged, delete_undamaged, found_undamaged, nothing_damaged, put_is_undamaged, read_undamaged, unsynced_undamaged, sync_undamaged}
 use Rattle.raft_engine_prefixes.proofs.NumberLemmas.{numbers_on_last, numbers_more, rising_last, rising_more, consecutive_more, follows_next, below_more, below_none, below_oldest, below_next, below_last}

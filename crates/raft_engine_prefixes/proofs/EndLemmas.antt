@@ -1,17 +1,6 @@
 -- The entries of all batches end within their blocks, where those of found files do.
-use Rattle.std.proofs.Common.{◌≡◌, ℕ, List, [], ◌∷◌, ◌++◌, length, inl, inr, sym, ap, ◌∙◌, subst, arith, length-append}
-use Rattle.std.proofs.lemmas.Bool.{cases_lt}
-use Rattle.std.proofs.lemmas.List.{drop_all, length-map}
-use Rattle.raft_base.specs.declared.pipe_log.LogQueue.{LogQueue}
-use Rattle.raft_base.specs.declared.pipe_log.Version.{Version}
-use Rattle.raft_history.specs.Batches.{Event}
-use Rattle.raft_history.proofs.EffectLemmas.{each-append, each_left, each_right}
-use Rattle.raft_files.specs.Asks.{Act, Ask, Begin, Cut, Found, NumberedBytes, Put, acts_on}
-use Rattle.raft_files.specs.Disk.{IsLeftOf, begun}
-use Rattle.raft_recover.specs.Files.{FilesHold}
-use Rattle.raft_engine_prefixes.specs.Done.{numbers}
-use Rattle.raft_engine_prefixes.specs.EntryPlaces.{EachEntryIn, EndsWithin, EntriesEndWithin, LeftFilesEndWithin, WrittenEndWithin}
-use Rattle.raft_engine_prefixes.specs.TornTails.{FilesHoldTorn}
+use Rattle.raft_engine_prefixes.proofs.Common.{◌≡◌, ℕ, List, [], ◌∷◌, ◌++◌, length, inl, inr, sym, ap, ◌∙◌, subst, arith, length-append, cases_lt, drop_all, length-map, LogQueue, Version, Event, each-append, each_left, each_right, Act, Ask, Begin, Cut, Found, NumberedBytes, Put}
+use Rattle.raft_engine_prefixes.proofs.Common.{acts_on, IsLeftOf, begun, FilesHold, numbers, EachEntryIn, EndsWithin, EntriesEndWithin, LeftFilesEndWithin, WrittenEndWithin, FilesHoldTorn}
 use Rattle.raft_engine_prefixes.proofs.AnyRestLemmas.{any_stand}
 use Rattle.raft_engine_prefixes.proofs.AnyTailLemmas.{begun_read, may_stand}
 use Rattle.raft_engine_prefixes.proofs.PrefixLemmas.{all_held}

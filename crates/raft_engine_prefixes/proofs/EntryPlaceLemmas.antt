@@ -1,31 +1,9 @@
 -- Where the bytes of entries end, and that their places stand.
-use Rattle.std.proofs.Common.{◌≡◌, ℕ, suc, ◌+◌, ◌<◌, ◌≤◌, Bool, true, false, cond, List, [], ◌∷◌, ◌++◌, length, map, take, drop, Some, None, refl, sym, ap, ◌∙◌, subst, arith, append_assoc, length-append}
-use Rattle.std.specs.Prelude.{◌==◌, nat_le}
-use Rattle.std.specs.List.{AllByRecursion}
-use Rattle.std.proofs.lemmas.Bool.Decides.{nat_tests}
-use Rattle.std.proofs.lemmas.List.{take_at, drop-drop, drop_at, length-drop}
-use Rattle.raft_base.specs.declared.compression_type.CompressionType.{CompressionType}
+use Rattle.raft_engine_prefixes.proofs.Common.{◌≡◌, ℕ, suc, ◌+◌, ◌<◌, ◌≤◌, Bool, true, false, cond, List, [], ◌∷◌, ◌++◌, length, map, take, drop, Some, None, refl, sym, ap, ◌∙◌, subst, arith, append_assoc, length-append, ◌==◌, nat_le, AllByRecursion, nat_tests, take_at}
+use Rattle.raft_engine_prefixes.proofs.Common.{drop-drop, drop_at, length-drop, CompressionType, EntryIndex, FileBlockHandle, LogQueue, Version, Tile, Part, IsBatchAt, end_behind, end_of_content, tail_of, Content, Item, command, entries, pair, FitTogether, FitsBehind}
+use Rattle.raft_engine_prefixes.proofs.Common.{checksum_bytes, end_of_items, placed_content, placed_item, IsBatchOf, entry_block, entry_place, header_bytes, header_len, batch_inside, Event, NumberedBytes, bytes_at, stretch_of, HoldsFrom, written_event, FilesHold, whole_file}
+use Rattle.raft_engine_prefixes.proofs.Common.{AreRisingFrom, numbers, EachEntryAmong, EachEntryIn, EachEntryOf, EndsWithin, EntriesEndWithin, PlacesStand, StandsAt}
 use Rattle.raft_base.specs.declared.compression_type.CompressionType.TheVariants as compressions
-use Rattle.raft_base.specs.declared.entry_index.EntryIndex.{EntryIndex}
-use Rattle.raft_base.specs.declared.pipe_log.FileBlockHandle.{FileBlockHandle}
-use Rattle.raft_base.specs.declared.pipe_log.LogQueue.{LogQueue}
-use Rattle.raft_base.specs.declared.pipe_log.Version.{Version}
-use Rattle.raft_records.specs.Entries.{Tile}
-use Rattle.raft_records.specs.FilePart.{Part, IsBatchAt}
-use Rattle.raft_records.specs.Grammar.{end_behind, end_of_content, tail_of}
-use Rattle.raft_records.specs.Item.{Content, Item, command, entries, pair}
-use Rattle.raft_records.specs.ItemBatch.{FitTogether, FitsBehind, checksum_bytes, end_of_items, placed_content, placed_item}
-use Rattle.raft_records.specs.LogBatch.{IsBatchOf, entry_block, entry_place, header_bytes}
-use Rattle.raft_records.proofs.BufferLemmas.{header_len}
-use Rattle.raft_records.proofs.PartLemmas.{batch_inside}
-use Rattle.raft_history.specs.Batches.{Event}
-use Rattle.raft_files.specs.Disk.{NumberedBytes}
-use Rattle.raft_files.specs.Places.{bytes_at, stretch_of}
-use Rattle.raft_replay.specs.Segments.{HoldsFrom}
-use Rattle.raft_replay.specs.WrittenParts.{written_event}
-use Rattle.raft_recover.specs.Files.{FilesHold, whole_file}
-use Rattle.raft_engine_prefixes.specs.Done.{AreRisingFrom, numbers}
-use Rattle.raft_engine_prefixes.specs.EntryPlaces.{EachEntryAmong, EachEntryIn, EachEntryOf, EndsWithin, EntriesEndWithin, PlacesStand, StandsAt}
 
 -- ---- the ends
 

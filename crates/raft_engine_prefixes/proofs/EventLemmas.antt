@@ -1,24 +1,8 @@
 -- Batches by the numbers of their files, and those that may stand.
-use Rattle.std.proofs.Common.{◌≡◌, ◌⊎◌, ℕ, suc, ◌<◌, ◌≤◌, Bool, true, false, cond, List, [], ◌∷◌, ◌++◌, length, drop, slice_index_or, inl, inr, refl, sym, ap, ◌∙◌, subst, arith, append-nil, length-append}
-use Rattle.std.specs.Prelude.{nat_le}
-use Rattle.std.specs.List.{AllByRecursion}
-use Rattle.std.proofs.lemmas.Bool.Decides.{nat_tests}
-use Rattle.std.proofs.lemmas.List.{nil_from_length}
-use Rattle.std.proofs.lemmas.List.Elements.{filter-append}
-use Rattle.raft_base.specs.declared.pipe_log.FileId.{FileId}
-use Rattle.raft_base.specs.declared.pipe_log.LogQueue.{LogQueue}
-use Rattle.raft_base.specs.declared.pipe_log.Version.{Version}
-use Rattle.raft_records.specs.FilePart.{Part}
-use Rattle.raft_history.specs.Batches.{Event}
-use Rattle.raft_history.specs.Histories.{last_from}
-use Rattle.raft_files.specs.Disk.{NumberedBytes}
-use Rattle.raft_replay.specs.Cuts.{bytes_before}
-use Rattle.raft_replay.specs.Segments.{HoldsFrom}
-use Rattle.raft_recover.specs.Files.{FilesHold, whole_file}
-use Rattle.raft_engine_laws.specs.Crashes.{Deed, Write, Sync, Delete, Crash, written, synced, IsSynced, MayStand, in_files_from}
-use Rattle.raft_engine_laws.proofs.CrashLemmas.{from_none, from_more}
-use Rattle.raft_engine_prefixes.specs.TornTails.{FilesHoldTorn}
-use Rattle.raft_engine_prefixes.specs.Done.{numbers, AreRisingFrom}
+use Rattle.raft_engine_prefixes.proofs.Common.{◌≡◌, ◌⊎◌, ℕ, suc, ◌<◌, ◌≤◌, Bool, true, false, cond, List, [], ◌∷◌, ◌++◌, length, drop, slice_index_or, inl, inr, refl, sym, ap, ◌∙◌, subst, arith, append-nil, length-append, nat_le, AllByRecursion, nat_tests, nil_from_length}
+use Rattle.raft_engine_prefixes.proofs.Common.{filter-append, FileId, LogQueue, Version, Part, Event, last_from, NumberedBytes, bytes_before, HoldsFrom, FilesHold, whole_file, Deed, Write, Crash, written, synced, IsSynced, in_files_from, from_none, from_more, FilesHoldTorn}
+use Rattle.raft_engine_prefixes.proofs.Common.{numbers, AreRisingFrom}
+use Rattle.raft_engine_laws.specs.Crashes.{Sync, Delete, MayStand}
 use Rattle.raft_engine_prefixes.proofs.FileLemmas.{files_fine}
 use Rattle.raft_engine_prefixes.proofs.NumberLemmas.{rising_low, rising_last}
 

@@ -1,15 +1,5 @@
 -- Batches lie in the files that hold them.
-use Rattle.std.proofs.Common.{ℕ, List, [], ◌∷◌, sym, subst}
-use Rattle.std.specs.List.{AllByRecursion}
-use Rattle.raft_base.specs.declared.pipe_log.FileId.{FileId}
-use Rattle.raft_base.specs.declared.pipe_log.LogQueue.{LogQueue}
-use Rattle.raft_base.specs.declared.pipe_log.Version.{Version}
-use Rattle.raft_records.specs.FilePart.{Part}
-use Rattle.raft_history.specs.Batches.{Event}
-use Rattle.raft_history.proofs.EffectLemmas.{each-append}
-use Rattle.raft_files.specs.Disk.{NumberedBytes}
-use Rattle.raft_replay.specs.Segments.{HoldsFrom}
-use Rattle.raft_recover.specs.Files.{FilesHold, whole_file}
+use Rattle.raft_engine_prefixes.proofs.Common.{ℕ, List, [], ◌∷◌, sym, subst, AllByRecursion, FileId, LogQueue, Version, Part, Event, each-append, NumberedBytes, HoldsFrom, FilesHold, whole_file}
 
 module _ (IsFine : FileId → Type 0) where
   abbrev AreFine : List Event → Type 0

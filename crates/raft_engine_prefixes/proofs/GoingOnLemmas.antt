@@ -1,11 +1,5 @@
 -- What is put and synced goes on.
-use Rattle.std.proofs.Common.{◌≡◌, List, [], ◌++◌, sym, ap, ◌∙◌, append-nil}
-use Rattle.raft_base.specs.declared.pipe_log.LogQueue.{LogQueue}
-use Rattle.raft_base.specs.declared.pipe_log.Version.{Version}
-use Rattle.raft_history.specs.Batches.{Event}
-use Rattle.raft_files.specs.Asks.{Act, Put, Begin, Sync, Unsynced, Delete, Cut, Found, Read}
-use Rattle.raft_files.specs.Disk.{begun}
-use Rattle.raft_engine_prefixes.specs.Prefixes.{ArePut, PutsGoOn}
+use Rattle.raft_engine_prefixes.proofs.Common.{◌≡◌, List, [], ◌++◌, sym, ap, ◌∙◌, append-nil, LogQueue, Version, Event, Act, Put, Begin, Sync, Unsynced, Delete, Cut, Found, Read, begun, ArePut, PutsGoOn}
 use Rattle.raft_engine_prefixes.proofs.TornLemmas.{one_reading, whole_torn}
 use Rattle.raft_engine_prefixes.proofs.PrefixLemmas.{all_front, all_held}
 use Rattle.raft_engine_prefixes.proofs.StepLemmas.{one_history}

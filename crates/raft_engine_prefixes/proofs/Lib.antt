@@ -1,3 +1,4 @@
+mod Common
 pub mod BatchPartLemmas
 pub mod DamageLemmas
 pub mod TornLemmas

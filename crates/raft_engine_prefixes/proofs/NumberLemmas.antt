@@ -1,12 +1,6 @@
 -- Numbers of files that rise.
-use Rattle.std.proofs.Common.{◌≡◌, ℕ, zero, suc, ◌<◌, ◌≤◌, List, [], ◌∷◌, ◌++◌, length, take, drop, inl, inr, refl, sym, ap, ◌∙◌, subst, arith, append-nil}
-use Rattle.std.proofs.lemmas.Bool.{cases_lt}
-use Rattle.std.proofs.lemmas.List.{map-append}
-use Rattle.std.specs.List.{AllByRecursion}
-use Rattle.raft_files.specs.Asks.{Act, Put, Begin, Sync, Unsynced, Delete, Cut, Found, Read}
-use Rattle.raft_files.specs.Disk.{NumberedBytes, on_last, put_behind, cut_last, begun, MayStand}
-use Rattle.raft_files.specs.Places.{IsNext}
-use Rattle.raft_engine_prefixes.specs.Done.{numbers, AreRisingFrom, AreConsecutive, Follows, AreBelow}
+use Rattle.raft_engine_prefixes.proofs.Common.{◌≡◌, ℕ, zero, suc, ◌<◌, ◌≤◌, List, [], ◌∷◌, ◌++◌, length, take, drop, inl, inr, refl, sym, ap, ◌∙◌, subst, arith, append-nil, cases_lt, map-append, AllByRecursion, Act, Put, Begin, Sync, Unsynced, Delete, Cut, Found, Read}
+use Rattle.raft_engine_prefixes.proofs.Common.{NumberedBytes, on_last, put_behind, cut_last, begun, MayStand, IsNext, numbers, AreRisingFrom, AreConsecutive, Follows, AreBelow}
 
 -- ---- the numbers of files that stand
 

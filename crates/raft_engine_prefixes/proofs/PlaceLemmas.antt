@@ -1,22 +1,8 @@
 -- Bytes at places: they stay where files get more, and a written batch's entry block stands at its place.
-use Rattle.std.proofs.Common.{◌≡◌, ℕ, suc, ◌+◌, ◌<◌, ◌≤◌, Bool, true, false, cond, List, [], ◌∷◌, ◌++◌, length, take, drop, Option, Some, None, refl, sym, ap, ◌∙◌, subst, arith, append-nil, length-append}
-use Rattle.std.specs.Prelude.{◌==◌, nat_le}
-use Rattle.std.proofs.lemmas.Bool.{false≢true}
-use Rattle.std.proofs.lemmas.Bool.Decides.{nat_tests}
-use Rattle.std.proofs.lemmas.List.{take_at, take-append-le, drop-append-le, length-drop, map-append}
-use Rattle.std.proofs.lemmas.Option.{cond_some}
+use Rattle.raft_engine_prefixes.proofs.Common.{◌≡◌, ℕ, suc, ◌+◌, ◌<◌, ◌≤◌, Bool, true, false, cond, List, [], ◌∷◌, ◌++◌, length, take, drop, Option, Some, None, refl, sym, ap, ◌∙◌, subst, arith, append-nil, length-append, ◌==◌, nat_le, false≢true, nat_tests, take_at}
+use Rattle.raft_engine_prefixes.proofs.Common.{take-append-le, drop-append-le, length-drop, map-append, cond_some, Item, checksum_bytes, item_batch_bytes, header_bytes, entry_block, item_offset, encoded_length, log_batch_bytes, header_len, Act, Put, Begin, Sync, Unsynced, Delete}
+use Rattle.raft_engine_prefixes.proofs.Common.{Cut, Found, Read, NumberedBytes, put_behind, begun, stretch_of, bytes_at, last_of, block_stands, KeepsBytes, numbers, AreRisingFrom}
 use Rattle.raft_base.specs.declared.compression_type.CompressionType.TheVariants as compressions
-use Rattle.raft_records.specs.Item.{Item}
-use Rattle.raft_records.specs.ItemBatch.{checksum_bytes, item_batch_bytes}
-use Rattle.raft_records.specs.LogBatch.{header_bytes, entry_block, item_offset, encoded_length, log_batch_bytes}
-use Rattle.raft_records.proofs.BufferLemmas.{header_len}
-use Rattle.raft_files.specs.Asks.{Act, Put, Begin, Sync, Unsynced, Delete, Cut, Found, Read}
-use Rattle.raft_files.specs.Disk.{NumberedBytes, put_behind, begun}
-use Rattle.raft_files.specs.Places.{stretch_of, bytes_at}
-use Rattle.raft_files.proofs.LastLemmas.{last_of}
-use Rattle.raft_engine_laws.proofs.ContentLemmas.{block_stands}
-use Rattle.raft_engine_prefixes.specs.Contents.{KeepsBytes}
-use Rattle.raft_engine_prefixes.specs.Done.{numbers, AreRisingFrom}
 use Rattle.raft_engine_prefixes.proofs.NumberLemmas.{rising_last}
 
 at_most : (n m : ℕ) → nat_le n m ≡ true → n ≤ m

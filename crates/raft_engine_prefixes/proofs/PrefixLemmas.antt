@@ -1,24 +1,7 @@
 -- What a disk leaves of the batches that were put.
-use Rattle.std.proofs.Common.{◌≡◌, ℕ, ◌+◌, ◌-◌, ◌<◌, ◌≤◌, List, [], ◌∷◌, ◌++◌, length, take, drop, inl, inr, refl, sym, ap, ◌∙◌, subst, arith, append_assoc, append-nil, length-append}
-use Rattle.std.proofs.lemmas.Bool.{cases_lt}
-use Rattle.std.proofs.lemmas.List.{length-take-le, take-append-drop, take-append-le, drop-append-le, drop-take, take_at, take-take}
-use Rattle.raft_base.specs.declared.pipe_log.LogQueue.{LogQueue}
-use Rattle.raft_base.specs.declared.pipe_log.Version.{Version}
-use Rattle.raft_records.specs.FilePart.{Part, IsBatchAt, StandBetween}
-use Rattle.raft_records.proofs.Names.{part_signature}
-use Rattle.raft_records.proofs.PartLemmas.{batch_inside}
-use Rattle.raft_history.specs.Batches.{Event}
-use Rattle.raft_files.specs.Asks.{Act, Put, Begin, Sync, Unsynced, Delete, Cut, Found, Read}
-use Rattle.raft_files.specs.Disk.{NumberedBytes, put_behind, begun, MayStand}
-use Rattle.raft_files.proofs.HeldLemmas.{length_on_last}
-use Rattle.raft_replay.specs.Cuts.{bytes_before}
-use Rattle.raft_replay.specs.Segments.{HoldsFrom}
-use Rattle.raft_replay.specs.Stops.{IsUnreadableAt}
-use Rattle.raft_replay.proofs.MachineOrderLemmas.{each_join, each_single}
-use Rattle.raft_recover.specs.Files.{FilesHold, whole_file}
-use Rattle.raft_tail.specs.Tails.{IsBrokenOff}
-use Rattle.raft_engine_prefixes.specs.TornTails.{FilesHoldTorn}
-use Rattle.raft_engine_prefixes.specs.Prefixes.{AreBatchesPut, ArePut, ArePutFrom, ArePutWhole, IsBrokenWhereItEnds, IsPrefixWith, HoldPrefixWith}
+use Rattle.raft_engine_prefixes.proofs.Common.{◌≡◌, ℕ, ◌+◌, ◌-◌, ◌<◌, ◌≤◌, List, [], ◌∷◌, ◌++◌, length, take, drop, inl, inr, refl, sym, ap, ◌∙◌, subst, arith, append_assoc, append-nil, length-append, cases_lt, length-take-le, take-append-drop, take-append-le, drop-append-le}
+use Rattle.raft_engine_prefixes.proofs.Common.{drop-take, take_at, take-take, LogQueue, Version, Part, IsBatchAt, StandBetween, part_signature, batch_inside, Event, Act, Put, Begin, Sync, Unsynced, Delete, Cut, Found, Read, NumberedBytes, put_behind, begun, MayStand}
+use Rattle.raft_engine_prefixes.proofs.Common.{length_on_last, bytes_before, HoldsFrom, IsUnreadableAt, each_join, each_single, FilesHold, whole_file, IsBrokenOff, FilesHoldTorn, AreBatchesPut, ArePut, ArePutFrom, ArePutWhole, IsBrokenWhereItEnds, IsPrefixWith, HoldPrefixWith}
 use Rattle.raft_engine_prefixes.proofs.BatchPartLemmas.{prefix_unreadable, shorter_unreadable}
 use Rattle.raft_engine_prefixes.proofs.TornLemmas.{with_all, stands_as, held_inside, one_file, whole_torn, torn_more}
 

@@ -1,12 +1,6 @@
 -- What was read tells the contents of entries.
-use Rattle.std.proofs.Common.{◌≡◌, ◌⊎◌, ℕ, zero, suc, ◌<◌, Bool, true, false, cond, List, [], ◌∷◌, filter, get_or, length, map, Contains, inl, inr, refl, ap, subst, ◌∙◌, arith}
-use Rattle.std.proofs.lemmas.List.Elements.{Contains-append_right}
-use Rattle.raft_base.specs.declared.entry_index.EntryIndex.{EntryIndex}
-use Rattle.raft_base.specs.declared.pipe_log.FileBlockHandle.{FileBlockHandle}
-use Rattle.raft_base.specs.declared.pipe_log.LogQueue.{LogQueue}
-use Rattle.raft_base.specs.declared.pipe_log.LogQueue.TheVariants.{Append, Rewrite}
-use Rattle.raft_files.specs.Asks.{Act, Ask, Begin, Cut, Delete, Found, Put, Read, Sync, Unsynced, acts_on, ask, is_same_queue}
-use Rattle.raft_engine_prefixes.specs.Contents.{AreBothTold, AreToldByReads, ReadEntryIsTold, TellSoundContents}
+use Rattle.raft_engine_prefixes.proofs.Common.{◌≡◌, ◌⊎◌, ℕ, zero, suc, ◌<◌, Bool, true, false, cond, List, [], ◌∷◌, filter, get_or, length, map, Contains, inl, inr, refl, ap, subst, ◌∙◌, arith, Contains-append_right, EntryIndex, FileBlockHandle, LogQueue, Append, Rewrite, Act}
+use Rattle.raft_engine_prefixes.proofs.Common.{Ask, Begin, Cut, Delete, Found, Put, Read, Sync, Unsynced, acts_on, ask, is_same_queue, AreBothTold, AreToldByReads, ReadEntryIsTold, TellSoundContents}
 
 contains_cases : {X : Type 0} (x z : X) (xs : List X) (k : ℕ) → k < length (x ∷ xs) → get_or (x ∷ xs) k z ≡ z → (x ≡ z) ⊎ Contains xs z
 contains_cases x z xs zero l e = inl e

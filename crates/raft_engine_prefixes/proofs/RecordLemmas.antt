@@ -1,15 +1,5 @@
 -- What is left of both queues has the records.
-use Rattle.std.proofs.Common.{ℕ, List}
-use Rattle.raft_base.specs.declared.entry_index.EntryIndex.{EntryIndex}
-use Rattle.raft_base.specs.declared.pipe_log.LogQueue.TheVariants.{Append, Rewrite}
-use Rattle.raft_base.specs.declared.pipe_log.Version.{Version}
-use Rattle.raft_history.specs.RegionSteps.{RegionStep, Tables}
-use Rattle.raft_files.specs.Asks.{Ask, NumberedBytes, acts_on}
-use Rattle.raft_files.specs.Disk.{IsLeftOf}
-use Rattle.raft_engine_laws.specs.Records.{Records}
-use Rattle.raft_engine_laws.specs.Crashes.{Deed, IsSafe, LoseNothing}
-use Rattle.raft_engine_laws.proofs.SafeCrashes.{lose_nothing}
-use Rattle.raft_engine_prefixes.specs.Done.{AreDone, HoldRecords}
+use Rattle.raft_engine_prefixes.proofs.Common.{ℕ, List, EntryIndex, Append, Rewrite, Version, RegionStep, Tables, Ask, NumberedBytes, acts_on, IsLeftOf, Records, Deed, IsSafe, LoseNothing, lose_nothing, AreDone, HoldRecords}
 use Rattle.raft_engine_prefixes.proofs.DoneLemmas.{left_of_done}
 
 pub records_held : (content : EntryIndex → List ℕ) (base : ℕ → Records) (version : Version) (asked : List Ask) (appended rewritten : List Deed)

@@ -1,18 +1,7 @@
 -- What a disk leaves of files of which the oldest are deleted.
-use Rattle.std.proofs.Common.{◌≡◌, ℕ, zero, suc, ◌<◌, ◌≤◌, List, [], ◌∷◌, ◌++◌, length, take, drop, inl, inr, refl, sym, ap, ◌∙◌, subst, arith, append_assoc, append-nil, length-append}
-use Rattle.std.proofs.lemmas.Bool.{cases_lt}
-use Rattle.std.proofs.lemmas.List.{take_all, drop_all, take-append-drop, take-append-le}
-use Rattle.raft_base.specs.declared.pipe_log.LogQueue.{LogQueue}
-use Rattle.raft_base.specs.declared.pipe_log.Version.{Version}
-use Rattle.raft_history.specs.Batches.{Event}
-use Rattle.raft_files.specs.Asks.{Act, Put, Begin, Sync, Unsynced, Delete, Cut, Found, Read, Ask, acts_on}
-use Rattle.raft_files.specs.Disk.{NumberedBytes, on_last, begun, deletions, files_of, IsLeftOf, MayStand}
-use Rattle.raft_files.proofs.HeldLemmas.{length_on_last}
-use Rattle.raft_replay.specs.Segments.{AreHeldInTurn, HoldsFrom}
-use Rattle.raft_replay.proofs.MachineOrderLemmas.{each_cut}
-use Rattle.raft_recover.specs.Files.{FilesHold, whole_file}
-use Rattle.raft_engine_prefixes.specs.TornTails.{FilesHoldTorn}
-use Rattle.raft_engine_prefixes.specs.Prefixes.{ArePut, ArePutWhole, IsPrefixWith, HoldPrefixWith, HoldRestOfPrefix}
+use Rattle.raft_engine_prefixes.proofs.Common.{◌≡◌, ℕ, zero, suc, ◌<◌, ◌≤◌, List, [], ◌∷◌, ◌++◌, length, take, drop, inl, inr, refl, sym, ap, ◌∙◌, subst, arith, append_assoc, append-nil, length-append, cases_lt, take_all, drop_all, take-append-drop, take-append-le, LogQueue}
+use Rattle.raft_engine_prefixes.proofs.Common.{Version, Event, Act, Put, Begin, Sync, Unsynced, Delete, Cut, Found, Read, Ask, acts_on, NumberedBytes, on_last, begun, deletions, files_of, IsLeftOf, MayStand, length_on_last, AreHeldInTurn, HoldsFrom, each_cut, FilesHold}
+use Rattle.raft_engine_prefixes.proofs.Common.{whole_file, FilesHoldTorn, ArePut, ArePutWhole, IsPrefixWith, HoldPrefixWith, HoldRestOfPrefix}
 use Rattle.raft_engine_prefixes.proofs.TornLemmas.{whole_torn, one_reading, more_torn}
 use Rattle.raft_engine_prefixes.proofs.PrefixLemmas.{all_held, prefix_left}
 

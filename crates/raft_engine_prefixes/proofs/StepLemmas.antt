@@ -1,17 +1,6 @@
 -- What each ask makes of the batches that were put.
-use Rattle.std.proofs.Common.{◌≡◌, ℕ, List, [], ◌∷◌, ◌++◌, refl, sym, subst, ◌∙◌}
-use Rattle.raft_base.specs.Signature.{signature_in}
-use Rattle.raft_base.specs.declared.pipe_log.FileBlockHandle.{FileBlockHandle}
-use Rattle.raft_base.specs.declared.pipe_log.LogQueue.{LogQueue}
-use Rattle.raft_base.specs.declared.pipe_log.Version.{Version}
-use Rattle.raft_history.specs.Batches.{Event}
-use Rattle.raft_records.specs.LogBatch.{log_batch_bytes}
-use Rattle.raft_files.specs.Asks.{Act, Put, Begin, Sync, Unsynced, Delete, Cut, Found, Read}
-use Rattle.raft_files.specs.Disk.{NumberedBytes, put_behind, cut_last, begun}
-use Rattle.raft_replay.specs.WrittenParts.{written_event}
-use Rattle.raft_recover.specs.Files.{FilesHold, whole_file}
-use Rattle.raft_engine_prefixes.specs.TornTails.{FilesHoldTorn, StopsAt}
-use Rattle.raft_engine_prefixes.specs.Prefixes.{AreBatchesPut, ArePut, ArePutWhole, WrittenBatchIsPut}
+use Rattle.raft_engine_prefixes.proofs.Common.{◌≡◌, ℕ, List, [], ◌∷◌, ◌++◌, refl, sym, subst, ◌∙◌, signature_in, FileBlockHandle, LogQueue, Version, Event, log_batch_bytes, Act, Put, Begin, Sync, Unsynced, Delete, Cut, Found, Read, NumberedBytes, put_behind, cut_last, begun}
+use Rattle.raft_engine_prefixes.proofs.Common.{written_event, FilesHold, whole_file, FilesHoldTorn, StopsAt, AreBatchesPut, ArePut, ArePutWhole, WrittenBatchIsPut}
 use Rattle.raft_engine_prefixes.proofs.TornLemmas.{cut_found, one_reading, whole_torn}
 use Rattle.raft_engine_prefixes.proofs.PrefixLemmas.{all_held, begun_whole}
 use Rattle.raft_engine_prefixes.proofs.WrittenLemmas.{written_held, written_put}

@@ -1,33 +1,12 @@
 -- What is so of the entries of batches is so of those of tables.
-use Rattle.std.proofs.Common.{◌≡◌, ◌⊎◌, ℕ, Bool, true, false, cond, List, [], ◌∷◌, ◌++◌, Option, Some, None, option_map, inl, inr, refl, sym, subst}
+use Rattle.raft_engine_prefixes.proofs.Common.{◌≡◌, ◌⊎◌, ℕ, Bool, true, false, cond, List, [], ◌∷◌, ◌++◌, Option, Some, None, option_map, inl, inr, refl, sym, subst, AllByRecursion, option_and_then, EntryIndex, FileId, LogQueue, Append, Rewrite, OpType, is_reserved, Item}
+use Rattle.raft_engine_prefixes.proofs.Common.{Content, entries, command, pair, entries_within, greatest_compaction, has_clean, is_unjoined, kept_if, least_cut, overlay, overlaid_table, rewritten_within, entries_after_replay, leaves_hole, Step, Run, Compact, Truncate, Del}
+use Rattle.raft_engine_prefixes.proofs.Common.{AtomicGroup, Clean, table_of, after_step, after, Table, below, from, same_some, Event, BatchSteps, batches, IsReadingOfBoth, steps_of, is_named, RegionStep, Tables, steps_of_items, content_step, pair_step, each_step_of, each-append}
+use Rattle.raft_engine_prefixes.proofs.Common.{each_filter, each_weaker, with_step, end_of, EachEntryAmong, EachEntryIn, EachEntryOf, EndsWithin, EntriesOfTablesStand, StandsAt}
 use Rattle.std.specs.FinMap as finite
-use Rattle.std.specs.List.{AllByRecursion}
-use Rattle.std.specs.Option.{option_and_then}
-use Rattle.raft_base.specs.declared.entry_index.EntryIndex.{EntryIndex}
-use Rattle.raft_base.specs.declared.pipe_log.FileId.{FileId}
-use Rattle.raft_base.specs.declared.pipe_log.LogQueue.{LogQueue}
-use Rattle.raft_base.specs.declared.pipe_log.LogQueue.TheVariants.{Append, Rewrite}
 use Rattle.raft_records.specs.declared.command.Command.TheVariants as commands
-use Rattle.raft_records.specs.declared.key_value.OpType.{OpType}
 use Rattle.raft_records.specs.declared.key_value.OpType.TheVariants as operations
-use Rattle.raft_records.specs.Group.{is_reserved}
-use Rattle.raft_records.specs.Item.{Item, Content, entries, command, pair}
-use Rattle.raft_table.specs.Marks.{entries_within}
-use Rattle.raft_table.specs.Overlay.{greatest_compaction, has_clean, is_unjoined, kept_if, least_cut, overlay, overlaid_table, rewritten_within}
-use Rattle.raft_table.specs.Start.{entries_after_replay, leaves_hole}
-use Rattle.raft_table.specs.Steps.{Step, Run, Compact, Truncate, Put, Del, AtomicGroup, Clean, table_of, after_step, after}
-use Rattle.raft_table.specs.Table.{Table}
-use Rattle.raft_table.specs.TableEntries.{below, from}
-use Rattle.raft_table.proofs.MarkEntries.{same_some}
-use Rattle.raft_history.specs.Batches.{Event, BatchSteps, batches}
-use Rattle.raft_history.specs.BothQueues.{IsReadingOfBoth}
-use Rattle.raft_history.specs.Effects.{steps_of, is_named}
-use Rattle.raft_history.specs.RegionSteps.{RegionStep, Tables, steps_of_items, content_step, pair_step}
-use Rattle.raft_history.proofs.EachStepLemmas.{each_step_of}
-use Rattle.raft_history.proofs.EffectLemmas.{each-append, each_filter, each_weaker}
-use Rattle.raft_history.proofs.Words.{with_step}
-use Rattle.raft_base.specs.Runs.{end_of}
-use Rattle.raft_engine_prefixes.specs.EntryPlaces.{EachEntryAmong, EachEntryIn, EachEntryOf, EndsWithin, EntriesOfTablesStand, StandsAt}
+use Rattle.raft_table.specs.Steps.{Put}
 use Rattle.raft_engine_prefixes.proofs.EntryPlaceLemmas.{places}
 
 module _ (IsSo : EntryIndex → Type 0) where

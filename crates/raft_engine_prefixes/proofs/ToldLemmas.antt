@@ -1,40 +1,9 @@
 -- Contents that are told.
-use Rattle.std.proofs.Common.{◌≡◌, ℕ, ◌+◌, ◌≤◌, List, [], ◌∷◌, ◌++◌, length, take, drop, Option, Some, None, inl, inr, refl, sym, ap, ◌∙◌, subst, arith, append_assoc, length-append}
-use Rattle.std.proofs.lemmas.List.{take-append-le, drop-append-le, length-drop, take-append-drop}
-use Rattle.std.specs.List.{concat}
+use Rattle.raft_engine_prefixes.proofs.Common.{◌≡◌, ℕ, ◌+◌, ◌≤◌, List, [], ◌∷◌, ◌++◌, length, take, drop, Option, Some, None, inl, inr, refl, sym, ap, ◌∙◌, subst, arith, append_assoc, length-append, take-append-le, drop-append-le, length-drop, take-append-drop, concat}
+use Rattle.raft_engine_prefixes.proofs.Common.{EntryIndex, FileBlockHandle, LogQueue, Append, Rewrite, with_lengths, Item, checksum_bytes, with_offsets_from, entry_block, entry_place, log_batch_bytes, Act, Put, Begin, Sync, Unsynced, Delete, Cut, Found, Read, Ask, ask, acts_on}
+use Rattle.raft_engine_prefixes.proofs.Common.{NumberedBytes, begun, put_behind, bytes_at, bytes_of, HaveBytes, added_bytes, AreToldByFiles, AreToldByReads, AreTold, AreBothTold, KeepsBytes, bytes_in, content_at, content_of, AreTrueReads, AreBothTrueReads, placed_entries}
+use Rattle.raft_engine_prefixes.proofs.Common.{HaveContents, AreToldByWritten, TellContents, TellSoundContents, WrittenEntryIsTold, AddedEntriesAreTold}
 use Rattle.raft_base.specs.declared.compression_type.CompressionType.TheVariants as compressions
-use Rattle.raft_base.specs.declared.entry_index.EntryIndex.{EntryIndex}
-use Rattle.raft_base.specs.declared.pipe_log.FileBlockHandle.{FileBlockHandle}
-use Rattle.raft_base.specs.declared.pipe_log.LogQueue.{LogQueue}
-use Rattle.raft_base.specs.declared.pipe_log.LogQueue.TheVariants.{Append, Rewrite}
-use Rattle.raft_records.specs.Entries.{with_lengths}
-use Rattle.raft_records.specs.Item.{Item}
-use Rattle.raft_records.specs.ItemBatch.{checksum_bytes, with_offsets_from}
-use Rattle.raft_records.specs.LogBatch.{entry_block, entry_place, log_batch_bytes}
-use Rattle.raft_files.specs.Asks.{Act, Put, Begin, Sync, Unsynced, Delete, Cut, Found, Read, Ask, ask, acts_on}
-use Rattle.raft_files.specs.Disk.{NumberedBytes, begun, put_behind}
-use Rattle.raft_files.specs.Places.{bytes_at}
-use Rattle.raft_engine_laws.specs.Contents.{bytes_of, HaveBytes}
-use Rattle.raft_engine_laws.proofs.ContentLemmas.{added_bytes}
-use Rattle.raft_engine_prefixes.specs.Contents.{
-  AreToldByFiles,
-  AreToldByReads,
-  AreTold,
-  AreBothTold,
-  KeepsBytes,
-  bytes_in,
-  content_at,
-  content_of,
-  AreTrueReads,
-  AreBothTrueReads,
-  placed_entries,
-  HaveContents,
-  AreToldByWritten,
-  TellContents,
-  TellSoundContents,
-  WrittenEntryIsTold,
-  AddedEntriesAreTold,
-}
 use Rattle.raft_engine_prefixes.proofs.PlaceLemmas.{bytes_stay, block_found}
 
 -- ---- they last

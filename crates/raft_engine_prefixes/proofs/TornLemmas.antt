@@ -1,21 +1,7 @@
 -- Files that may end in a torn tail.
-use Rattle.std.proofs.Common.{◌≡◌, ◌⊎◌, ℕ, ◌<◌, ◌≤◌, List, [], ◌∷◌, ◌++◌, length, map, take, drop, None, Some, inl, inr, refl, sym, ap, ◌∙◌, subst, arith, append-nil}
-use Rattle.std.proofs.lemmas.List.{length-take-le, take-append-drop, drop-append-le, drop-take, take_at, take-take, take_all}
-use Rattle.raft_base.specs.declared.errors.Error.{Error}
-use Rattle.raft_base.specs.declared.pipe_log.LogQueue.{LogQueue}
-use Rattle.raft_base.specs.declared.pipe_log.Version.{Version}
-use Rattle.raft_records.specs.FilePart.{Part, IsBatchAt, StandBetween}
-use Rattle.raft_records.specs.Item.{Item}
-use Rattle.raft_records.proofs.PartLemmas.{batch_inside}
-use Rattle.raft_history.specs.Batches.{Event}
-use Rattle.raft_files.specs.Disk.{NumberedBytes, cut_last}
-use Rattle.raft_replay.specs.Cuts.{bytes_before}
-use Rattle.raft_replay.specs.Segments.{AreHeldInTurn, HoldsFrom}
-use Rattle.raft_replay.specs.Stops.{IsUnreadableAt}
-use Rattle.raft_replay.proofs.MachineOrderLemmas.{each_single}
-use Rattle.raft_replay.proofs.SegmentLemmas.{batch_none, batch_unique, part_unique}
-use Rattle.raft_recover.specs.Files.{FilesHold, whole_file}
-use Rattle.raft_engine_prefixes.specs.TornTails.{HoldsTornFrom, FilesHoldTorn, ReadableFrontStops, StopsAt}
+use Rattle.raft_engine_prefixes.proofs.Common.{◌≡◌, ◌⊎◌, ℕ, ◌<◌, ◌≤◌, List, [], ◌∷◌, ◌++◌, length, map, take, drop, None, Some, inl, inr, refl, sym, ap, ◌∙◌, subst, arith, append-nil, length-take-le, take-append-drop, drop-append-le, drop-take, take_at, take-take, take_all}
+use Rattle.raft_engine_prefixes.proofs.Common.{Error, LogQueue, Version, Part, IsBatchAt, StandBetween, Item, batch_inside, Event, NumberedBytes, cut_last, bytes_before, AreHeldInTurn, HoldsFrom, IsUnreadableAt, each_single, batch_none, batch_unique, part_unique, FilesHold}
+use Rattle.raft_engine_prefixes.proofs.Common.{whole_file, HoldsTornFrom, FilesHoldTorn, ReadableFrontStops, StopsAt}
 use Rattle.raft_engine_prefixes.proofs.BatchPartLemmas.{end_unreadable}
 
 -- a part with these bytes

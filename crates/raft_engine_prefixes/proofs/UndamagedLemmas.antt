@@ -1,21 +1,7 @@
 -- What no crash damages.
-use Rattle.std.proofs.Common.{◌≡◌, ℕ, zero, suc, ◌<◌, List, [], ◌∷◌, ◌++◌, length, drop, inl, inr, refl, sym, ap, subst, arith, append-nil, length-append}
-use Rattle.std.proofs.lemmas.List.{take_all}
-use Rattle.raft_base.specs.declared.pipe_log.FileBlockHandle.{FileBlockHandle}
-use Rattle.raft_base.specs.declared.pipe_log.LogQueue.{LogQueue}
-use Rattle.raft_base.specs.declared.pipe_log.Version.{Version}
-use Rattle.raft_records.specs.FilePart.{Part, StandBetween}
-use Rattle.raft_history.specs.Batches.{Event}
-use Rattle.raft_files.specs.Asks.{Act, Ask, Begin, Cut, Delete, Found, Put, Read, Sync, Unsynced, acts_on}
-use Rattle.raft_files.specs.Disk.{IsLeftOf, MayStand, NumberedBytes, begun, put_behind}
-use Rattle.raft_files.proofs.HeldLemmas.{length_on_last}
-use Rattle.raft_replay.specs.Cuts.{bytes_before}
-use Rattle.raft_replay.specs.Segments.{HoldsFrom}
-use Rattle.raft_replay.specs.Stops.{IsUnreadableAt}
-use Rattle.raft_recover.specs.Files.{FilesHold, whole_file}
-use Rattle.raft_tail.specs.Tails.{IsBrokenOff}
-use Rattle.raft_engine_prefixes.specs.Prefixes.{AreBatchesPut, ArePut, ArePutFrom}
-use Rattle.raft_engine_prefixes.specs.TornTails.{AreUndamaged, FoundUndamaged, IsDamagedAt, NoneIsDamaged, StopsAt}
+use Rattle.raft_engine_prefixes.proofs.Common.{◌≡◌, ℕ, zero, suc, ◌<◌, List, [], ◌∷◌, ◌++◌, length, drop, inl, inr, refl, sym, ap, subst, arith, append-nil, length-append, take_all, FileBlockHandle, LogQueue, Version, Part, StandBetween, Event, Act, Ask, Begin, Cut, Delete}
+use Rattle.raft_engine_prefixes.proofs.Common.{Found, Put, Read, Sync, Unsynced, acts_on, IsLeftOf, MayStand, NumberedBytes, begun, put_behind, length_on_last, bytes_before, HoldsFrom, IsUnreadableAt, FilesHold, whole_file, IsBrokenOff, AreBatchesPut, ArePut, ArePutFrom}
+use Rattle.raft_engine_prefixes.proofs.Common.{AreUndamaged, FoundUndamaged, IsDamagedAt, NoneIsDamaged, StopsAt}
 use Rattle.raft_engine_prefixes.proofs.BatchPartLemmas.{end_unreadable}
 use Rattle.raft_engine_prefixes.proofs.DamageLemmas.{end_undamaged}
 use Rattle.raft_engine_prefixes.proofs.PrefixLemmas.{put_behind_one, put_prefix}

@@ -1,8 +1,5 @@
 -- Nothing is forged where a prefix of what was put stands.
-use Rattle.std.proofs.Common.{◌≡◌, List, ◌++◌, take, ◌∙◌}
-use Rattle.raft_files.specs.Asks.{NumberedBytes, acts_on}
-use Rattle.raft_files.specs.Disk.{begun}
-use Rattle.raft_engine_prefixes.specs.AnyTails.{PrefixesAreUnforged}
+use Rattle.raft_engine_prefixes.proofs.Common.{◌≡◌, List, ◌++◌, take, ◌∙◌, NumberedBytes, acts_on, begun, PrefixesAreUnforged}
 use Rattle.raft_engine_prefixes.proofs.AnyTailLemmas.{may_stand}
 use Rattle.raft_engine_prefixes.proofs.PrefixLemmas.{all_held}
 use Rattle.raft_engine_prefixes.proofs.RestLemmas.{rest_behind}

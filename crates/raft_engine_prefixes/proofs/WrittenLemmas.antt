@@ -1,31 +1,8 @@
 -- What a write puts.
-use Rattle.std.proofs.Common.{◌≡◌, ◌≢◌, ℕ, ◌+◌, ◌-◌, ◌^◌, ◌<◌, ◌≤◌, List, [], ◌∷◌, ◌++◌, length, take, drop, inl, inr, refl, sym, ap, ◌∙◌, subst, arith, append_assoc, append-nil, length-append}
-use Rattle.std.proofs.lemmas.Bool.{cases_lt}
-use Rattle.std.proofs.lemmas.List.{drop_all, drop_at, drop-take, length-drop, length-take, length-take-le, take_all, take-append-drop, take-take}
-use Rattle.raft_base.specs.Signature.{signature_in}
-use Rattle.raft_base.specs.declared.pipe_log.FileBlockHandle.{FileBlockHandle}
-use Rattle.raft_base.specs.declared.pipe_log.LogQueue.{LogQueue}
-use Rattle.raft_base.specs.declared.pipe_log.Version.{Version}
-use Rattle.raft_records.specs.FilePart.{Part, IsBatchAt, StandBetween}
-use Rattle.raft_records.specs.Item.{Item, AreInBytes}
-use Rattle.raft_records.specs.LogBatch.{IsBatchOf, encoded_length, log_batch_bytes}
-use Rattle.raft_records.specs.Range.{AreInRange}
-use Rattle.raft_records.proofs.FrameLemmas.{log_batch_length}
-use Rattle.raft_records.proofs.PartLemmas.{batch_inside, written_stands}
-use Rattle.raft_history.specs.Batches.{Event}
-use Rattle.raft_files.specs.Disk.{NumberedBytes, put_behind}
-use Rattle.raft_files.proofs.LastLemmas.{last_of}
-use Rattle.raft_replay.specs.Cuts.{bytes_before}
-use Rattle.raft_replay.specs.Segments.{HoldsFrom}
-use Rattle.raft_replay.specs.Stops.{IsUnreadableAt}
-use Rattle.raft_replay.proofs.SegmentLemmas.{batch_none, batch_unique}
-use Rattle.raft_replay.specs.WrittenParts.{with_bytes, written_event}
-use Rattle.raft_replay.proofs.MachineOrderLemmas.{each_join, each_cut, each_single}
-use Rattle.raft_replay.proofs.WrittenPartLemmas.{held_after}
-use Rattle.raft_recover.specs.Files.{FilesHold, whole_file}
-use Rattle.raft_tail.specs.Tails.{IsBroken, IsBrokenOff}
-use Rattle.raft_tail.proofs.BrokenLemmas.{written_broken}
-use Rattle.raft_engine_prefixes.specs.Prefixes.{AreBatchesPut, ArePutFrom, IsBrokenWhereItEnds}
+use Rattle.raft_engine_prefixes.proofs.Common.{◌≡◌, ◌≢◌, ℕ, ◌+◌, ◌-◌, ◌^◌, ◌<◌, ◌≤◌, List, [], ◌∷◌, ◌++◌, length, take, drop, inl, inr, refl, sym, ap, ◌∙◌, subst, arith, append_assoc, append-nil, length-append, cases_lt, drop_all, drop_at, drop-take, length-drop, length-take}
+use Rattle.raft_engine_prefixes.proofs.Common.{length-take-le, take_all, take-append-drop, take-take, signature_in, FileBlockHandle, LogQueue, Version, Part, IsBatchAt, StandBetween, Item, AreInBytes, IsBatchOf, encoded_length, log_batch_bytes, AreInRange, log_batch_length}
+use Rattle.raft_engine_prefixes.proofs.Common.{batch_inside, written_stands, Event, NumberedBytes, put_behind, last_of, bytes_before, HoldsFrom, IsUnreadableAt, batch_none, batch_unique, with_bytes, written_event, each_join, each_cut, each_single, held_after, FilesHold}
+use Rattle.raft_engine_prefixes.proofs.Common.{whole_file, IsBroken, IsBrokenOff, written_broken, AreBatchesPut, ArePutFrom, IsBrokenWhereItEnds}
 use Rattle.raft_engine_prefixes.proofs.BatchPartLemmas.{end_unreadable}
 use Rattle.raft_engine_prefixes.proofs.DamageLemmas.{end_broken}
 use Rattle.raft_engine_prefixes.proofs.TornLemmas.{with_all, stands_as, one_file}

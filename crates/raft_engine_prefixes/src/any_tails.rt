@@ -12,13 +12,14 @@ ghost use Rattle.raft_engine_prefixes.specs.TornTails.{FilesHoldTorn};
 ghost use Rattle.raft_engine_prefixes.specs.Prefixes.{AreFirstOf, ArePut};
 ghost use Rattle.raft_engine_prefixes.specs.AnyTails.{BeginWithSynced, FilesBeginWith, FilesHoldPrefix, IsUnforgedLeftOf, PrefixesAreUnforged};
 
-/// States that what a disk may leave that writes in order, one may leave that writes in any order.
+/// States that what a disk may leave that writes in order, a disk may leave that writes in any order.
 pub fn prefixes_may_stand_unordered()
     ensures { (acts : List Act) (files : List NumberedBytes) → MayStand acts files → MayStandUnordered acts files }
 {}
 
-/// States that whatever is read of files begins with the batches that stand first in them; and that whatever may stand of the
-/// files of a queue, with any bytes behind the synced ones, begins with the synced batches, and so does whatever is read of it.
+/// States what is read of files that a disk leaves that writes in any order. Whatever is read of files begins
+/// with the batches that they begin with. Whatever may be left of the files of a queue, with any bytes behind
+/// the synced ones, begins with the synced batches; so does whatever is read of it.
 pub fn synced_batches_are_read_first()
     ensures first { (queue : LogQueue) (version : Version) (files : List NumberedBytes) (a g : List Event)
         → FilesHoldPrefix queue version files a → FilesHoldTorn queue version files g → AreFirstOf a g }
@@ -29,8 +30,9 @@ pub fn synced_batches_are_read_first()
         → FilesHoldTorn queue version files read → AreFirstOf synced read }
 {}
 
-/// States that of what is left of a queue, of which the last file is never deleted, with any bytes behind the synced ones, the
-/// synced batches stand first, behind those of the deleted files.
+/// States that what a disk that writes in any order may leave of a queue's files, with any bytes behind the
+/// synced ones, begins with the synced batches, apart from those of deleted files. The queue's last file must
+/// never be deleted.
 pub fn synced_batches_are_left_first()
     ensures { (queue : LogQueue) (version : Version) (asked : List Ask) (synced h : List Event) (files : List NumberedBytes)
         → ArePut queue version (acts_on queue asked) synced h
@@ -38,8 +40,8 @@ pub fn synced_batches_are_left_first()
         → IsLeftUnordered queue asked files → BeginWithSynced queue version asked synced files }
 {}
 
-/// States that whatever such a disk leaves of a queue's files, if it can be read, and nothing of it was never written, holds
-/// batches that may be left of what is done to the queue.
+/// States that what a disk that writes in any order may leave of a queue's files holds batches that may be
+/// left of what was done to the queue, if it can be read and has nothing that was never written.
 pub fn unforged_files_hold_what_may_be_left()
     ensures { (queue : LogQueue) (version : Version) (asked : List Ask) (deeds : List Deed) (files : List NumberedBytes)
         (read : List Event) → AreDone queue version (acts_on queue asked) deeds
@@ -47,7 +49,7 @@ pub fn unforged_files_hold_what_may_be_left()
         → HoldLeft queue version deeds files }
 {}
 
-/// States that nothing is forged of what a disk leaves that writes in order.
+/// States that what a disk leaves that writes in order has nothing that was never written.
 pub fn prefixes_are_unforged()
     ensures { PrefixesAreUnforged }
 {}

@@ -8,14 +8,14 @@ ghost use Rattle.raft_files.specs.Disk.{begun};
 ghost use Rattle.raft_files.specs.Places.{bytes_at};
 ghost use Rattle.raft_engine_prefixes.specs.Contents.{AddedEntriesAreTold, AreBothTold, AreBothTrueReads, AreTold, KeepsBytes, ReadEntryIsTold, WrittenEntryIsTold, content_of};
 
-/// States that where the sound blocks that were read stand in the files, the contents that the files tell are told: no two
-/// places say different things.
+/// States that files tell the contents of entries without contradiction: if the sound blocks that were read
+/// are in the files, no two places say different things of an entry.
 pub fn files_tell_contents()
     ensures { (asks : List Ask) → AreBothTrueReads asks → AreBothTold asks (content_of asks) }
 {}
 
-/// States that bytes stay where they are, unless some are cut off or files are found; so contents that are told by what
-/// was asked were told by what was asked before.
+/// States that bytes stay where they are in a file, unless some are cut off or files are found. So contents
+/// that are told by what was asked of the files were told by what was asked before.
 pub fn told_contents_last()
     ensures bytes { (acts : List Act) (act : Act) (seq offset len : ℕ) (block : List ℕ) → KeepsBytes act
         → bytes_at (begun acts) seq offset len ≡ Some block
@@ -26,8 +26,8 @@ pub fn told_contents_last()
         → AreBothTold (a ∷ asks) content → AreBothTold asks content }
 {}
 
-/// States what contents are that are told: of a written batch the byte strings that were added for its entries, and of an
-/// entry whose block was read, and is sound, the bytes that were found in it.
+/// States which contents are told. Those of a written batch's entries are the byte strings that were added
+/// for them. Those of an entry whose block was read, and is sound, are the bytes that were found in it.
 pub fn told_contents_are_those_that_were_added()
     ensures entry { WrittenEntryIsTold }
     ensures added { AddedEntriesAreTold }

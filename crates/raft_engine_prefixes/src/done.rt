@@ -17,11 +17,17 @@ ghost use Rattle.raft_recover.specs.Files.{FilesHold, whole_file};
 ghost use Rattle.raft_engine_prefixes.specs.TornTails.{FilesHoldTorn, FoundUndamaged, IsDamagedAt, StopsAt};
 ghost use Rattle.raft_engine_prefixes.specs.Done.{AreDone, AreDoneWhole, AreConsecutive, AreRisingFrom, Follows, HoldLeft, HoldRecords, LastFileIsNext, WrittenBatchIsDone, numbers};
 
-/// States what each ask does to a queue: a written batch that is put is written; a sync is one; a new file does nothing,
-/// if all is synced, and its number is above the last one's and not among those of deleted files; the deletion of a file
-/// that isn't the last deletes the files below a number, above its own and up to that of the next one; files that are
-/// found when the machine starts, with or without a torn tail, are those of a crash; where a reader stops in the last file, a
-/// torn tail may be cut off; and a read does nothing, nor does a sync that fails. A batch in the last file is one that may be written next.
+/// States what each ask of an engine does to a queue.
+/// - A written batch that is put is written, and a sync is one.
+/// - A new file does nothing, if all is synced and its number is above that of the last one and not among
+///   those of deleted files.
+/// - The deletion of a file that isn't the last one deletes the files below a number above its own, up to
+///   that of the next one.
+/// - Files that are found when the machine starts, with or without a torn tail, are those of a crash.
+/// - Where a reader stops in the last file, a torn tail may be cut off.
+/// - A read does nothing, nor does a sync that fails.
+///
+/// A batch in the last file is one that may be written next.
 pub fn asks_do_deeds()
     ensures none { (queue : LogQueue) (version : Version) → AreDoneWhole queue version [] [] }
     ensures written { WrittenBatchIsDone }
@@ -59,17 +65,17 @@ pub fn asks_do_deeds()
     ensures next { LastFileIsNext }
 {}
 
-/// States that whatever is left of a queue's files holds batches that may be left of what is done to the queue, and a
-/// torn tail behind them at most.
+/// States that what a crash leaves of a queue's files holds batches that may be left of what was done to the
+/// queue, and at most a torn tail behind them.
 pub fn files_that_are_left_hold_what_may_be_left()
     ensures { (queue : LogQueue) (version : Version) (asked : List Ask) (deeds : List Deed) (files : List NumberedBytes)
         → AreDone queue version (acts_on queue asked) deeds → IsLeftOf queue asked files
         → HoldLeft queue version deeds files }
 {}
 
-/// States that no crash damages files: where no damage was in the files that were found when the machine started, where a
-/// reader stops in the last file of those that are left none begins. So who refuses files in which one does never refuses what
-/// a crash left of files that were accepted so.
+/// States that no crash damages files. If there was no damage in the files that were found when the machine
+/// started, none begins where a reader stops in the last file of those that are left. So who refuses damaged
+/// files never refuses what a crash left of files that were accepted.
 pub fn no_crash_damages_files()
     ensures { (queue : LogQueue) (version : Version) (asked : List Ask) (deeds : List Deed)
         (closed : List NumberedBytes) (last : NumberedBytes) (at : ℕ)
@@ -78,8 +84,9 @@ pub fn no_crash_damages_files()
         → ¬ (IsDamagedAt (whole_file queue version last) at) }
 {}
 
-/// States that no crash loses records: if what is done to both queues is safe, or merely loses nothing, whatever is left
-/// of their files can be read, and gives the records that the batches which stand of the append queue make.
+/// States that no crash loses records. If what was done to both queues is safe, or at least loses nothing,
+/// whatever is left of their files can be read, and gives the records that the batches make which are left of
+/// the append queue.
 pub fn no_crash_loses_records()
     ensures safe { (content : EntryIndex → List ℕ) (base : ℕ → Records) (version : Version) (asked : List Ask)
         (appended rewritten : List Deed) (untold : List RegionStep) (tables : Tables)

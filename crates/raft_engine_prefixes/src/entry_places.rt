@@ -20,19 +20,20 @@ pub fn written_entries_end_within()
         → EntriesEndWithin (written_event part handle items entry_bytes ∷ []) }
 {}
 
-/// States that at the place of each entry of the batches which files of rising numbers hold, bytes stand in these files.
+/// States that files whose numbers rise have bytes at the place of each entry of the batches that they hold.
 pub fn places_stand()
     ensures { (queue : LogQueue) (version : Version) (n : ℕ) (files : List NumberedBytes) (h : List Event)
         → AreRisingFrom n (numbers files) → FilesHold queue version files h → PlacesStand queue files h }
 {}
 
-/// States that each entry of the tables that both queues are read as stands in their files, where the entries of all batches
-/// end within their blocks.
+/// States that each entry of the tables that are read of both queues has its bytes in their files, if the
+/// entries of all batches end within their blocks.
 pub fn entries_of_tables_stand()
     ensures { EntriesOfTablesStand }
 {}
 
-/// States that where the entries of all batches of a queue end within their blocks, those do that are read of what a crash leaves.
+/// States that the entries of the batches that are read of what a crash leaves of a queue end within their
+/// blocks, if those of all its batches do.
 pub fn left_batches_end_within()
     ensures { LeftFilesEndWithin }
 {}

@@ -13,10 +13,11 @@ ghost use Rattle.raft_recover.specs.Files.{FilesHold, whole_file};
 ghost use Rattle.raft_engine_prefixes.specs.TornTails.{FilesHoldTorn, StopsAt};
 ghost use Rattle.raft_engine_prefixes.specs.Prefixes.{ArePut, ArePutWhole, HoldPrefixWith, HoldRestOfPrefix, PutsGoOn, WrittenBatchIsPut};
 
-/// States what each ask makes of the batches that were put: before the first there is none; a written batch that is put
-/// is one more; a sync, a new file
-/// and files that are found make all of them synced; where a reader stops in the last file, the torn tail may be cut
-/// off. A deletion is counted elsewhere, and a read puts nothing, nor does a sync that fails. Asks put one history, and sync one prefix of it.
+/// States what each ask of an engine makes of the batches that were put, and of those that are synced. Before
+/// the first ask there are none. A written batch that is put is one more. A sync, a new file, and files that
+/// are found make all of them synced. Where a reader stops in the last file, the torn tail may be cut off. A
+/// deletion is counted elsewhere; a read puts nothing, nor does a sync that fails. Asks put one history only,
+/// and sync one prefix of it.
 pub fn asks_put_batches()
     ensures nothing { (queue : LogQueue) (version : Version) → ArePutWhole queue version [] [] [] }
     ensures written { WrittenBatchIsPut }
@@ -43,9 +44,9 @@ pub fn asks_put_batches()
         → ArePut queue version acts synced' h' → (synced ≡ synced') × (h ≡ h') }
 {}
 
-/// States that the files of a queue hold the batches that were put, if nothing is lost, and that whatever stands of
-/// them
-/// holds a prefix of these batches, with at least those that were synced, and behind them a torn tail at most.
+/// States that the files of a queue hold the batches that were put if nothing is lost. Whatever a crash
+/// leaves of them holds a prefix of these batches, with at least those that were synced, and at most a torn
+/// tail behind them; and after a sync without a torn tail, all of them.
 pub fn files_that_stand_hold_a_prefix()
     ensures all { (queue : LogQueue) (version : Version) (acts : List Act) (synced h : List Event)
         → ArePut queue version acts synced h → FilesHoldTorn queue version (begun acts) h }
@@ -57,9 +58,9 @@ pub fn files_that_stand_hold_a_prefix()
         → FilesHold queue version files h }
 {}
 
-/// States that what is left of a queue, of which the last file is never deleted, holds the same without the batches of
-/// the oldest files; and that if nothing is lost, and there is no torn tail, the deleted files and those that are there
-/// hold all batches.
+/// States that what is left of a queue whose last file is never deleted holds the same, without the batches
+/// of the oldest files. If nothing is lost and there is no torn tail, the deleted files and those that are
+/// there hold all batches.
 pub fn files_that_are_left_hold_the_rest()
     ensures whole { (queue : LogQueue) (version : Version) (asked : List Ask) (synced h : List Event)
         → ArePutWhole queue version (acts_on queue asked) synced h
@@ -72,7 +73,8 @@ pub fn files_that_are_left_hold_the_rest()
         → IsLeftOf queue asked files → HoldRestOfPrefix queue version asked synced h files }
 {}
 
-/// States that batches lie in the files that hold them: if these are below a number, or from it on, so are their files.
+/// States that batches are in the files that hold them: if these are below a number, or from it on, so are
+/// the files of the batches.
 pub fn batches_lie_in_their_files()
     ensures below { (queue : LogQueue) (version : Version) (n : ℕ) (files : List NumberedBytes)
         (h : List Event) → FilesHold queue version files h
@@ -84,7 +86,8 @@ pub fn batches_lie_in_their_files()
         → AllByRecursion (λ (e : Event). n ≤ e.file.seq) h }
 {}
 
-/// States that the batches that were put, and those that were synced, are a prefix of those behind each further act.
+/// States that the batches that were put, and those that were synced, are a prefix of those behind each
+/// further act.
 pub fn puts_go_on()
     ensures { PutsGoOn }
 {}

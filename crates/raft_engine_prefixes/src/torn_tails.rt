@@ -11,8 +11,8 @@ ghost use Rattle.raft_files.specs.Disk.{NumberedBytes, cut_last};
 ghost use Rattle.raft_recover.specs.Files.{FilesHold, whole_file};
 ghost use Rattle.raft_engine_prefixes.specs.TornTails.{AreUndamaged, FilesHoldTorn, ReadableFrontStops, StopsAt};
 
-/// States that no readable batch begins another one, and that a proper part of one begins with none, whatever the
-/// signature: its header names the length of the whole.
+/// States that no readable batch is the start of another one, and that no proper part of one begins with a
+/// readable batch, whatever the signature: its header names the length of the whole.
 pub fn parts_of_batches_are_unreadable()
     ensures one_front { (signature : Option ℕ) → HasOneFront (λ bytes. IsReadable bytes signature) }
     ensures part { (bytes part rest : List ℕ) (signature other : Option ℕ) (items : List Item)
@@ -20,10 +20,11 @@ pub fn parts_of_batches_are_unreadable()
         → HasNoFront (λ xs. IsReadable xs other) part }
 {}
 
-/// States that files which hold batches hold them with no tail; that files with or without a tail that can't be read are read
-/// in one way; that where a reader stops in the last file, the whole batches end: cut there, the files hold them; that files
-/// which hold batches with no tail aren't damaged; that files which hold batches once they are cut so held them with that
-/// tail; and that `readable_front` says where a reader stops.
+/// States what is known of torn tails, bytes at the end of the last file that don't begin with a readable
+/// batch. Files that hold batches hold them with no tail, too. Files, with or without a tail, are read in one
+/// way only. Where a reader stops in the last file, the whole batches end: cut there, the files hold them.
+/// Files that hold batches with no tail aren't damaged. Files that hold batches once they are cut held them
+/// with that tail before. `readable_front` tells where a reader stops.
 pub fn torn_tails_are_found()
     ensures whole { (queue : LogQueue) (version : Version) (files : List NumberedBytes) (h : List Event)
         → FilesHold queue version files h → FilesHoldTorn queue version files h }

@@ -25,6 +25,7 @@ mod moved_groups;
 #[cfg(test)]
 mod opening;
 #[cfg(test)]
+mod pages;
 #[cfg(test)]
 mod purged;
 #[cfg(test)]

@@ -2,10 +2,12 @@
 
 use crate::batches::Part::Large;
 use crate::batches::REGION;
-use crate::calls::{LogFiles, Way, copies, holds, new_engine, open_as, write};
+use crate::calls::{
+    LogFiles, Way, are_named, copies, holds, new_engine, open_as, open_in_mode, with_flipped, write,
+};
 use crate::engine::text_of;
 use raft_base::{LogQueue, Version};
-use raft_engine::Engine;
+use raft_engine::{Engine, RecoveryMode};
 use raft_files::MemoryFiles;
 use raft_records::Result;
 use std::alloc::Global;
@@ -48,4 +50,30 @@ fn a_long_last_file_is_opened(rt: HostRuntime) {
     for row in &ROWS {
         assert!(rt; holds!(is_opened(&rt, rt.alloc(), row)));
     }
+}
+
+/// Returns how long the first batch of a file is, as the first seven bytes of its header say.
+fn len_of_first(files: &LogFiles) -> usize {
+    let mut len = 0;
+    for (_, bytes) in files {
+        for byte in bytes.iter().take(7) {
+            len = len << 8 | *byte as usize;
+        }
+    }
+    len
+}
+
+/// Tests whether two workers find the damaged entries of the second batch.
+fn is_named<R: Threads + Sync>(rt: &R, alloc: Global) -> Result<bool> {
+    let files = long(alloc, 0)?;
+    let second = len_of_first(&files);
+    let append = with_flipped(files, second.saturating_add(16));
+    let mode = RecoveryMode::TolerateTornTail;
+    let opened = open_in_mode(rt, alloc, mode, append, Vec::new(alloc))??;
+    Ok(are_named(opened.damaged.as_slice(), &[second as u64]))
+}
+
+#[test]
+fn damaged_entries_of_a_long_last_file_are_named(rt: HostRuntime) {
+    assert!(rt; holds!(is_named(&rt, rt.alloc())));
 }

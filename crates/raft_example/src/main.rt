@@ -35,6 +35,12 @@ const WORKERS: usize = 2;
 /// The regions that are written to.
 const REGIONS: [u64; 2] = [7, 8];
 
+/// Prints the usage for `--help`; else runs the example over the folder that the first word names, or over
+/// one of its own.
+///
+/// # Errors
+///
+/// Those of [`run_example`]; `Io` for the words, the output or the folder.
 fn main(rt: HostRuntime) -> Result<()> {
     match env::args(&rt)?.nth(1) {
         Some(word) if is_help(word.as_str()) => Ok(println!(rt; "{USAGE}")?),
@@ -47,12 +53,16 @@ fn main(rt: HostRuntime) -> Result<()> {
     }
 }
 
-/// Tests whether a word asks for the usage.
+/// Tests whether `word` asks for the usage.
 fn is_help(word: &str) -> bool {
     word == "--help" || word == "-h"
 }
 
 /// Removes the program's own folder, if it is there.
+///
+/// # Errors
+///
+/// `Io` for the folder.
 fn remove_folder<R: Host>(rt: &R) -> Result<()> {
     if fs::exists(rt, FOLDER)? {
         fs::remove_dir_all(rt, FOLDER)?;
@@ -60,48 +70,74 @@ fn remove_folder<R: Host>(rt: &R) -> Result<()> {
     Ok(())
 }
 
-/// Goes through what an engine does. Each engine is let go before the next one opens the folder.
+/// Goes through what an engine does, in `folder`. Each engine is dropped before the next one opens the
+/// folder.
+///
+/// # Errors
+///
+/// That of the first step that fails.
 fn run_example<R: Host>(rt: &R, folder: &str) -> Result<()> {
     write_and_move(rt, folder)?;
-    write_torn(rt, folder)?;
+    write_torn_batch(rt, folder)?;
     write_again(rt, folder)?;
     print_tables(rt, &open_engine(rt, folder)?, "opened")
 }
 
-/// Opens the engine of a folder, and prints what that cut off the files.
+/// Opens the engine of `folder`, and prints what that cut off the files.
+///
+/// # Errors
+///
+/// Those of opening the folder; `Io` for the output.
 fn open_engine<'a, R: Host>(rt: &'a R, folder: &'a str) -> Result<FolderEngine<'a, R>> {
     let engine = engine_of_folder(rt, folder)?;
-    print_kept(rt, &engine)?;
+    print_cut_bytes(rt, &engine)?;
     Ok(engine)
 }
 
-/// Opens the engine of a folder.
+/// Opens the engine of `folder`, and cuts torn tails off.
+///
+/// # Errors
+///
+/// Those of [`open_folder`].
 fn engine_of_folder<'a, R: Host>(rt: &'a R, folder: &'a str) -> Result<FolderEngine<'a, R>> {
     let mode = RecoveryMode::TolerateTornTail;
     Ok(open_folder(rt, folder, mode, Version::V2, WORKERS)?.engine)
 }
 
-/// Prints what an opening cut off the files, and which files keep it.
-fn print_kept<R: Host>(rt: &R, engine: &FolderEngine<'_, R>) -> Result<()> {
+/// Prints what the opening of `engine` cut off the files, and which files keep it.
+///
+/// # Errors
+///
+/// `Io` for the output.
+fn print_cut_bytes<R: Host>(rt: &R, engine: &FolderEngine<'_, R>) -> Result<()> {
     for tail in engine.files().kept() {
         println!(rt; "cut off: {} bytes, which {} keeps", tail.len, tail.kept)?;
     }
     Ok(())
 }
 
-/// Writes to two append files, moves what the first one has, and deletes it.
+/// Opens `folder`, writes to two append files, moves what the first one has to the rewrite queue, and deletes
+/// it.
+///
+/// # Errors
+///
+/// Those of the engine's calls; `Io` for the output.
 fn write_and_move<'a, R: Host>(rt: &'a R, folder: &'a str) -> Result<()> {
     let mut engine = open_engine(rt, folder)?;
     print_tables(rt, &engine, "opened")?;
     open_twice(rt, folder)?;
-    write_both(rt, &mut engine)?;
+    write_both_regions(rt, &mut engine)?;
     print_tables(rt, &engine, "written")?;
-    let deleted = move_closed(&mut engine)?;
+    let deleted = move_closed_files(&mut engine)?;
     println!(rt; "append files deleted: {deleted}")?;
     print_tables(rt, &engine, "moved")
 }
 
-/// Tries to open a folder that an engine has open.
+/// Tries to open `folder`, which an engine has open, and prints that it is refused.
+///
+/// # Errors
+///
+/// `Io` for the output.
 fn open_twice<'a, R: Host>(rt: &'a R, folder: &'a str) -> Result<()> {
     if let Err(FolderError::Locked(_)) = FolderFiles::open(rt, folder) {
         println!(rt; "not opened a second time: another engine has the folder open")?;
@@ -109,24 +145,38 @@ fn open_twice<'a, R: Host>(rt: &'a R, folder: &'a str) -> Result<()> {
     Ok(())
 }
 
-/// Writes batches of two regions, to two append files.
-fn write_both<R: Host>(rt: &R, engine: &mut FolderEngine<'_, R>) -> Result<()> {
+/// Writes batches of two regions to `engine`, in two append files.
+///
+/// # Errors
+///
+/// Those of the engine's calls.
+fn write_both_regions<R: Host>(rt: &R, engine: &mut FolderEngine<'_, R>) -> Result<()> {
     let texts = ["put x 1", "put y 2", "put z 3"];
     write_proposals(rt, engine, 7, &texts, "a", true)?;
     write_proposals(rt, engine, 8, &["put u 4", "put v 5"], "a", true)?;
     engine.rotate()?;
     write_proposals(rt, engine, 7, &["delete x"], "b", true)?;
-    keep_two(rt, engine, 7)
+    keep_last_two(rt, engine, 7)
 }
 
-/// Moves what the closed append files have to the rewrite queue, deletes those that aren't needed, and returns how many.
-fn move_closed<R: Host>(engine: &mut FolderEngine<'_, R>) -> Result<usize> {
+/// Moves what the closed append files of `engine` have to its rewrite queue, deletes the files that aren't
+/// needed any more, and returns how many they were.
+///
+/// # Errors
+///
+/// Those of the engine's calls.
+fn move_closed_files<R: Host>(engine: &mut FolderEngine<'_, R>) -> Result<usize> {
     let gate = last_closed_seq(engine)?;
     engine.rewrite(gate)?;
     engine.purge_expired_files()
 }
 
-/// Returns the number below that of the append file that is written to.
+/// Returns the number of the last closed append file of `engine`, the one below that which is written to, or
+/// 0 without one.
+///
+/// # Errors
+///
+/// `Io` if the length of a file can't be had; `Memory`.
 fn last_closed_seq<R: Host>(engine: &FolderEngine<'_, R>) -> Result<FileSeq> {
     let files = engine.files().list(LogQueue::Append)?;
     match files.last() {
@@ -135,8 +185,13 @@ fn last_closed_seq<R: Host>(engine: &FolderEngine<'_, R>) -> Result<FileSeq> {
     }
 }
 
-/// Writes a batch that isn't synced, and takes its last bytes away, as a crash may before they are on the disk.
-fn write_torn<R: Host>(rt: &R, folder: &str) -> Result<()> {
+/// Opens `folder`, writes a batch that isn't synced, and cuts its last 5 bytes off the file, as a crash may
+/// do before they are on the disk.
+///
+/// # Errors
+///
+/// Those of the engine's calls; `Io` for the file or the output.
+fn write_torn_batch<R: Host>(rt: &R, folder: &str) -> Result<()> {
     let mut engine = open_engine(rt, folder)?;
     print_tables(rt, &engine, "opened")?;
     write_proposals(rt, &mut engine, 8, &["put w 6"], "c", false)?;
@@ -154,7 +209,11 @@ fn write_torn<R: Host>(rt: &R, folder: &str) -> Result<()> {
     Ok(println!(rt; "torn, 5 bytes are lost")?)
 }
 
-/// Writes again what was lost.
+/// Opens `folder` once more, and writes what was lost.
+///
+/// # Errors
+///
+/// Those of the engine's calls; `Io` for the output.
 fn write_again<R: Host>(rt: &R, folder: &str) -> Result<()> {
     let mut engine = open_engine(rt, folder)?;
     print_tables(rt, &engine, "opened")?;
@@ -162,7 +221,12 @@ fn write_again<R: Host>(rt: &R, folder: &str) -> Result<()> {
     print_tables(rt, &engine, "written")
 }
 
-/// Writes proposals behind the last one of a region, and who leads it.
+/// Writes a batch with proposals behind the last one of `region`, and with the `leader` of the region under
+/// the key `leader`.
+///
+/// # Errors
+///
+/// Those of [`Engine::write`]; `Memory`.
 fn write_proposals<R: Host>(
     rt: &R,
     engine: &mut FolderEngine<'_, R>,
@@ -183,8 +247,12 @@ fn write_proposals<R: Host>(
     engine.write(&mut batch, sync)
 }
 
-/// Drops all proposals of a region but the last two.
-fn keep_two<R: Host>(rt: &R, engine: &mut FolderEngine<'_, R>, region: u64) -> Result<()> {
+/// Writes a compaction that drops all proposals of `region` but the last two.
+///
+/// # Errors
+///
+/// Those of [`Engine::write`]; `Memory`.
+fn keep_last_two<R: Host>(rt: &R, engine: &mut FolderEngine<'_, R>, region: u64) -> Result<()> {
     let mut batch = LogBatch::default(rt.alloc());
     if let Some(last) = engine.last_index(region) {
         let index = last.saturating_sub(1);
@@ -193,7 +261,12 @@ fn keep_two<R: Host>(rt: &R, engine: &mut FolderEngine<'_, R>, region: u64) -> R
     engine.write(&mut batch, true)
 }
 
-/// Prints what an engine has after a step: how many files; and of each region the first index and the last one, and who leads it.
+/// Prints what an engine has after a `step`: the number of files in each queue and, for each region, the
+/// first index, the last one, and its leader.
+///
+/// # Errors
+///
+/// `Io` for the output, or if the length of a file can't be had; `Memory`.
 fn print_tables<R: Host>(rt: &R, engine: &FolderEngine<'_, R>, step: &str) -> Result<()> {
     let append = engine.files().list(LogQueue::Append)?.len();
     let rewrite = engine.files().list(LogQueue::Rewrite)?.len();

@@ -20,7 +20,7 @@ use Rattle.raft_contexts.specs.RecoverContext.{HasRead, HasReadExactly}
 use Rattle.raft_prefix.specs.Prefixes.{IsPrefix}
 use Rattle.raft_engine_prefixes.specs.Done.{AreConsecutive, numbers}
 use Rattle.raft_engine.specs.FoundFiles.{AreApartAs, BeginsInOther, IsOfEngine, IsOtherText, IsRefusalText, IsRefusedAt, StandTogether}
-use Rattle.raft_engine.specs.FoundQueues.{IsLastOf, left_by}
+use Rattle.raft_engine.specs.FoundQueues.{IsLastOf}
 use Rattle.raft_engine.specs.ReadQueues.{HaveBothRead, HaveBothReadExactly}
 use Rattle.raft_engine.specs.SoundBlocks.{IsPartSound}
 use Rattle.raft_engine.specs.declared.missing.Missing.TheVariants.{Nothing, FirstFile, Cut}
@@ -31,12 +31,12 @@ use Rattle.raft_engine.specs.declared.recovery_mode.RecoveryMode.{RecoveryMode}
 use Rattle.raft_engine.proofs.FoundLemmas.{one_last}
 use Rattle.raft_engine.proofs.FoundQueueLemmas.{first_missing}
 use Rattle.raft_opening.specs.ReadOnce.{IsStandingFor}
-use Rattle.raft_opening.specs.SizedFiles.{AreNumbersApartAs, IsPartFault, IsRestOf, IsTailAccepted, numbers_of, size_of}
+use Rattle.raft_opening.specs.SizedFiles.{AreNumbersApartAs, IsPartFault, IsRestOf, numbers_of, size_of}
 use Rattle.raft_opening.proofs.SizedLemmas.{IsLastSized, last_sized, none_sized, numbers_sized, sized_missing, torn_accepted, torn_refused, whole_accepted}
 use Rattle.raft_ffi.specs.Calls.{AllHold, Holds, code_of}
 use Rattle.raft_ffi.specs.ReadQueues.{IsFrontRead, IsLastReadTo, IsLeftRead, IsOpenedAs, IsReadTo, IsTailBehind}
 use Rattle.raft_ffi.specs.declared.read_queue.Size.{Size}
-use Rattle.raft_ffi.specs.Readers.{ReaderSeen}
+use Rattle.raft_ffi.specs.Readers.{BatchesRead, ReaderSeen}
 use Rattle.raft_ffi.proofs.CodeLemmas.{some_code}
 
 -- ---- the last file
@@ -114,7 +114,7 @@ no_split : {A : Type 0} (closed : List A) (last : A) → [] ≡ closed ++ last �
 no_split [] last e = absurd cc
 no_split (c ∷ closed) last e = absurd cc
 
-module _ (mode : RecoveryMode) (queue : LogQueue) (version : Version) (rest : List ℕ) (files : List NumberedBytes) (read : ReaderSeen) (up : IsReadTo queue version rest read files) where
+module _ (mode : RecoveryMode) (queue : LogQueue) (version : Version) (rest : List ℕ) (files : List NumberedBytes) (read : BatchesRead) (up : IsReadTo queue version rest read files) where
   -- there is none
   none_standing : files ≡ [] → IsReadTo queue version rest read files → IsStandingFor queue version HaveBothRead HaveBothReadExactly [] read
   none_standing none (inl n) = n.standing
@@ -205,7 +205,7 @@ consecutive_read sizes files are c = subst AreConsecutive (ap numbers_of are ∙
 -- ---- the tables of it
 
 -- the context of what was read stands for the batches
-pub context_standing : (queue : LogQueue) (version : Version) (files : List NumberedBytes) (read : ReaderSeen) → IsStandingFor queue version HaveBothRead HaveBothReadExactly files read
+pub context_standing : (queue : LogQueue) (version : Version) (files : List NumberedBytes) (read : BatchesRead) → IsStandingFor queue version HaveBothRead HaveBothReadExactly files read
     → IsStandingFor queue version HasRead HasReadExactly files read.first
 context_standing queue version files read s = record {
   history = s.history;
@@ -238,8 +238,8 @@ either_on A X e why = elim (memory_or_not e) [
 
 -- after an opening whose code is 0 both readers and the engine hold what says that it was opened, and what it cut off was told
 pub opened_all : (mode : RecoveryMode) (version : Version) (append : List Size) (append_rest : List ℕ) (rewrite : List Size) (rewrite_rest : List ℕ) (a r : ReaderSeen) (Q : Recovered → Type 0) (result : Result Recovered Error) (code : ℕ)
-    (held : Option KeptEngine) → IfOk result (λ x. Holds (λ e. IsOpenedAs mode version append append_rest rewrite rewrite_rest a r e x) held) → IfOk result Q → IfErr result (λ e. code ≡ code_of e) → code ≡ 0
-    → AllHold (λ a r e. (x : Recovered) × IsOpenedAs mode version append append_rest rewrite rewrite_rest a r e x × Q x) (Some a) (Some r) held
+    (held : Option KeptEngine) → IfOk result (λ x. Holds (λ e. IsOpenedAs mode version append append_rest rewrite rewrite_rest a.read r.read e x) held) → IfOk result Q → IfErr result (λ e. code ≡ code_of e) → code ≡ 0
+    → AllHold (λ a r e. (x : Recovered) × IsOpenedAs mode version append append_rest rewrite rewrite_rest a.read r.read e x × Q x) (Some a) (Some r) held
 opened_all mode version append append_rest rewrite rewrite_rest a r Q (Ok x) code (Some e) p q is zero = (x, p, q)
 opened_all mode version append append_rest rewrite rewrite_rest a r Q (Ok x) code None p q is zero = absurd p
 opened_all mode version append append_rest rewrite rewrite_rest a r Q (Err e) code held p q is zero = absurd (some_code e (sym is ∙ zero))

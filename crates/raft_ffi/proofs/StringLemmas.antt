@@ -1,5 +1,5 @@
 -- Entries of consecutive indexes, and strings cut from bytes.
-use Rattle.raft_ffi.proofs.Common.{◌≡◌, ◌≢◌, ℕ, ◌+◌, ◌-◌, ◌^◌, ◌<◌, ◌≤◌, suc, List, [], ◌∷◌, ◌++◌, length, take, drop, Result, Ok, Err, OnOk, refl, sym, ap, ◌∙◌, subst, arith, AllByRecursion, append_assoc, at_drop_more, take_at}
+use Rattle.raft_ffi.proofs.Common.{◌≡◌, ◌≢◌, ℕ, ◌+◌, ◌-◌, ◌^◌, ◌<◌, suc, List, [], ◌∷◌, ◌++◌, length, take, drop, Result, Ok, Err, OnOk, refl, sym, ap, ◌∙◌, subst, arith, AllByRecursion, append_assoc, at_drop_more, take_at}
 use Rattle.raft_ffi.proofs.Common.{EntryIndex, HasStrings, IsConsecutive, IsRun, RisesFrom, entries_from, entry_with_index, sized_entries, strings_of}
 use Rattle.std.proofs.Common.{append-nil, get_or}
 use Rattle.std.proofs.lemmas.List.{drop_at, length-append, length-take-le, take-append-drop}

@@ -1,7 +1,6 @@
 -- What the calls of an engine make of it, and which orders they hand out.
 use Rattle.std.specs.Prelude.{◌≡◌, ◌⊎◌, ℕ, zero, suc, Bool, false, true, List, [], ◌∷◌, Option, None, Some, take}
 use Rattle.raft_base.specs.declared.entry_index.EntryIndex.{EntryIndex}
-use Rattle.raft_base.specs.declared.errors.Error.{Error}
 use Rattle.raft_base.specs.declared.pipe_log.LogQueue.TheVariants.{Append}
 use Rattle.raft_files.specs.Asks.{Act, Ask, Begin, Cut, Delete, Put, Sync, ask}
 use Rattle.raft_records.specs.LogBatch.{Batch}
@@ -13,6 +12,7 @@ use Rattle.raft_engine.specs.declared.recovered.CutTail.{CutTail}
 use Rattle.raft_engine.specs.declared.recovered.Recovered.{Recovered}
 use Rattle.raft_engine.specs.declared.recovery_mode.RecoveryMode.{RecoveryMode}
 use Rattle.raft_engine.specs.declared.recovery_mode.RecoveryMode.TheVariants.{AbsoluteConsistency, TolerateTailCorruption, TolerateTornTail}
+use Rattle.raft_orders.specs.Refusals.{HandedFails}
 use Rattle.raft_ffi.specs.Calls.{BothHold, IsCodeOf, code_of, queue_of}
 use Rattle.raft_ffi.specs.Rooms.{IsTextOf}
 use Rattle.raft_ffi.specs.declared.order_calls.OrderHead.{OrderHead}
@@ -50,7 +50,7 @@ pub record AreTailsIn (append rewrite : Tail) (append_old append_new rewrite_old
 
 -- an error with this number says why a batch isn't written
 abbrev pub IsUnwrittenAs : Bool → ℕ → Option Batch → Option Batch → KeptEngine → KeptEngine → Type 0
-IsUnwrittenAs sync code batch left old new = BothHold (λ b l. IsCodeOf (IsUnwritten sync b l old new) code) batch left
+IsUnwrittenAs sync code batch left old new = BothHold (λ b l. IsCodeOf (IsUnwritten HandedFails sync b l old new) code) batch left
 
 -- a sync of the append queue more is asked
 abbrev pub IsSynced : KeptEngine → KeptEngine → Type 0

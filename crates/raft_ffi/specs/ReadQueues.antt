@@ -25,7 +25,7 @@ use Rattle.raft_opening.specs.ReadOnce.{IsStandingFor}
 use Rattle.raft_opening.specs.SizedFiles.{IsSizedQueue, IsTailAccepted, size_of}
 use Rattle.raft_opening.specs.declared.sized_files.SizedQueue.{SizedQueue}
 use Rattle.raft_orders.specs.Refusals.{HandedFails}
-use Rattle.raft_ffi.specs.Readers.{ReaderSeen}
+use Rattle.raft_ffi.specs.Readers.{BatchesRead}
 use Rattle.raft_ffi.specs.declared.read_queue.Size.{Size}
 
 -- the number and the length of a file, as the reading of files takes them
@@ -49,12 +49,12 @@ pub record IsTailBehind (mode : RecoveryMode) (file : LogFileContext) (rest fron
   pub begins : BeginsBehind front rest tail
 
 -- there is no file, and a reader stands for no batch
-pub record IsNoneRead (queue : LogQueue) (version : Version) (read : ReaderSeen) (files : List NumberedBytes) : Type 0 where
+pub record IsNoneRead (queue : LogQueue) (version : Version) (read : BatchesRead) (files : List NumberedBytes) : Type 0 where
   pub none : files ≡ []
   pub standing : IsStandingFor queue version HaveBothRead HaveBothReadExactly [] read
 
 -- the last one of these files ends in these bytes, behind batches; a reader stands for the batches of all files up to there
-pub record IsLastReadTo (queue : LogQueue) (version : Version) (rest : List ℕ) (read : ReaderSeen) (files : List NumberedBytes) : Type 0 where
+pub record IsLastReadTo (queue : LogQueue) (version : Version) (rest : List ℕ) (read : BatchesRead) (files : List NumberedBytes) : Type 0 where
   pub closed : List NumberedBytes
   pub seq : ℕ
   pub front : List ℕ
@@ -64,11 +64,11 @@ pub record IsLastReadTo (queue : LogQueue) (version : Version) (rest : List ℕ)
   pub standing : IsStandingFor queue version HaveBothRead HaveBothReadExactly (closed ++ (seq, front) ∷ []) read
 
 -- either
-abbrev pub IsReadTo : LogQueue → Version → List ℕ → ReaderSeen → List NumberedBytes → Type 0
+abbrev pub IsReadTo : LogQueue → Version → List ℕ → BatchesRead → List NumberedBytes → Type 0
 IsReadTo queue version rest read files = IsNoneRead queue version read files ⊎ IsLastReadTo queue version rest read files
 
 -- the same of files of these sizes
-pub record IsQueueReadAs (queue : LogQueue) (version : Version) (sizes : List Size) (rest : List ℕ) (read : ReaderSeen) (files : List NumberedBytes) : Type 0 where
+pub record IsQueueReadAs (queue : LogQueue) (version : Version) (sizes : List Size) (rest : List ℕ) (read : BatchesRead) (files : List NumberedBytes) : Type 0 where
   pub sizes_are : map size_in sizes ≡ map size_of files
   pub up_to : IsReadTo queue version rest read files
 
@@ -77,29 +77,29 @@ abbrev pub IsReadOnAs : Error → Type 0
 IsReadOnAs e = IsCorruption (codes "a batch can be read where the reading of the last file ended") e
 
 -- this is missing of files that a mode accepts, and a reader stands for the batches of those that are there once it was asked
-pub record IsLeftRead (mode : RecoveryMode) (queue : LogQueue) (version : Version) (files : List NumberedBytes) (read : ReaderSeen) (missing : Missing) : Type 0 where
+pub record IsLeftRead (mode : RecoveryMode) (queue : LogQueue) (version : Version) (files : List NumberedBytes) (read : BatchesRead) (missing : Missing) : Type 0 where
   pub missing_of : IsMissingOf mode queue version files missing
   pub standing : IsStandingFor queue version HaveBothRead HaveBothReadExactly (left_by missing files) read
 
 -- the same, with what is known of the files
-pub record IsReadyAs (mode : RecoveryMode) (queue : LogQueue) (version : Version) (files : List NumberedBytes) (read : ReaderSeen) (sized : SizedQueue) : Type 0 where
+pub record IsReadyAs (mode : RecoveryMode) (queue : LogQueue) (version : Version) (files : List NumberedBytes) (read : BatchesRead) (sized : SizedQueue) : Type 0 where
   pub sized_of : IsSizedQueue mode queue version files sized
   pub standing : IsStandingFor queue version HaveBothRead HaveBothReadExactly (left_by sized.ready.missing files) read
 
 -- ---- both queues
 
 -- the files of both queues, of these sizes, as readers have read them, and what stands behind
-pub record AreBothReadAs (version : Version) (append : List Size) (append_rest : List ℕ) (rewrite : List Size) (rewrite_rest : List ℕ) (appended rewritten : ReaderSeen) (append_files rewrite_files : List NumberedBytes) : Type 0 where
+pub record AreBothReadAs (version : Version) (append : List Size) (append_rest : List ℕ) (rewrite : List Size) (rewrite_rest : List ℕ) (appended rewritten : BatchesRead) (append_files rewrite_files : List NumberedBytes) : Type 0 where
   pub of_append : IsQueueReadAs Append version append append_rest appended append_files
   pub of_rewrite : IsQueueReadAs Rewrite version rewrite rewrite_rest rewritten rewrite_files
 
 -- there are such files
-abbrev pub AreSomeReadAs : Version → List Size → List ℕ → List Size → List ℕ → ReaderSeen → ReaderSeen → Type 0
+abbrev pub AreSomeReadAs : Version → List Size → List ℕ → List Size → List ℕ → BatchesRead → BatchesRead → Type 0
 AreSomeReadAs version append append_rest rewrite rewrite_rest appended rewritten =
     (append_files : List NumberedBytes) × (rewrite_files : List NumberedBytes) × AreBothReadAs version append append_rest rewrite rewrite_rest appended rewritten append_files rewrite_files
 
 -- an engine was opened over some such files, which the mode accepts, and this was cut off from them
-pub record IsOpenedAs (mode : RecoveryMode) (version : Version) (append : List Size) (append_rest : List ℕ) (rewrite : List Size) (rewrite_rest : List ℕ) (appended rewritten : ReaderSeen) (engine : KeptEngine) (recovered : Recovered) : Type 0 where
+pub record IsOpenedAs (mode : RecoveryMode) (version : Version) (append : List Size) (append_rest : List ℕ) (rewrite : List Size) (rewrite_rest : List ℕ) (appended rewritten : BatchesRead) (engine : KeptEngine) (recovered : Recovered) : Type 0 where
   pub append_files : List NumberedBytes
   pub rewrite_files : List NumberedBytes
   pub read : AreBothReadAs version append append_rest rewrite rewrite_rest appended rewritten append_files rewrite_files
@@ -108,7 +108,7 @@ pub record IsOpenedAs (mode : RecoveryMode) (version : Version) (append : List S
   pub told : IsRecoveredOf version append_files rewrite_files recovered
 
 -- why some such files aren't opened, whatever was ordered by then; an order fails for want of memory or of numbers
-pub record IsUnopenedAs (mode : RecoveryMode) (version : Version) (append : List Size) (append_rest : List ℕ) (rewrite : List Size) (rewrite_rest : List ℕ) (appended rewritten : ReaderSeen) (e : Error) : Type 0 where
+pub record IsUnopenedAs (mode : RecoveryMode) (version : Version) (append : List Size) (append_rest : List ℕ) (rewrite : List Size) (rewrite_rest : List ℕ) (appended rewritten : BatchesRead) (e : Error) : Type 0 where
   pub append_files : List NumberedBytes
   pub rewrite_files : List NumberedBytes
   pub read : AreBothReadAs version append append_rest rewrite rewrite_rest appended rewritten append_files rewrite_files

@@ -19,6 +19,7 @@ pub use Rattle.raft_accessor.specs.AccessorCode.{accessor_code}
 pub use Rattle.raft_accessor.specs.AppendChecks.{AreAcceptedOncePlaced, AreRefusedOncePlaced, IsAppendCheckFault}
 pub use Rattle.raft_accessor.specs.Merges.{IsAppendedFault, IsNewerFault, with_appended, with_newer}
 pub use Rattle.raft_accessor.specs.Writes.{Appending, AreItemsRefused, AreWritten, Rewriting, Writing}
+pub use Rattle.raft_base.specs.Corruption.{IsCorruption}
 pub use Rattle.raft_base.specs.Runs.{IsConsecutive, IsRun, RisesFrom, end_of}
 pub use Rattle.raft_base.specs.Signature.{signature_of}
 pub use Rattle.raft_base.specs.declared.entry_index.EntryIndex.{EntryIndex}
@@ -50,7 +51,7 @@ pub use Rattle.raft_files.specs.Asks.{Ask}
 pub use Rattle.raft_history.specs.Batches.{Event}
 pub use Rattle.raft_history.specs.Histories.{Sound}
 pub use Rattle.raft_history.specs.Kept.{kept_of}
-pub use Rattle.raft_prefix.specs.Pieces.{ArePassed}
+pub use Rattle.raft_prefix.specs.Blocks.{damaged_entries_text}
 pub use Rattle.raft_orders.specs.Orders.{act_of, ask_of, length_put, next_to_do}
 pub use Rattle.raft_orders.specs.Refusals.{HandedFails}
 pub use Rattle.raft_records.specs.Entries.{entry_with_index}
@@ -88,7 +89,7 @@ pub use Rattle.raft_ffi.specs.KeptNumbers.{AreKept, capped}
 pub use Rattle.raft_ffi.specs.Lengths.{HasLength}
 pub use Rattle.raft_ffi.specs.Pairs.{AreInKeyOrder, ArePairsIn, AreScanned, AreScannedIn, bound_in, bytes_of, lengths_of, pairs_of_both}
 pub use Rattle.raft_ffi.specs.ReadQueues.{AreBothReadAs, AreSomeReadAs, IsFrontRead, IsLastReadTo, IsLeftRead, IsOpenedAs, IsQueueReadAs, IsReadOnAs, IsReadTo, IsReadyAs, IsTailBehind, IsUnopenedAs, size_in}
-pub use Rattle.raft_ffi.specs.Readers.{AreReadersUnsound, IsReplayedBy, ReaderSeen, ReadersStand, ReadersStandExactly, reader_code}
+pub use Rattle.raft_ffi.specs.Readers.{ArePassedBy, AreReadersUnsound, BatchesRead, HasBothFound, HasReadNothing, IsNoneFound, IsReplayedBy, ReaderSeen, ReadersStand, ReadersStandExactly, reader_code}
 pub use Rattle.raft_ffi.specs.Reads.{AreRegionsIn, IsEntryIn, IsFetched, IsSummaryIn, IsValueIn, value_in}
 pub use Rattle.raft_ffi.specs.Rooms.{AreEntriesIn, HasText, IsCopied, IsCopiedIfAny, IsRefusedFor, IsTextIn, IsTextOf, copied_over}
 pub use Rattle.raft_ffi.specs.Slots.{AcceptsShareOncePlaced, IsAppendTested, IsMoveFault, IsMoved, IsShareRefused, share_of}

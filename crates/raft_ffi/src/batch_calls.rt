@@ -15,7 +15,7 @@ use std::alloc::Global;
 /// How many bytes the entries of a batch have at most.
 const MOST_ENTRY_BYTES: usize = (1 << 31) - 1;
 
-/// Makes an open batch without items.
+/// Makes an open batch without items in `batch`, which is empty before. Returns 0, or 11 (`Memory`): `batch` stays empty then.
 #[unsafe(no_mangle)]
 pub extern "C" fn raft_ffi_batch_new(alloc: Global, batch: &mut Batch) -> u32
     requires empty { batch.old.value ≡ None }
@@ -24,7 +24,7 @@ pub extern "C" fn raft_ffi_batch_new(alloc: Global, batch: &mut Batch) -> u32
     memory_code(&batch.put_new(alloc, LogBatch::default(alloc)))
 }
 
-/// Says how far a batch has come: 0 while it is open, 1 once its bytes are made, 2 once they are signed.
+/// Returns how far a batch has come: 0 while it is open, 1 once its bytes are made, 2 once they are signed.
 #[unsafe(no_mangle)]
 pub extern "C" fn raft_ffi_batch_stage(alloc: Global, batch: &mut Batch) -> u32
     requires held { IsTrue (is_some batch.old.value) }
@@ -37,7 +37,7 @@ pub extern "C" fn raft_ffi_batch_stage(alloc: Global, batch: &mut Batch) -> u32
     }
 }
 
-/// Says about how many bytes a batch has or will have.
+/// Returns about how many bytes a batch has or will have.
 #[unsafe(no_mangle)]
 pub extern "C" fn raft_ffi_batch_size(alloc: Global, batch: &mut Batch) -> usize
     requires held { IsTrue (is_some batch.old.value) }
@@ -49,8 +49,12 @@ pub extern "C" fn raft_ffi_batch_size(alloc: Global, batch: &mut Batch) -> usize
     with!(held in batch, alloc; held.approximate_size())
 }
 
-/// Adds entries of a region to an open batch: their indexes rise by one from `first` on, and the bytes are those of one after
-/// the other, each of which has so many as `lens` says. No entries add nothing. Bytes behind the last string are not looked at.
+/// Adds entries of a region to an open batch. Their indexes rise by one from `first` on, all below 2^64. The bytes of the entries
+/// stand in `bytes`, one after another, and `lens` says how many each has; what stands behind them isn't looked at. Without
+/// entries nothing is added.
+///
+/// The code is 0; 9 (`Full`), if the batch would have 2^31 entry bytes or more; or 11 (`Memory`). The batch is unchanged after an
+/// error.
 #[unsafe(no_mangle)]
 pub extern "C" fn raft_ffi_batch_add_entries(
     alloc: Global,
@@ -116,7 +120,7 @@ fn add_entries(
     batch.add_joined_entries(region, entries, joined)
 }
 
-/// Adds to an open batch that all records of a region go.
+/// Adds to an open batch that all records of a region are removed. Returns 0, or 11 (`Memory`): the batch is unchanged then.
 #[unsafe(no_mangle)]
 pub extern "C" fn raft_ffi_batch_clean(alloc: Global, batch: &mut Batch, region: u64) -> u32
     requires held { IsTrue (is_some batch.old.value) }
@@ -127,7 +131,8 @@ pub extern "C" fn raft_ffi_batch_clean(alloc: Global, batch: &mut Batch, region:
     told!(held in batch, alloc; held.add_command(region, Command::Clean))
 }
 
-/// Adds to an open batch that the entries of a region below an index go.
+/// Adds to an open batch that the entries of a region below `index` are removed. Returns 0, or 11 (`Memory`): the batch is
+/// unchanged then.
 #[unsafe(no_mangle)]
 pub extern "C" fn raft_ffi_batch_compact(
     alloc: Global,
@@ -143,7 +148,8 @@ pub extern "C" fn raft_ffi_batch_compact(
     told!(held in batch, alloc; held.add_command(region, Command::Compact { index }))
 }
 
-/// Adds to an open batch that the entries of a region from an index on go.
+/// Adds to an open batch that the entries of a region from `index` on are removed. Returns 0, or 11 (`Memory`): the batch is
+/// unchanged then.
 #[unsafe(no_mangle)]
 pub extern "C" fn raft_ffi_batch_truncate(
     alloc: Global,
@@ -159,7 +165,8 @@ pub extern "C" fn raft_ffi_batch_truncate(
     told!(held in batch, alloc; held.add_command(region, Command::Truncate { index }))
 }
 
-/// Adds to an open batch that a key of a region gets a value.
+/// Adds to an open batch that `key` of a region gets `value`. The code is 0; 1 (`InvalidArgument`), if the key is that of the
+/// group markers; or 11 (`Memory`). The batch is unchanged after an error.
 #[unsafe(no_mangle)]
 pub extern "C" fn raft_ffi_batch_put(
     alloc: Global,
@@ -196,7 +203,7 @@ fn put(alloc: Global, batch: &mut LogBatch, region: u64, key: &[u8], value: &[u8
     batch.put(region, key, value)
 }
 
-/// Adds to an open batch that a key of a region goes.
+/// Adds to an open batch that `key` of a region is deleted. Returns 0, or 11 (`Memory`): the batch is unchanged then.
 #[unsafe(no_mangle)]
 pub extern "C" fn raft_ffi_batch_delete(
     alloc: Global,
@@ -213,7 +220,8 @@ pub extern "C" fn raft_ffi_batch_delete(
     told!(held in batch, alloc; held.delete(region, key))
 }
 
-/// Moves all items of another open batch to the end of an open one. The other one is then empty.
+/// Moves all items of `more`, an open batch, to the end of `batch`, an open one too; `more` is then without items. The code is 0;
+/// 9 (`Full`), if both have 2^31 entry bytes or more together; or 11 (`Memory`). Both are unchanged after an error.
 #[unsafe(no_mangle)]
 pub extern "C" fn raft_ffi_batch_merge(
     alloc: Global,
@@ -240,7 +248,8 @@ pub extern "C" fn raft_ffi_batch_merge(
     told!(held in batch, alloc, text; with!(rest in more, alloc; held.merge(&mut *rest)))
 }
 
-/// Makes the bytes of an open batch, to which nothing is added from then on, and says how many they are: none without items.
+/// Makes the bytes of an open batch, to which nothing can be added from then on, and sets `len` to how many they are: 0 without
+/// items. The code is 0; 9 (`Full`), if they would be 2^56 or more; or 11 (`Memory`). The batch is unchanged after an error.
 #[unsafe(no_mangle)]
 pub extern "C" fn raft_ffi_batch_finish(
     alloc: Global,
@@ -262,7 +271,7 @@ pub extern "C" fn raft_ffi_batch_finish(
     told!(held in batch, alloc, len, text; held.finish_populate())
 }
 
-/// Signs the bytes of a batch that is no longer open for a file. It may be repeated for other files.
+/// Signs the bytes of a batch, which isn't open any more, for `file`. It may be signed again, for another file.
 #[unsafe(no_mangle)]
 pub extern "C" fn raft_ffi_batch_sign(alloc: Global, batch: &mut Batch, file: File)
     requires held { IsTrue (is_some batch.old.value) }
@@ -272,7 +281,8 @@ pub extern "C" fn raft_ffi_batch_sign(alloc: Global, batch: &mut Batch, file: Fi
     with!(held in batch, alloc; held.prepare_write(&file.context()));
 }
 
-/// Copies the bytes of a signed batch as far as there is room, and returns how many they are: none without items.
+/// Copies the bytes of a signed batch into `bytes`, as many as there is room for. Returns how many the batch has, which may be
+/// more than were copied: 0 without items.
 #[unsafe(no_mangle)]
 pub extern "C" fn raft_ffi_batch_bytes(alloc: Global, batch: &mut Batch, bytes: &mut [u8]) -> usize
     requires held { IsTrue (is_some batch.old.value) }
@@ -286,7 +296,8 @@ pub extern "C" fn raft_ffi_batch_bytes(alloc: Global, batch: &mut Batch, bytes: 
     with!(held in batch, alloc; copy_front(held.encoded_bytes(), bytes))
 }
 
-/// Gives each entry and each key value of a signed batch its place: the batch was written to a file, from `offset` on.
+/// Gives each entry and each key value of a signed batch its place: the batch was written to file `seq` of a queue, from `offset`
+/// on, which is at most 2^64 - 17, and has `len` bytes there.
 #[unsafe(no_mangle)]
 pub extern "C" fn raft_ffi_batch_written(
     alloc: Global,
@@ -308,7 +319,8 @@ pub extern "C" fn raft_ffi_batch_written(
     with!(held in batch, alloc; held.finish_write(FileBlockHandle { id, offset, len }));
 }
 
-/// Takes the items out of a batch, at whatever stage. The batch is gone then.
+/// Takes the items out of a batch, at whatever stage, into `items`, which is empty before. The batch is gone then, after an error
+/// too. Returns 0, or 11 (`Memory`): `items` stays empty then.
 #[unsafe(no_mangle)]
 pub extern "C" fn raft_ffi_batch_into_items(alloc: Global, batch: Batch, items: &mut Items) -> u32
     requires held { IsTrue (is_some batch.value) }

@@ -8,8 +8,8 @@ use raft_base::{LogFileContext, Result, crc32};
 use raft_records::{LogBatch, lent_entry_block, next_in};
 use std::alloc::Global;
 
-/// Returns how long the log batch is whose header stands in front of the bytes; 0 where none does. So files can be cut
-/// between batches.
+/// Returns how many bytes the log batch at the start of `bytes` has by its header, or 0 if no header stands there. So files can
+/// be cut between batches. Whether the batch can be read isn't tested.
 #[unsafe(no_mangle)]
 pub extern "C" fn raft_ffi_batch_len(alloc: Global, bytes: &[u8]) -> usize
     ensures none { result ≡ 0 → HasNoFront IsHeader bytes.now }
@@ -22,8 +22,9 @@ pub extern "C" fn raft_ffi_batch_len(alloc: Global, bytes: &[u8]) -> usize
     }
 }
 
-/// Says how many of the bytes that stand in the file from `offset` on are readable batches, one behind the other, from the
-/// first byte on, and why the batch there can't be read; 0 where that is the end.
+/// Sets `len` to how many of `bytes`, from the first one on, are readable batches, one behind the other; `bytes` stand in `file`
+/// from `offset` on. The code says why the batch behind them can't be read, with its text in `text`; it is 0 if they are all of
+/// `bytes`.
 #[unsafe(no_mangle)]
 pub extern "C" fn raft_ffi_readable_front(
     alloc: Global,
@@ -64,7 +65,7 @@ fn walk(alloc: Global, file: &LogFileContext, offset: u64, bytes: &[u8]) -> (usi
     }
 }
 
-/// Returns the CRC-32 of the bytes.
+/// Returns the CRC-32 of `bytes`.
 #[unsafe(no_mangle)]
 pub extern "C" fn raft_ffi_crc32(bytes: &[u8]) -> u32
     ensures { result ≡ crc32_of bytes.now }
@@ -72,8 +73,8 @@ pub extern "C" fn raft_ffi_crc32(bytes: &[u8]) -> u32
     crc32(bytes)
 }
 
-/// Tests the bytes of a whole entry block, and says how many of them, from the first on, are its entry bytes. A block without
-/// bytes has none.
+/// Checks `bytes`, a whole entry block, against its checksum, and sets `len` to how many of them, from the first one on, are its
+/// entry bytes: 0 for a block without bytes. The code is 0; 2 (`Corruption`), if they aren't such a block; or 11 (`Memory`).
 #[unsafe(no_mangle)]
 pub extern "C" fn raft_ffi_block_entries(
     alloc: Global,

@@ -12,8 +12,9 @@ use raft_base::{Error, FileId, Result};
 use raft_table::TableChange;
 use std::alloc::Global;
 
-/// Puts new entries of the append queue after those of a region below their start. All others go; where
-/// there are no new ones, all stay.
+/// Puts `entries`, new ones of the append queue, behind the entries of a region that are below their first index. The others of
+/// the region are dropped; without new entries all stay. The code is 0, or that of the error, as 1 (`InvalidArgument`) if the
+/// indexes of `entries` don't rise by one. The tables are unchanged after an error.
 #[unsafe(no_mangle)]
 pub extern "C" fn raft_ffi_tables_append(
     alloc: Global,
@@ -32,7 +33,8 @@ pub extern "C" fn raft_ffi_tables_append(
     told!(held in tables, alloc, text; change_table(&mut *held, region, TableChange::Append(run)))
 }
 
-/// Drops the entries of a region below an index, and says how many those were.
+/// Drops the entries of a region below `index`, and sets `dropped` to how many those were. The code is 0, or 11 (`Memory`). The
+/// tables are unchanged after an error.
 #[unsafe(no_mangle)]
 pub extern "C" fn raft_ffi_tables_compact(
     alloc: Global,
@@ -50,7 +52,8 @@ pub extern "C" fn raft_ffi_tables_compact(
     told!(held in tables, alloc, dropped, text; change_table(&mut *held, region, TableChange::Compact { index }))
 }
 
-/// Drops the entries of a region at or above an index, and says how many those were.
+/// Drops the entries of a region from `index` on, and sets `dropped` to how many those were. The code is 0, or 11 (`Memory`). The
+/// tables are unchanged after an error.
 #[unsafe(no_mangle)]
 pub extern "C" fn raft_ffi_tables_truncate(
     alloc: Global,
@@ -68,7 +71,8 @@ pub extern "C" fn raft_ffi_tables_truncate(
     told!(held in tables, alloc, dropped, text; change_table(&mut *held, region, TableChange::Truncate { index }))
 }
 
-/// Puts a key of a region with its value, which were written to the file of number `seq`.
+/// Gives `key` of a region `value`, which was written to file `seq` of a queue. The code is 0; 9 (`Full`), if more than 2^64 - 1
+/// records would be live in that queue; or 11 (`Memory`). The tables are unchanged after an error.
 #[unsafe(no_mangle)]
 pub extern "C" fn raft_ffi_tables_put(
     alloc: Global,
@@ -89,7 +93,7 @@ pub extern "C" fn raft_ffi_tables_put(
     told!(held in tables, alloc, text; put(alloc, &mut *held, region, key, value, file))
 }
 
-/// Deletes a key of a region and its value.
+/// Deletes `key` of a region with its value. The code is 0, or 11 (`Memory`). The tables are unchanged after an error.
 #[unsafe(no_mangle)]
 pub extern "C" fn raft_ffi_tables_delete(
     alloc: Global,
@@ -106,8 +110,10 @@ pub extern "C" fn raft_ffi_tables_delete(
     told!(held in tables, alloc, text; change_table(&mut *held, region, TableChange::Delete { key }))
 }
 
-/// Gives entries of a region the places of a run of the rewrite queue, as far as they may move: with a gate those in
-/// files at or below it, without one those that are rewritten already.
+/// Gives the entries of a region that `entries` names the places there, which are in the rewrite queue, as far as they may move:
+/// with a gate those in append files numbered at or below it, without one those that are rewritten already. The code is 0, or
+/// that of the error, as 1 (`InvalidArgument`) if the indexes of `entries` don't rise by one. The tables are unchanged after an
+/// error.
 #[unsafe(no_mangle)]
 pub extern "C" fn raft_ffi_tables_rewrite(
     alloc: Global,
@@ -128,8 +134,9 @@ pub extern "C" fn raft_ffi_tables_rewrite(
     told!(held in tables, alloc, text; change_table(&mut *held, region, TableChange::Rewrite { entries, gate }))
 }
 
-/// Moves the pair of a region's key to the file of number `seq` of the rewrite queue: one in the append queue where there
-/// is a gate and its file is at or below it, one in the rewrite queue always.
+/// Moves the pair of a region's `key` to file `seq` of the rewrite queue: one in the append queue if there is a gate and its file
+/// is numbered at or below it, one in the rewrite queue always. The code is 0, or that of the error, as 2 (`Corruption`) if the
+/// pair is in a later rewrite file. The tables are unchanged after an error.
 #[unsafe(no_mangle)]
 pub extern "C" fn raft_ffi_tables_rewrite_key(
     alloc: Global,

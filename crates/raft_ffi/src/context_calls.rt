@@ -26,7 +26,7 @@ pub struct KeptNumbers {
     pub waiting_items: u64,
 }
 
-/// Makes a context that has read nothing.
+/// Makes a context that has read nothing in `context`, which is empty before. Returns 0, or 11 (`Memory`): it stays empty then.
 #[unsafe(no_mangle)]
 pub extern "C" fn raft_ffi_context_new(alloc: Global, context: &mut Context) -> u32
     requires empty { context.old.value ≡ None }
@@ -37,9 +37,9 @@ pub extern "C" fn raft_ffi_context_new(alloc: Global, context: &mut Context) -> 
     memory_code(&context.put_new(alloc, held))
 }
 
-/// Replays the batches of bytes that stand in the file from `offset` on. Where that is refused the
-/// context is gone: it may have taken in some of them. The number is that of the fault where a batch can't be
-/// read, and 12 where the context doesn't read on.
+/// Replays `bytes`, batches that stand in `file` from `offset` on. The code is 0; that of the error if a batch can't be read or
+/// can't follow those before it; 12 (`Failed`), if the context doesn't read on; or 11 (`Memory`). After an error the context is
+/// gone: it may have taken in some of the batches.
 #[unsafe(no_mangle)]
 pub extern "C" fn raft_ffi_context_replay(
     alloc: Global,
@@ -94,8 +94,8 @@ fn replay(
     replay_bytes(context, alloc, file, offset, bytes)
 }
 
-/// Takes in the context of the batches that follow. That one is gone then, and where it is refused both
-/// are.
+/// Takes in `newer`, the context of the batches that follow in the same queue, and which is gone then. The code is 0, or that of
+/// the error: 12 (`Failed`), if one of both doesn't read on. After an error the context is gone too.
 #[unsafe(no_mangle)]
 pub extern "C" fn raft_ffi_context_merge(
     alloc: Global,
@@ -142,8 +142,9 @@ fn merge(
     context.merge(newer, queue)
 }
 
-/// Takes in the context of the append queue; the other one is that of the rewrite queue. That one is gone
-/// then, and where it is refused both are.
+/// Takes in `append`, the context of the append queue, which is gone then; `context` is that of the rewrite queue. The code is 0,
+/// or that of the error: 12 (`Failed`), if one of both doesn't read on, or 11 (`Memory`), the only one if they are contexts of
+/// the two queues. After an error the context is gone too.
 #[unsafe(no_mangle)]
 pub extern "C" fn raft_ffi_context_overlay(
     alloc: Global,
@@ -182,7 +183,7 @@ fn overlay(context: &mut MemTableRecoverContext, append: MemTableRecoverContext)
     context.merge_append_context(append)
 }
 
-/// Says how much a context holds.
+/// Sets `kept` to how much a context holds. The code is 0, or 12 (`Failed`) for a context that failed. The context is unchanged.
 #[unsafe(no_mangle)]
 pub extern "C" fn raft_ffi_context_kept(
     alloc: Global,
@@ -227,7 +228,8 @@ fn capped(number: u128) -> u64
     number.min(u128::from(u64::MAX)) as u64
 }
 
-/// Makes the tables of a context, which is gone then.
+/// Makes the tables of a context in `tables`, which is empty before. The context is gone then. The code is 0; 12 (`Failed`), for
+/// a context that failed; or 11 (`Memory`). `tables` stays empty after an error.
 #[unsafe(no_mangle)]
 pub extern "C" fn raft_ffi_context_finish(
     alloc: Global,

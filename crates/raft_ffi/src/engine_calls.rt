@@ -1,7 +1,7 @@
 //! Calls of an engine whose files the caller keeps: what changes it leaves orders behind, which the caller carries out in turn.
 
 ghost use Rattle.std.specs.Prelude.{◌≡◌, ◌≢◌, true, false, Some, None, IsTrue, is_some, IfOk};
-ghost use Rattle.raft_ffi.specs.Words.{AllHold, AreAcceptedOncePlaced, ArePurged, AreRewritesPurged, AreRewritesUnpurged, AreSomeReadAs, BothHold, HasText, Holds, IsCodeForBoth, IsCodeOf, IsOpenedAs, IsRead, IsRotated};
+ghost use Rattle.raft_ffi.specs.Words.{AllHold, AreAcceptedOncePlaced, ArePurged, AreRewritesPurged, AreRewritesUnpurged, AreSomeReadAs, BothHold, HandedFails, HasText, Holds, IsCodeForBoth, IsCodeOf, IsOpenedAs, IsRead, IsRotated};
 ghost use Rattle.raft_ffi.specs.Words.{AreTailsIn, IsSynced, IsUnopenedAs, IsUnpurged, IsUnrotated, IsUnsynced, IsUnwrittenAs, IsWrittenOrNone, empty_batch, is_open, mode_of, version_of};
 
 use crate::handles::{Batch, Engine, Handle, Reader, told, with};
@@ -13,9 +13,14 @@ use raft_base::Result;
 use raft_engine::Recovered;
 use std::alloc::Global;
 
-/// Opens files in a mode that readers have read, by the numbers and lengths of each queue's, oldest first: the batches of its files, in
-/// order, up to where the last one can't be read, and what stands there from that byte on. In mode 0 nothing is cut off, in mode 2 all
-/// from there on, and in any other what a crash can leave. It says what was cut off from each queue. The readers are gone then.
+/// Makes an engine in `engine`, which is empty before, over files that two readers have read. `append` and `rewrite` are the
+/// numbers and lengths of each queue's files, oldest first. `appended` and `rewritten` have read their batches, in order, up to
+/// where the last file can't be read, and `append_rest` and `rewrite_rest` are the bytes from there on. Both readers are gone
+/// then.
+///
+/// `mode` says what may be cut off: nothing for 0; all from there on for 2; what a crash can leave for any other. `append_tail`
+/// and `rewrite_tail` are set to what was cut off from each queue, with the reason in `append_reason` and `rewrite_reason`. The
+/// code is 0, or that of the error: `engine` stays empty then.
 #[unsafe(no_mangle)]
 pub extern "C" fn raft_ffi_engine_open(
     alloc: Global,
@@ -35,14 +40,14 @@ pub extern "C" fn raft_ffi_engine_open(
     text: &mut [u8],
 ) -> Status
     requires empty { engine.old.value ≡ None }
-    requires read { BothHold (AreSomeReadAs (version_of is_signed) append.now append_rest.now rewrite.now rewrite_rest.now)
-        appended.value rewritten.value }
+    requires read { BothHold (λ a r. AreSomeReadAs (version_of is_signed) append.now append_rest.now rewrite.now rewrite_rest.now
+        a.read r.read) appended.value rewritten.value }
     ensures ok { result.code ≡ 0 → AllHold (λ a r e. (recovered : Recovered) × IsOpenedAs (mode_of mode) (version_of is_signed)
-        append.now append_rest.now rewrite.now rewrite_rest.now a r e recovered × AreTailsIn append_tail.new rewrite_tail.new
+        append.now append_rest.now rewrite.now rewrite_rest.now a.read r.read e recovered × AreTailsIn append_tail.new rewrite_tail.new
         append_reason.old append_reason.new rewrite_reason.old rewrite_reason.new recovered) appended.value rewritten.value engine.new.value }
     ensures err { result.code ≢ 0 → engine.new.value ≡ None }
     ensures fault { result.code ≢ 0 → BothHold (λ a r. IsCodeOf (IsUnopenedAs (mode_of mode) (version_of is_signed) append.now
-        append_rest.now rewrite.now rewrite_rest.now a r) result.code) appended.value rewritten.value }
+        append_rest.now rewrite.now rewrite_rest.now a.read r.read) result.code) appended.value rewritten.value }
     ensures text { HasText result text.old text.new }
 {
     let appended = appended.into_held().into_both();
@@ -98,7 +103,9 @@ pub extern "C" fn raft_ffi_engine_is_intact(alloc: Global, engine: &mut Engine) 
     with!(held in engine, alloc; held.engine.is_intact())
 }
 
-/// Writes an open batch, which is empty then. With `sync` a sync is ordered behind it.
+/// Writes `batch`, an open one, to the tables, and orders that it is put behind the last append file; `batch` is without items
+/// then. With `sync` a sync is ordered behind it. The code is 0, or that of the error: 12 (`Failed`), if the engine wasn't
+/// intact. If the engine is intact after an error, it and the batch are as they were.
 #[unsafe(no_mangle)]
 pub extern "C" fn raft_ffi_engine_write(
     alloc: Global,
@@ -122,7 +129,8 @@ pub extern "C" fn raft_ffi_engine_write(
     told!(held in engine, alloc, text; with!(written in batch, alloc; held.engine.write(&mut *written, sync)))
 }
 
-/// Orders a sync of the append queue, so that all that was written outlasts a crash.
+/// Orders a sync of the append queue, so that all that was written outlasts a crash. The code is 0; 12 (`Failed`), if the engine
+/// isn't intact; or that of the error with which no order can be noted: the engine isn't intact any more then.
 #[unsafe(no_mangle)]
 pub extern "C" fn raft_ffi_engine_sync(
     alloc: Global,
@@ -132,15 +140,14 @@ pub extern "C" fn raft_ffi_engine_sync(
     requires held { IsTrue (is_some engine.old.value) }
     ensures ok { result.code ≡ 0 → BothHold IsSynced engine.old.value engine.new.value }
     ensures accepted { result.code ≡ 0 → Holds (λ e. e.intact ≡ true) engine.old.value }
-    ensures err { result.code ≢ 0 → BothHold IsUnsynced engine.old.value engine.new.value }
-    ensures fault { result.code ≢ 0 → Holds (λ e. e.intact ≡ false → result.code ≡ 12) engine.old.value }
+    ensures err { result.code ≢ 0 → IsCodeForBoth (IsUnsynced HandedFails) engine.old.value engine.new.value result.code }
     ensures text { HasText result text.old text.new }
 {
     told!(held in engine, alloc, text; held.engine.sync())
 }
 
-/// Orders that the last append file is synced and a new one begun, in which the next batch is put. Numbers: 12 where the engine
-/// isn't intact, 9 where no number of a file is left, 11 for want of memory.
+/// Orders that the last append file is synced and a new one begun, in which the next batch is put. The code is 0; 12 (`Failed`),
+/// if the engine isn't intact; 9 (`Full`), if no number of a file or of an order is left; or 11 (`Memory`).
 #[unsafe(no_mangle)]
 pub extern "C" fn raft_ffi_engine_rotate(
     alloc: Global,
@@ -150,13 +157,15 @@ pub extern "C" fn raft_ffi_engine_rotate(
     requires held { IsTrue (is_some engine.old.value) }
     ensures ok { result.code ≡ 0 → BothHold IsRotated engine.old.value engine.new.value }
     ensures accepted { result.code ≡ 0 → Holds (λ e. e.intact ≡ true) engine.old.value }
-    ensures err { result.code ≢ 0 → IsCodeForBoth IsUnrotated engine.old.value engine.new.value result.code }
+    ensures err { result.code ≢ 0 → IsCodeForBoth (IsUnrotated HandedFails) engine.old.value engine.new.value result.code }
     ensures text { HasText result text.old text.new }
 {
     told!(held in engine, alloc, text; held.engine.rotate())
 }
 
-/// Deletes the append files that no table needs, and says how many.
+/// Orders that the append files which no table needs are deleted, the oldest first but never the last one, and sets `count` to
+/// how many. The rewrite queue is told before what they took away. The code is 0, or that of the error: 12 (`Failed`), if the
+/// engine isn't intact.
 #[unsafe(no_mangle)]
 pub extern "C" fn raft_ffi_engine_purge_expired_files(
     alloc: Global,
@@ -167,13 +176,14 @@ pub extern "C" fn raft_ffi_engine_purge_expired_files(
     requires held { IsTrue (is_some engine.old.value) }
     ensures ok { result.code ≡ 0 → BothHold (ArePurged count.new) engine.old.value engine.new.value }
     ensures accepted { result.code ≡ 0 → Holds (λ e. e.intact ≡ true) engine.old.value }
-    ensures err { result.code ≢ 0 → IsCodeForBoth IsUnpurged engine.old.value engine.new.value result.code }
+    ensures err { result.code ≢ 0 → IsCodeForBoth (IsUnpurged HandedFails) engine.old.value engine.new.value result.code }
     ensures text { HasText result text.old text.new }
 {
     told!(held in engine, alloc, count, text; held.engine.purge_expired_files())
 }
 
-/// Deletes the rewrite files that no table needs, and says how many.
+/// Orders that the rewrite files which no table needs are deleted, the oldest first but never the last one, and sets `count` to
+/// how many. Both queues are synced before. The code is 0, or that of the error: 12 (`Failed`), if the engine isn't intact.
 #[unsafe(no_mangle)]
 pub extern "C" fn raft_ffi_engine_purge_rewrite_files(
     alloc: Global,
@@ -184,7 +194,7 @@ pub extern "C" fn raft_ffi_engine_purge_rewrite_files(
     requires held { IsTrue (is_some engine.old.value) }
     ensures ok { result.code ≡ 0 → BothHold (AreRewritesPurged count.new) engine.old.value engine.new.value }
     ensures accepted { result.code ≡ 0 → Holds (λ e. e.intact ≡ true) engine.old.value }
-    ensures err { result.code ≢ 0 → IsCodeForBoth AreRewritesUnpurged engine.old.value engine.new.value result.code }
+    ensures err { result.code ≢ 0 → IsCodeForBoth (AreRewritesUnpurged HandedFails) engine.old.value engine.new.value result.code }
     ensures text { HasText result text.old text.new }
 {
     told!(held in engine, alloc, count, text; held.engine.purge_rewrite_files())

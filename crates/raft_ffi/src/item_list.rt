@@ -82,8 +82,9 @@ pub struct ItemHead {
     pub kind: u32,
 }
 
-/// Reads the items of the log batch that stands at `at` in the bytes, and says where the next batch begins; nothing at
-/// the end.
+/// Reads the items of the log batch at `at` of `bytes` into `items`, which is empty before, and sets `next` to where the next
+/// batch begins; `bytes` stand in `file` from `offset` on. If `at` is the end of `bytes`, `items` stays empty and `next` isn't
+/// set. The code is 0, or that of the error for a batch that can't be read, or 11 (`Memory`): `items` stays empty then.
 #[unsafe(no_mangle)]
 pub extern "C" fn raft_ffi_items_next(
     alloc: Global,
@@ -146,7 +147,7 @@ pub extern "C" fn raft_ffi_items_len(alloc: Global, items: &mut Items) -> usize
     with!(held in items, alloc; held.as_slice().len())
 }
 
-/// Finds what an item says, if there is one.
+/// Returns whether there is an item `i`, from 0 on, and sets `head` to what it says.
 #[unsafe(no_mangle)]
 pub extern "C" fn raft_ffi_items_head(
     alloc: Global,
@@ -160,7 +161,8 @@ pub extern "C" fn raft_ffi_items_head(
     with!(held in items, alloc; find_head(&*held, i, head))
 }
 
-/// Lists the entries of an item, if it has some, as far as there is room, and says how many they are.
+/// Returns whether item `i` is one of entries, lists as many of them in `entries` as there is room for, and sets `count` to how
+/// many there are.
 #[unsafe(no_mangle)]
 pub extern "C" fn raft_ffi_items_entries(
     alloc: Global,
@@ -176,7 +178,8 @@ pub extern "C" fn raft_ffi_items_entries(
     with!(held in items, alloc; find_entries(&*held, i, entries, count))
 }
 
-/// Finds the key of an item, if it changes one: as much of it as there is room for, and how long it is.
+/// Returns whether item `i` changes a key, copies as many bytes of the key into `key` as there is room for, and sets `len` to how
+/// many it has.
 #[unsafe(no_mangle)]
 pub extern "C" fn raft_ffi_items_key(
     alloc: Global,
@@ -191,7 +194,8 @@ pub extern "C" fn raft_ffi_items_key(
     with!(held in items, alloc; copy_found(key_of(&*held, i), key, len))
 }
 
-/// Finds the value of an item, if it puts one: as much of it as there is room for, and how long it is.
+/// Returns whether item `i` puts a value, copies as many bytes of the value into `value` as there is room for, and sets `len` to
+/// how many it has.
 #[unsafe(no_mangle)]
 pub extern "C" fn raft_ffi_items_value(
     alloc: Global,

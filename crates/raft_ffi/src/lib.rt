@@ -1,4 +1,7 @@
 //! The tables of all regions, the contexts that rebuild them, and items, for programs in C and in Rust: a static library.
+//!
+//! A handle that a call makes must be empty before, and each other one must hold a value. A call that returns a `Status` puts the text
+//! of its error into `text`, as many bytes as there is room for; `text_len` says how many bytes the text has.
 #![tactic(auto)]
 
 mod batch_calls;

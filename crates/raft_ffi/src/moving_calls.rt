@@ -23,8 +23,9 @@ pub struct Place {
     pub is_rewrite: bool,
 }
 
-/// Moves what the tables have in append files up to the gate to the rewrite queue. Where a block is to be read that isn't lent
-/// the number is 6; the engine is intact, and some regions may have moved. Lent blocks are let go.
+/// Moves what the tables have in append files numbered at or below `gate` to the rewrite queue. The code is 0, or that of the
+/// error: 12 (`Failed`), if the engine isn't intact; 6 (`TryAgain`), if a block is to be read that isn't lent: the engine is
+/// intact then, and some regions may have moved. Lent blocks are dropped.
 #[unsafe(no_mangle)]
 pub extern "C" fn raft_ffi_engine_rewrite(
     alloc: Global,
@@ -41,8 +42,9 @@ pub extern "C" fn raft_ffi_engine_rewrite(
     told!(held in engine, alloc, text; held.rewrite(gate))
 }
 
-/// Moves what the tables have in rewrite files to a new one of them. Where a block is to be read that isn't lent the number is 6;
-/// the engine is intact, and some regions may have moved. Lent blocks are let go.
+/// Moves what the tables have in rewrite files to a new one of them. The code is 0, or that of the error: 12 (`Failed`), if the
+/// engine isn't intact; 6 (`TryAgain`), if a block is to be read that isn't lent: the engine is intact then, and some regions may
+/// have moved. Lent blocks are dropped.
 #[unsafe(no_mangle)]
 pub extern "C" fn raft_ffi_engine_rewrite_again(
     alloc: Global,
@@ -58,9 +60,10 @@ pub extern "C" fn raft_ffi_engine_rewrite_again(
     told!(held in engine, alloc, text; held.rewrite_again())
 }
 
-/// Lists the blocks that are read where what the tables have in append files up to the gate moves, or without a gate what they have
-/// in rewrite files, each once, as far as there is room: those of the first regions, until they have `max_size` bytes. Says how
-/// many. Nothing rests on the list.
+/// Lists in `places` the blocks, each once, that are read if what the tables have in append files up to the gate moves, or
+/// without a gate what they have in rewrite files, as many as there is room for: those of one region after another, until they
+/// have `max_size` bytes. Sets `count` to how many there are. Returns 0, or 11 (`Memory`). The list is a hint: no promise rests
+/// on it.
 #[unsafe(no_mangle)]
 pub extern "C" fn raft_ffi_engine_moving_blocks(
     alloc: Global,
@@ -82,7 +85,8 @@ pub extern "C" fn raft_ffi_engine_moving_blocks(
     0
 }
 
-/// Lends the bytes that stand at a place, as many as the block has, until the next call that moves records. They are copied.
+/// Lends the engine a copy of `bytes`, the block that stands at `offset` of file `seq`, until the next call that moves records.
+/// Returns 0, or 11 (`Memory`).
 #[unsafe(no_mangle)]
 pub extern "C" fn raft_ffi_engine_lend(
     alloc: Global,

@@ -24,10 +24,12 @@ pub struct OrderHead {
     pub is_rewrite: bool,
 }
 
-/// Takes the oldest order that waits, if there is one, and copies its bytes, where there is room for them; `is_taken` says whether.
-/// Where there isn't it says how many they are. Orders have numbers from 0 on: what was asked of the files, in turn. Where none
-/// waits `at` is a number behind those of all orders. Whatever front of the orders was carried out when the machine crashes, what was
-/// synced in it is found again.
+/// Takes the oldest order that waits. If there is room for its bytes it is taken: `order` says what to do, its bytes are in
+/// `bytes`, and `is_taken` is set. Else it still waits, `order` has its number (`at`) and how many bytes it has (`len`), and
+/// `is_taken` is false. Returns whether an order waited; if none did, `at` is how many were taken before.
+///
+/// Orders are numbered from 0 on, and are to be carried out in turn. Whatever prefix of them was carried out when the machine
+/// crashes, what was synced in it is found again.
 #[unsafe(no_mangle)]
 pub extern "C" fn raft_ffi_engine_take_order(
     alloc: Global,

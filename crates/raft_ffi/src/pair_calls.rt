@@ -13,9 +13,10 @@ use std::alloc::Global;
 /// Keys with their values.
 type Pairs = Vec<(Vec<u8>, Vec<u8>)>;
 
-/// Lists the appended pairs of a region whose file is at or below a gate, in the order of the keys: the length of each key and of its
-/// value in turn, and the bytes of them, each as far as there is room, and how many these are. With a gate of 2^64 - 1 it lists all
-/// appended ones.
+/// Lists the pairs of a region whose file in the append queue is numbered at or below `gate`, in the order of the keys: the
+/// length of each key and of its value in turn in `lens`, and their bytes, one behind the other, in `bytes`, each as far as there
+/// is room. `count` is set to how many lengths there are, and `len` to how many bytes. With a gate of 2^64 - 1 it lists all
+/// appended ones. Returns 0, or 11 (`Memory`).
 #[unsafe(no_mangle)]
 pub extern "C" fn raft_ffi_tables_pairs_before(
     alloc: Global,
@@ -35,7 +36,7 @@ pub extern "C" fn raft_ffi_tables_pairs_before(
     memory_code(&copy_pairs(alloc, &found, lens, count, bytes, len))
 }
 
-/// Lists the rewritten pairs of a region, in the order of the keys, as [`raft_ffi_tables_pairs_before`] does the appended ones.
+/// Lists the rewritten pairs of a region, in the order of the keys, as [`raft_ffi_tables_pairs_before`] lists the appended ones.
 #[unsafe(no_mangle)]
 pub extern "C" fn raft_ffi_tables_rewritten_pairs(
     alloc: Global,
@@ -54,8 +55,8 @@ pub extern "C" fn raft_ffi_tables_rewritten_pairs(
     memory_code(&copy_pairs(alloc, &found, lens, count, bytes, len))
 }
 
-/// Lists the pairs of a region whose key is at or above `start` and, where that is asked for, below `end`, in the order of the keys,
-/// as [`raft_ffi_tables_pairs_before`] does.
+/// Lists the pairs of a region whose key is at or above `start` and, with `is_bounded`, below `end`, in the order of the keys, as
+/// [`raft_ffi_tables_pairs_before`] does.
 #[unsafe(no_mangle)]
 pub extern "C" fn raft_ffi_tables_scan(
     alloc: Global,
@@ -77,8 +78,8 @@ pub extern "C" fn raft_ffi_tables_scan(
     told!(held in tables, alloc; scan_in(alloc, &*held, region, start, end, lens, count, bytes, len))
 }
 
-/// Lists the pairs of a region whose key is at or above `start` and, where that is asked for, below `end`, in the order of the keys,
-/// as [`raft_ffi_tables_pairs_before`] does.
+/// Lists the pairs of a region whose key is at or above `start` and, with `is_bounded`, below `end`, in the order of the keys, as
+/// [`raft_ffi_tables_pairs_before`] does.
 #[unsafe(no_mangle)]
 pub extern "C" fn raft_ffi_engine_scan(
     alloc: Global,

@@ -1,8 +1,8 @@
 //! What is read of the files of a queue, in pieces.
 
-ghost use Rattle.std.specs.Prelude.{◌≡◌, ◌≢◌, ◌⊎◌, ◌+◌, ◌^◌, ◌<◌, [], length, take, drop, IfErr, IfOk, OnOk};
-ghost use Rattle.raft_ffi.specs.Words.{ArePassed, CannotFollow, HasNoFront, HaveBothRead, HaveBothReadExactly, HoldsFrom, IsReadable, IsReplayedBy, part_of, signature_of};
-ghost use Rattle.raft_ffi.specs.Words.{AreReadersUnsound, ReadersStand, ReadersStandExactly};
+ghost use Rattle.std.specs.Prelude.{◌≡◌, ◌≢◌, ◌⊎◌, ◌+◌, ◌^◌, ◌<◌, length, take, drop, IfErr, IfOk, OnOk};
+ghost use Rattle.raft_ffi.specs.Words.{ArePassedBy, CannotFollow, HasNoFront, HasReadNothing, HaveBothRead, HoldsFrom, IsNoneFound, IsReadable, IsReplayedBy, part_of, signature_of};
+ghost use Rattle.raft_ffi.specs.Words.{AreReadersUnsound, HasBothFound, ReadersStand, ReadersStandExactly};
 
 use raft_base::{Error, LogFileContext, LogQueue, Result};
 use raft_contexts::MemTableRecoverContext;
@@ -14,10 +14,12 @@ use raft_replay::replay_bytes;
 use std::alloc::Global;
 use std::marker::Model;
 
-/// What was read of a stretch of a queue's batches: their tables, and whether their atomic groups stand in rows.
+/// What was read of a stretch of a queue's batches: their tables, whether their atomic groups stand in rows, and where in the queue's
+/// last file those begin whose entries are damaged, if it is an append file.
 #[derive(Drop)]
 pub struct QueueReader {
     both: Both<MemTableRecoverContext, GroupRows>,
+    damaged: Vec<u64>,
 }
 
 impl Model for QueueReader {
@@ -39,21 +41,29 @@ impl QueueReader {
     ///
     /// `Memory`.
     pub(crate) fn new(alloc: Global) -> Result<QueueReader>
-        ensures ok { IfOk result (λ r. HaveBothReadExactly r []) }
+        ensures ok { IfOk result HasReadNothing }
         ensures memory { IfErr result (λ e. e ≡ Error.Memory) }
     {
         let both = Both {
             first: MemTableRecoverContext::new(alloc)?,
             second: GroupRows::new(),
         };
-        Ok(QueueReader { both })
+        let damaged = Vec::new(alloc);
+        Ok(QueueReader { both, damaged })
     }
 
     /// Returns what was read.
     pub(crate) fn into_both(self) -> Both<MemTableRecoverContext, GroupRows>
-        ensures { result ≡ self }
+        ensures { result ≡ self.read }
     {
         self.both
+    }
+
+    /// Returns the offsets in the queue's last file of the batches with damaged entries that were found, in order.
+    pub(crate) fn damaged(&self) -> &[u64]
+        ensures { result.now ≡ self.now.damaged }
+    {
+        self.damaged.as_slice()
     }
 
     /// Replays the batches of bytes that stand in the file from `offset` on.
@@ -70,14 +80,16 @@ impl QueueReader {
     ) -> Result<()>
         requires ends { offset + length bytes.now < 2 ^ 64 }
         ensures ok { OnOk result (IsReplayedBy (part_of file.now offset bytes.now) self.old self.new) }
+        ensures none { OnOk result (IsNoneFound self.old self.new) }
         ensures refused { IfErr result (λ e. e ≢ Error.Memory
-            → CannotFollow (HoldsFrom (part_of file.now offset bytes.now) 0) (HaveBothRead self.old)) }
+            → CannotFollow (HoldsFrom (part_of file.now offset bytes.now) 0) (HaveBothRead self.old.read)) }
     {
         replay_bytes(&mut self.both, alloc, file, offset, bytes)
     }
 
     /// Replays the batches of bytes that stand in the last file of a queue from `offset` on, up to the first one that can't be read,
-    /// and returns how many bytes they have. In a rewrite file the entries of each batch are checked.
+    /// and returns how many bytes they have. The entries of each batch are checked: where those of a batch of an append file are damaged
+    /// it is noted where that begins.
     ///
     /// # Errors
     ///
@@ -92,26 +104,37 @@ impl QueueReader {
     ) -> Result<usize>
         requires ends { offset + length bytes.now < 2 ^ 64 }
         ensures ok { IfOk result (λ len. IsReplayedBy (part_of file.now offset (take len bytes.now)) self.old self.new) }
-        ensures passed { IfOk result (λ len. ArePassed file.now offset bytes.now len) }
+        ensures passed { IfOk result (λ len. ArePassedBy file.now offset bytes.now len self.old self.new) }
         ensures stops { IfOk result (λ len. (len ≡ length bytes.now)
             ⊎ HasNoFront (λ xs. IsReadable xs (signature_of file.now)) (drop len bytes.now)) }
     {
-        match replay_readable(&mut self.both, alloc, file, offset, bytes)? {
+        match replay_readable(
+            &mut self.both,
+            alloc,
+            file,
+            offset,
+            bytes,
+            &mut self.damaged,
+        )? {
             (len, None) => Ok(len),
             (len, Some(_)) => Ok(len),
         }
     }
 
-    /// Takes in what was read of the batches that follow.
+    /// Takes in what was read of the batches that follow, and what was found damaged of them.
     ///
     /// # Errors
     ///
-    /// Those of `MemTableRecoverContext::merge`.
+    /// Those of `MemTableRecoverContext::merge`. What was read is then lost.
     pub(crate) fn merge(&mut self, newer: QueueReader, queue: LogQueue) -> Result<()>
         ensures stands { OnOk result (ReadersStand newer self.old self.new) }
         ensures exact { OnOk result (ReadersStandExactly newer self.old self.new) }
+        ensures found { OnOk result (HasBothFound newer self.old self.new) }
         ensures refused { IfErr result (λ e. e ≢ Error.Memory → AreReadersUnsound queue self.old newer) }
     {
-        self.both.merge(newer.both, queue)
+        let QueueReader { both, mut damaged } = newer;
+        self.both.merge(both, queue)?;
+        self.damaged.append(&mut damaged)?;
+        Ok(())
     }
 }

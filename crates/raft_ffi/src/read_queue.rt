@@ -4,7 +4,7 @@ ghost use Rattle.std.specs.Prelude.{◌≡◌, ◌≢◌, ◌⊎◌, ◌+◌, �
 ghost use Rattle.raft_files.specs.Asks.{NumberedBytes};
 ghost use Rattle.raft_engine_prefixes.specs.Done.{AreConsecutive, numbers};
 ghost use Rattle.raft_opening.specs.SizedFiles.{IsPartFault, size_of};
-ghost use Rattle.raft_ffi.specs.Words.{HasNoFront, IsFoundFault, IsFrontRead, IsLeftRead, IsNextFault, IsQueueReadAs, IsReadOnAs, IsReadTo, IsReadable, IsReadyAs, IsTailBehind, ReaderSeen, part_of, signature_of, size_in};
+ghost use Rattle.raft_ffi.specs.Words.{HasNoFront, IsFoundFault, IsFrontRead, IsLeftRead, IsNextFault, IsQueueReadAs, IsReadOnAs, IsReadTo, IsReadable, IsReadyAs, IsTailBehind, BatchesRead, part_of, signature_of, size_in};
 
 use raft_base::{Error, FileId, LogFileContext, LogQueue, Result, Version};
 use raft_engine::found::unless_memory;
@@ -42,9 +42,9 @@ pub(crate) fn sized_queue(
     sizes: &[Size],
     rest: &[u8],
 ) -> Result<SizedQueue>
-    ensures ok { (files : List NumberedBytes) (read : ReaderSeen) → IsQueueReadAs queue version sizes.now rest.now read files
+    ensures ok { (files : List NumberedBytes) (read : BatchesRead) → IsQueueReadAs queue version sizes.now rest.now read files
         → IfOk result (IsReadyAs mode queue version files read) }
-    ensures fault { (files : List NumberedBytes) (read : ReaderSeen) → IsQueueReadAs queue version sizes.now rest.now read files
+    ensures fault { (files : List NumberedBytes) (read : BatchesRead) → IsQueueReadAs queue version sizes.now rest.now read files
         → IfErr result (λ e. e ≢ Error.Memory → IsFoundFault mode queue version files e ⊎ IsReadOnAs e) }
 {
     let found = file_sizes(alloc, sizes)?;
@@ -90,9 +90,9 @@ fn missing_of(
     sizes: &[FileSize],
     rest: &[u8],
 ) -> Result<Missing>
-    ensures ok { (files : List NumberedBytes) (read : ReaderSeen) → sizes.now ≡ map size_of files → IsReadTo queue version rest.now read files
+    ensures ok { (files : List NumberedBytes) (read : BatchesRead) → sizes.now ≡ map size_of files → IsReadTo queue version rest.now read files
         → AreConsecutive (numbers files) → IfOk result (IsLeftRead mode queue version files read) }
-    ensures fault { (files : List NumberedBytes) (read : ReaderSeen) → sizes.now ≡ map size_of files → IsReadTo queue version rest.now read files
+    ensures fault { (files : List NumberedBytes) (read : BatchesRead) → sizes.now ≡ map size_of files → IsReadTo queue version rest.now read files
         → IfErr result (λ e. e ≢ Error.Memory → IsFoundFault mode queue version files e ⊎ IsReadOnAs e) }
 {
     let Some((last, _)) = sizes.split_last() else {
@@ -141,11 +141,11 @@ fn tail_of(
     }))
 }
 
-/// Returns why no batch can be read in front of bytes that stand in a file from `offset` on.
+/// Returns why no batch can be read at the start of `rest`, which stands in `file` from `offset` on.
 ///
 /// # Errors
 ///
-/// `Corruption` where one can, `Memory`.
+/// `Corruption` where one can be read; `Memory`.
 fn stop_of(alloc: Global, file: &LogFileContext, offset: u64, rest: &[u8]) -> Result<Error>
     requires ends { offset + length rest.now < 2 ^ 64 }
     ensures unreadable { IfOk result (λ e. HasNoFront (λ xs. IsReadable xs (signature_of file.now)) rest.now) }

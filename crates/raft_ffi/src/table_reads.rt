@@ -27,7 +27,7 @@ pub struct Summary {
     pub rewrite_seq: Maybe,
 }
 
-/// Says how many records are live in a queue.
+/// Returns how many records are live in a queue.
 #[unsafe(no_mangle)]
 pub extern "C" fn raft_ffi_tables_live(
     alloc: Global,
@@ -40,7 +40,7 @@ pub extern "C" fn raft_ffi_tables_live(
     with!(held in tables, alloc; held.stats().live_entries(queue(is_rewrite)))
 }
 
-/// Says what a region's table has, if there is one.
+/// Returns whether a region has a table, and sets `summary` to what it has.
 #[unsafe(no_mangle)]
 pub extern "C" fn raft_ffi_tables_summary(
     alloc: Global,
@@ -54,7 +54,8 @@ pub extern "C" fn raft_ffi_tables_summary(
     with!(held in tables, alloc; summary_in(&*held, region, summary))
 }
 
-/// Lists the regions that have a table, in rising order, as far as there is room, and says how many they are.
+/// Lists in `regions` the regions that have a table, in rising order, as many as there is room for, and sets `count` to how many
+/// there are. Returns 0, or 11 (`Memory`).
 #[unsafe(no_mangle)]
 pub extern "C" fn raft_ffi_tables_regions(
     alloc: Global,
@@ -69,7 +70,7 @@ pub extern "C" fn raft_ffi_tables_regions(
     told!(held in tables, alloc; find_regions(&*held, regions, count))
 }
 
-/// Lists the regions that were cleaned, in order, as far as there is room, and returns how many they are.
+/// Lists in `regions` the regions that were cleaned, in order, as many as there is room for, and returns how many there are.
 #[unsafe(no_mangle)]
 pub extern "C" fn raft_ffi_tables_cleaned(
     alloc: Global,
@@ -82,7 +83,7 @@ pub extern "C" fn raft_ffi_tables_cleaned(
     with!(held in tables, alloc; copy_front(held.cleaned_regions(), regions))
 }
 
-/// Finds an entry of a region, if there is one.
+/// Returns whether a region has an entry of that index, and sets `entry` to it.
 #[unsafe(no_mangle)]
 pub extern "C" fn raft_ffi_tables_entry(
     alloc: Global,
@@ -97,9 +98,12 @@ pub extern "C" fn raft_ffi_tables_entry(
     with!(held in tables, alloc; entry_in(&*held, region, index, entry))
 }
 
-/// Lists the entries of a region from `begin` on and below `end`, as far as there is room, and says how many they are.
-/// With a maximal size it stops before the first one with which the total of lengths passes that size and exceeds the
-/// entry's own length. A region without a table has no entries.
+/// Lists in `entries` the entries of a region from `begin` on and below `end`, as many as there is room for, and sets `count` to
+/// how many there are. With a maximal size it stops before the first one with which the total of lengths passes that size and
+/// exceeds the entry's own length. A region without a table has no entries.
+///
+/// The code is 0, or 11 (`Memory`), or, where the range isn't empty, 7 (`EntryCompacted`), if it begins below the first entry, or
+/// 8 (`EntryNotFound`), if there are no entries or it ends above their end.
 #[unsafe(no_mangle)]
 pub extern "C" fn raft_ffi_tables_entries(
     alloc: Global,
@@ -122,8 +126,8 @@ pub extern "C" fn raft_ffi_tables_entries(
     told!(held in tables, alloc, text; entries_in(alloc, &*held, region, range, max_size.size(), entries, count))
 }
 
-/// Lists the appended entries of a region from the first on while their file is at or below a gate, as far as there is
-/// room, and says how many they are.
+/// Lists in `entries` the appended entries of a region, from the first one on while their file is numbered at or below `gate`, as
+/// many as there is room for, and sets `count` to how many there are. Returns 0, or 11 (`Memory`).
 #[unsafe(no_mangle)]
 pub extern "C" fn raft_ffi_tables_entries_before(
     alloc: Global,
@@ -144,7 +148,8 @@ pub extern "C" fn raft_ffi_tables_entries_before(
     0
 }
 
-/// Lists the rewritten entries of a region, as far as there is room, and says how many they are.
+/// Lists in `entries` the rewritten entries of a region, as many as there is room for, and sets `count` to how many there are.
+/// Returns 0, or 11 (`Memory`).
 #[unsafe(no_mangle)]
 pub extern "C" fn raft_ffi_tables_rewritten_entries(
     alloc: Global,
@@ -162,7 +167,8 @@ pub extern "C" fn raft_ffi_tables_rewritten_entries(
     0
 }
 
-/// Finds the value of a region's key, if there is one: as much of it as there is room for, and how long it is.
+/// Returns whether `key` of a region has a value, copies as many of its bytes into `value` as there is room for, and sets `len`
+/// to how many it has.
 #[unsafe(no_mangle)]
 pub extern "C" fn raft_ffi_tables_value(
     alloc: Global,
@@ -186,7 +192,7 @@ pub extern "C" fn raft_ffi_tables_drop(tables: Tables)
     drop(tables.into_box());
 }
 
-/// Says how many records are live in a queue.
+/// Returns how many records are live in a queue.
 #[unsafe(no_mangle)]
 pub extern "C" fn raft_ffi_engine_live(
     alloc: Global,
@@ -199,7 +205,7 @@ pub extern "C" fn raft_ffi_engine_live(
     with!(held in engine, alloc; held.engine.accessor().stats().live_entries(queue(is_rewrite)))
 }
 
-/// Says what a region's table has, if there is one.
+/// Returns whether a region has a table, and sets `summary` to what it has.
 #[unsafe(no_mangle)]
 pub extern "C" fn raft_ffi_engine_summary(
     alloc: Global,
@@ -213,7 +219,8 @@ pub extern "C" fn raft_ffi_engine_summary(
     with!(held in engine, alloc; summary_in(held.engine.accessor(), region, summary))
 }
 
-/// Lists the regions that have a table, in rising order, as far as there is room, and says how many they are.
+/// Lists in `regions` the regions that have a table, in rising order, as many as there is room for, and sets `count` to how many
+/// there are. Returns 0, or 11 (`Memory`).
 #[unsafe(no_mangle)]
 pub extern "C" fn raft_ffi_engine_regions(
     alloc: Global,
@@ -228,7 +235,7 @@ pub extern "C" fn raft_ffi_engine_regions(
     told!(held in engine, alloc; find_regions(held.engine.accessor(), regions, count))
 }
 
-/// Finds an entry of a region, if there is one.
+/// Returns whether a region has an entry of that index, and sets `entry` to it.
 #[unsafe(no_mangle)]
 pub extern "C" fn raft_ffi_engine_entry(
     alloc: Global,
@@ -266,7 +273,8 @@ pub extern "C" fn raft_ffi_engine_entries(
     told!(held in engine, alloc, text; entries_in(alloc, held.engine.accessor(), region, range, max_size.size(), entries, count))
 }
 
-/// Finds the value of a region's key, if there is one: as much of it as there is room for, and how long it is.
+/// Returns whether `key` of a region has a value, copies as many of its bytes into `value` as there is room for, and sets `len`
+/// to how many it has.
 #[unsafe(no_mangle)]
 pub extern "C" fn raft_ffi_engine_value(
     alloc: Global,
@@ -283,7 +291,7 @@ pub extern "C" fn raft_ffi_engine_value(
     with!(held in engine, alloc; copy_found(value_of(held.engine.accessor(), region, key), value, len))
 }
 
-/// Finds the least index of a region's entries, if it has any.
+/// Returns whether a region has entries, and sets `index` to their least index.
 #[unsafe(no_mangle)]
 pub extern "C" fn raft_ffi_engine_first_index(
     alloc: Global,
@@ -301,7 +309,7 @@ pub extern "C" fn raft_ffi_engine_first_index(
     found_number(found, index)
 }
 
-/// Finds the greatest index of a region's entries, if it has any.
+/// Returns whether a region has entries, and sets `index` to their greatest index.
 #[unsafe(no_mangle)]
 pub extern "C" fn raft_ffi_engine_last_index(
     alloc: Global,

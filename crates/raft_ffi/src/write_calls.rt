@@ -24,7 +24,7 @@ macro_rules! counted {
     }};
 }
 
-/// Makes tables of no region.
+/// Makes tables of no region in `tables`, which is empty before. Returns 0, or 11 (`Memory`): it stays empty then.
 #[unsafe(no_mangle)]
 pub extern "C" fn raft_ffi_tables_new(alloc: Global, tables: &mut Tables) -> u32
     requires empty { tables.old.value ≡ None }
@@ -34,7 +34,8 @@ pub extern "C" fn raft_ffi_tables_new(alloc: Global, tables: &mut Tables) -> u32
     memory_code(&tables.put_new(alloc, held))
 }
 
-/// Sets the first and the last file of a region's atomic group, once the group's End is written.
+/// Sets the first and the last file of a region's atomic group, once the group's End is written. `start` is at most `end`.
+/// Returns 0, or 11 (`Memory`): the tables are unchanged then.
 #[unsafe(no_mangle)]
 pub extern "C" fn raft_ffi_tables_atomic_group(
     alloc: Global,
@@ -50,7 +51,10 @@ pub extern "C" fn raft_ffi_tables_atomic_group(
     told!(held in tables, alloc; counted!(held; held.apply_rewrite_atomic_group(region, start, end)))
 }
 
-/// Takes a region's table away, and lists the region as cleaned where that is asked for, also where it has no table.
+/// Removes the table of a region, if there is one, and subtracts its records from the live counts; `found` says whether there was
+/// one. With `is_listed` the region is also appended to the cleaned regions, even if it has no table.
+///
+/// Returns 0, or 11 (`Memory`), which comes only with `is_listed`: the tables are unchanged then, and `found` isn't set.
 #[unsafe(no_mangle)]
 pub extern "C" fn raft_ffi_tables_remove(
     alloc: Global,
@@ -70,7 +74,9 @@ pub extern "C" fn raft_ffi_tables_remove(
     0
 }
 
-/// Merges the tables of a newer neighbor, each into the table of its region. Those are gone then.
+/// Merges `newer`, the tables of later batches, into `tables`, each into the table of its region. `newer` is gone then. The
+/// cleaned regions stay. The code is 0, or that of the error. After an error each region has its old table or the merged one;
+/// after 11 (`Memory`) that of one region may be lost.
 #[unsafe(no_mangle)]
 pub extern "C" fn raft_ffi_tables_merge_newer(
     alloc: Global,
@@ -86,7 +92,9 @@ pub extern "C" fn raft_ffi_tables_merge_newer(
     told!(held in tables, alloc, text; counted!(held; held.merge_newer_neighbor(newer.into_held())))
 }
 
-/// Merges appended tables, each into the rewritten table of its region. Those are gone then.
+/// Merges `append`, appended tables, into `tables`, rewritten ones, each into the table of its region. `append` is gone then. The
+/// cleaned regions stay. The code is 0, or that of the error. After an error each region has its old table or the merged one;
+/// after 11 (`Memory`) that of one region may be lost.
 #[unsafe(no_mangle)]
 pub extern "C" fn raft_ffi_tables_merge_append(
     alloc: Global,
@@ -102,8 +110,8 @@ pub extern "C" fn raft_ffi_tables_merge_append(
     told!(held in tables, alloc, text; counted!(held; held.merge_append_table(append.into_held())))
 }
 
-/// Writes items of the append queue to the tables, in order. They are gone then. Where an item is refused those in front
-/// of it are written, and nothing else.
+/// Writes `items`, those of a batch of the append queue, to the tables, in order. `items` is gone then. The code is 0, or that of
+/// the error of the first item that is refused: those before it are written then, and nothing else.
 #[unsafe(no_mangle)]
 pub extern "C" fn raft_ffi_tables_apply_append(
     alloc: Global,
@@ -132,8 +140,9 @@ pub(crate) fn apply_append(accessor: &mut MemTableAccessor, items: ItemList) -> 
     accessor.apply_append_writes(items.drain())
 }
 
-/// Writes items that were rewritten to the file of number `seq` of the rewrite queue to the tables, in order. They are gone
-/// then. Where an item is refused those in front of it are written, and nothing else.
+/// Writes `items`, which were rewritten to file `seq` of the rewrite queue, to the tables, in order; `gate` says which places
+/// move, as for [`raft_ffi_tables_rewrite`]. `items` is gone then. The code is 0, or that of the error of the first item that is
+/// refused: those before it are written then, and nothing else.
 #[unsafe(no_mangle)]
 pub extern "C" fn raft_ffi_tables_apply_rewrite(
     alloc: Global,
@@ -169,8 +178,9 @@ pub(crate) fn apply_rewrite(
     accessor.apply_rewrite_writes(items.drain(), gate, seq)
 }
 
-/// Tests whether the tables would accept the items of a batch, once it is written to the append queue, whatever their place.
-/// It changes nothing.
+/// Tests whether the tables would accept the items of `batch` once it is written to the append queue, at whatever place. It
+/// changes nothing. The code is 0 if they would; else that of the error with which the first item that they don't accept would be
+/// refused, or 11 (`Memory`).
 #[unsafe(no_mangle)]
 pub extern "C" fn raft_ffi_tables_check_append(
     alloc: Global,
@@ -187,7 +197,7 @@ pub extern "C" fn raft_ffi_tables_check_append(
     told!(held in tables, alloc, text; with!(logs in batch, alloc; check_append(&*held, &*logs)))
 }
 
-/// Tests whether the tables would accept the items of a batch of the append queue.
+/// Checks that the tables accept the items of `batch` once it is written to the append queue, at whatever place.
 ///
 /// # Errors
 ///
@@ -200,7 +210,8 @@ fn check_append(accessor: &MemTableAccessor, batch: &LogBatch) -> Result<()>
     accessor.check_append_writes(batch.items())
 }
 
-/// Hands out the cleaned regions as an open batch with a `Clean` for each, in order. The list is then empty.
+/// Moves the cleaned regions into `batch`, which is empty before: an open batch with a `Clean` of each, in order. The list of the
+/// tables is empty then. Returns 0, or 11 (`Memory`): the list is as it was then, and `batch` stays empty.
 #[unsafe(no_mangle)]
 pub extern "C" fn raft_ffi_tables_cleaned_logs(
     alloc: Global,
@@ -236,7 +247,7 @@ fn cleaned_logs(alloc: Global, accessor: &mut MemTableAccessor, batch: &mut Batc
     Ok(())
 }
 
-/// Returns the number of the slot that holds a region's table, below 128.
+/// Returns the number of the slot that holds a region's table, which is below 128.
 #[unsafe(no_mangle)]
 pub extern "C" fn raft_ffi_slot_of(region: u64) -> usize
     ensures value { result ≡ slot_of region }
@@ -245,8 +256,9 @@ pub extern "C" fn raft_ffi_slot_of(region: u64) -> usize
     slot_of(region)
 }
 
-/// Moves the table of a region, if there is one, out of tables into others, where it stands in place of that region's one. The
-/// lists of cleaned regions stay. Where that is refused the region's table is gone, and the others are as they were.
+/// Moves the table of a region, if there is one, from `tables` to `to`, in place of the one that the region has there. Both lists
+/// of cleaned regions stay. The code is 0; 9 (`Full`), if more than 2^64 - 1 records would be live in a queue of `to`; or 11
+/// (`Memory`). After an error the region's table is lost, and `to` is unchanged.
 #[unsafe(no_mangle)]
 pub extern "C" fn raft_ffi_tables_move_table(
     alloc: Global,
@@ -266,8 +278,8 @@ pub extern "C" fn raft_ffi_tables_move_table(
     told!(held in tables, alloc, text; with!(others in to, alloc; move_table(&mut *held, &mut *others, region)))
 }
 
-/// Tests whether tables would accept those items of a batch whose regions are of a slot, once it is written to the append queue,
-/// whatever their place. It changes nothing.
+/// Tests whether the tables of slot `number` would accept the items of `batch` whose regions are of that slot, once it is written
+/// to the append queue, at whatever place. It changes nothing. The code is as that of [`raft_ffi_tables_check_append`].
 #[unsafe(no_mangle)]
 pub extern "C" fn raft_ffi_slot_check_append(
     alloc: Global,
@@ -285,8 +297,9 @@ pub extern "C" fn raft_ffi_slot_check_append(
     told!(held in tables, alloc, text; with!(logs in batch, alloc; check_share(alloc, &*held, number, &*logs)))
 }
 
-/// Writes those items of the append queue whose regions are of a slot to tables, in order. Where an item is refused those in front
-/// of it are written, and nothing else; without memory for copies of the items none.
+/// Writes the items of the append queue whose regions are of slot `number` to the tables of that slot, in order. `items` stays as
+/// it is. The code is 0, or that of the error of the first item that is refused: those before it are written then, and nothing
+/// else; none if there is no memory for copies of the items.
 #[unsafe(no_mangle)]
 pub extern "C" fn raft_ffi_slot_apply_append(
     alloc: Global,
@@ -307,9 +320,10 @@ pub extern "C" fn raft_ffi_slot_apply_append(
     told!(held in tables, alloc, text; with!(list in items, alloc; append(alloc, &mut *held, number, &*list)))
 }
 
-/// Writes those items whose regions are of a slot, and which were rewritten to the file of number `seq` of the rewrite queue, to
-/// tables, in order. Where an item is refused those in front of it are written, and nothing else; without memory for copies of
-/// the items none.
+/// Writes the items whose regions are of slot `number`, and which were rewritten to file `seq` of the rewrite queue, to the
+/// tables of that slot, in order; `gate` says which places move, as for [`raft_ffi_tables_rewrite`]. `items` stays as it is. The
+/// code is 0, or that of the error of the first item that is refused: those before it are written then, and nothing else; none if
+/// there is no memory for copies of the items.
 #[unsafe(no_mangle)]
 pub extern "C" fn raft_ffi_slot_apply_rewrite(
     alloc: Global,

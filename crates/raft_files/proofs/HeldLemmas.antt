@@ -1,11 +1,6 @@
 -- Files that are held go on being those that were asked for.
-use Rattle.std.proofs.Common.{◌≡◌, ℕ, zero, suc, ◌+◌, ◌-◌, ◌<◌, ◌≤◌, List, [], ◌∷◌, ◌++◌, length, drop, take, map, Vec, refl, sym, ap, ◌∙◌, arith, subst, length-append}
-use Rattle.std.proofs.lemmas.List.{drop-append-le, length-drop, length-map}
-use Rattle.std.specs.Global.{Global}
-use Rattle.raft_base.specs.declared.pipe_log.LogQueue.TheVariants.{Append, Rewrite}
-use Rattle.raft_files.specs.Asks.{Act, Put, Begin, Delete, Cut, Ask, ask, acts_on}
-use Rattle.raft_files.specs.Disk.{NumberedBytes, on_last, put_behind, cut_last, begun, deletions}
-use Rattle.raft_files.specs.HeldFiles.{AreHeld, AreBothHeld, file_shown}
+use Rattle.raft_files.proofs.Common.{◌≡◌, ℕ, zero, suc, ◌+◌, ◌-◌, ◌<◌, ◌≤◌, List, [], ◌∷◌, ◌++◌, length, drop, take, map, Vec, refl, sym, ap, ◌∙◌, arith, subst, length-append, drop-append-le, length-drop, length-map, Global, Append, Rewrite, Act, Put, Begin, Delete, Cut, Ask}
+use Rattle.raft_files.proofs.Common.{ask, acts_on, NumberedBytes, on_last, put_behind, cut_last, begun, deletions, AreHeld, AreBothHeld, file_shown}
 
 pub length_on_last : (change : List ℕ → List ℕ) (files : List NumberedBytes) → length (on_last change files) ≡ length files
 length_on_last change [] = refl

@@ -1,13 +1,6 @@
 -- The last file.
-use Rattle.std.proofs.Common.{◌≡◌, ℕ, ◌+◌, ◌-◌, ◌<◌, List, [], ◌∷◌, ◌++◌, length, map, take, refl, sym, ap, ◌∙◌, arith, slice_index_or, slice_set, subst, Vec, None, Some, Result, Ok, Err, OnErr}
-use Rattle.std.proofs.lemmas.List.{take_more, take_all, length-take-le, map-append}
-use Rattle.std.proofs.Math.Seq.{set-append_seam}
-use Rattle.std.proofs.lemmas.Option.{slice_get_within, get_or_from_slice_get, slice_get-get_or, none-some}
-use Rattle.std.specs.List.{slice_get}
-use Rattle.std.specs.Global.{Global}
-use Rattle.raft_files.specs.Disk.{NumberedBytes, on_last}
-use Rattle.raft_files.specs.HeldFiles.{file_shown}
-use Rattle.raft_files.specs.Places.{IsNext}
+use Rattle.raft_files.proofs.Common.{◌≡◌, ℕ, ◌+◌, ◌-◌, ◌<◌, List, [], ◌∷◌, ◌++◌, length, map, take, refl, sym, ap, ◌∙◌, arith, slice_index_or, slice_set, subst, Vec, None, Some, Result, Ok, Err, OnErr, take_more, take_all, length-take-le, map-append, set-append_seam}
+use Rattle.raft_files.proofs.Common.{slice_get_within, get_or_from_slice_get, slice_get-get_or, none-some, slice_get, Global, NumberedBytes, on_last, file_shown, IsNext}
 
 pub at_last : {A : Type 0} (xs : List A) (i : ℕ) (d : A) → i + 1 ≡ length xs → xs ≡ take i xs ++ slice_index_or xs i d ∷ []
 at_last xs i d e = sym (take_all (i + 1) xs (omega (arith, e))) ∙ take_more xs i d (omega (arith, e))

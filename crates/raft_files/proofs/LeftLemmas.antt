@@ -1,10 +1,6 @@
 -- What may be left of files.
-use Rattle.std.proofs.Common.{◌≡◌, ℕ, ◌≤◌, List, [], ◌∷◌, drop, inl, inr, refl, sym, ap, ◌∙◌, arith, append-nil, subst}
-use Rattle.raft_base.specs.declared.pipe_log.FileBlockHandle.{FileBlockHandle}
-use Rattle.raft_base.specs.declared.pipe_log.LogQueue.{LogQueue}
-use Rattle.raft_base.specs.declared.pipe_log.LogQueue.TheVariants.{Append, Rewrite}
-use Rattle.raft_files.specs.Asks.{Act, Put, Begin, Sync, Unsynced, Delete, Cut, Found, Read, Ask, ask, acts_on}
-use Rattle.raft_files.specs.Disk.{NumberedBytes, begun, deletions, synced_deletions, files_of, MayStand, IsLeftOf}
+use Rattle.raft_files.proofs.Common.{◌≡◌, ℕ, ◌≤◌, List, [], ◌∷◌, drop, inl, inr, refl, sym, ap, ◌∙◌, arith, append-nil, subst, FileBlockHandle, LogQueue, Append, Rewrite, Act, Put, Begin, Sync, Unsynced, Delete, Cut, Found, Read, Ask, ask, acts_on, NumberedBytes, begun}
+use Rattle.raft_files.proofs.Common.{deletions, synced_deletions, files_of, MayStand, IsLeftOf}
 
 all_stand : (acts : List Act) → MayStand acts (begun acts)
 all_stand [] = refl

@@ -1,3 +1,4 @@
+mod Common
 pub mod HeldLemmas
 pub mod LastLemmas
 pub mod LeftLemmas

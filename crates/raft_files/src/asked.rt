@@ -39,7 +39,7 @@ impl Model for Asked {
 }
 
 impl Asked {
-    /// Makes a list without an ask.
+    /// Returns the list of what was asked before the first ask: nothing.
     pub fn new() -> Asked
         ensures { result.asks ≡ [] }
     {
@@ -48,49 +48,49 @@ impl Asked {
         }
     }
 
-    /// Notes that bytes were put behind the last file.
+    /// Notes that `bytes` were put behind the last file of `queue`.
     pub fn put(&mut self, queue: LogQueue, bytes: &[u8])
         ensures { IsAsked (ask queue (Put bytes.now)) self.old.asks self.new.asks }
     {
         self.note(&[number_of(queue), PUT, 0], bytes);
     }
 
-    /// Notes that a new file was begun behind the last one.
+    /// Notes that a file numbered `seq` was begun behind the last one of `queue`.
     pub fn begin(&mut self, queue: LogQueue, seq: FileSeq)
         ensures { IsAsked (ask queue (Begin seq)) self.old.asks self.new.asks }
     {
         self.note(&[number_of(queue), BEGIN, seq], &[]);
     }
 
-    /// Notes a sync.
+    /// Notes that `queue` was synced.
     pub fn sync(&mut self, queue: LogQueue)
         ensures { IsAsked (ask queue Sync) self.old.asks self.new.asks }
     {
         self.note(&[number_of(queue), SYNC, 0], &[]);
     }
 
-    /// Notes that a sync failed.
+    /// Notes that a sync of `queue` was begun and failed.
     pub fn unsynced(&mut self, queue: LogQueue)
         ensures { IsAsked (ask queue Unsynced) self.old.asks self.new.asks }
     {
         self.note(&[number_of(queue), UNSYNCED, 0], &[]);
     }
 
-    /// Notes that the oldest file was deleted.
+    /// Notes that the oldest file of `queue` was deleted.
     pub fn delete(&mut self, queue: LogQueue)
         ensures { IsAsked (ask queue Delete) self.old.asks self.new.asks }
     {
         self.note(&[number_of(queue), DELETE, 0], &[]);
     }
 
-    /// Notes that the last file was cut to `len` bytes.
+    /// Notes that the last file of `queue` was cut to `len` bytes.
     pub fn cut(&mut self, queue: LogQueue, len: u64)
         ensures { IsAsked (ask queue (Cut len)) self.old.asks self.new.asks }
     {
         self.note(&[number_of(queue), CUT, len], &[]);
     }
 
-    /// Notes that the bytes at a place were read, and were these.
+    /// Notes that the bytes at `place` were read, and were `bytes`.
     pub fn read(&mut self, place: FileBlockHandle, bytes: &[u8])
         ensures { IsAsked (ask place.id.queue (Read place bytes.now)) self.old.asks self.new.asks }
     {
@@ -106,15 +106,16 @@ impl Asked {
         );
     }
 
-    /// Notes the files of a queue that are found when the machine starts, oldest first. All of their bytes are on the disk.
+    /// Notes `files`, those of `queue` that are found when the machine starts, oldest first. All of their
+    /// bytes are on the disk.
     pub fn found(&mut self, queue: LogQueue, files: &Vec<(FileSeq, Vec<u8>)>)
         ensures { IsAsked (ask queue (Found (map file_shown files.now.items))) self.old.asks self.new.asks }
     {
         self.note_found(&[number_of(queue)], files);
     }
 
-    /// Makes the list of what was asked once files of both queues are found: some of those that may be, by what says so. No byte
-    /// of them is held.
+    /// Returns the list of what was asked once files of both queues are found, of which `found` says what is
+    /// known: they are some that may be those files. None of their bytes are held.
     pub fn of_found<X: Found>(found: &X) -> Asked
         requires { (append : List NumberedBytes) × (rewrite : List NumberedBytes) × X.are_found found.now append rewrite }
         ensures { (append : List NumberedBytes) × (rewrite : List NumberedBytes) × X.are_found found.now append rewrite
@@ -126,12 +127,14 @@ impl Asked {
         }
     }
 
-    /// Notes files that are found, by the number of their queue.
+    /// Notes files that are found, by the number of their queue. It computes nothing: only its contract
+    /// counts.
     fn note_found(&mut self, _numbers: &[u64], _files: &Vec<(FileSeq, Vec<u8>)>)
         ensures { self.new.asks ≡ found_noted _numbers.now (map file_shown _files.now.items) ∷ self.old.asks }
     {}
 
-    /// Notes an ask by numbers (its queue, its kind, and a number or those of a place) and bytes.
+    /// Notes an ask by numbers (of its queue and its kind, and the number that it names, or those of a place)
+    /// and bytes. It computes nothing: only its contract counts.
     fn note(&mut self, _numbers: &[u64], _bytes: &[u8])
         ensures { self.new.asks ≡ ask_noted _numbers.now _bytes.now ∷ self.old.asks }
     {}
@@ -140,7 +143,7 @@ impl Asked {
 // It owns nothing.
 unsafe impl Send for Asked {}
 
-/// Returns the number that notes a queue.
+/// Returns the number by which asks note `queue`: 0 for the append queue, 1 for the rewrite queue.
 fn number_of(queue: LogQueue) -> u64
     ensures { queue_noted result ≡ queue }
 {

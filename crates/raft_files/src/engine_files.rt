@@ -34,41 +34,62 @@ pub trait EngineFiles {
     /// A call that asks this, behind all that was asked so far, may fail with this error: any, if nothing else is said.
     ghost may_fail: { List Ask → Ask → Error → Type 0 } = { λ _ _ _. Unit {0} };
 
-    /// Puts bytes behind those of the queue's last file. After an `Err` some of them may be there.
+    /// Puts `bytes` behind those of the last file of `queue`.
+    ///
+    /// # Errors
+    ///
+    /// Those of the implementor. Some of the bytes may be there then.
     fn append(&mut self, queue: LogQueue, bytes: &[u8]) -> Result<()>
         ensures ok { OnOk result (IsAsked (ask queue (Put bytes.now)) (asked self.old) (asked self.new)) }
         ensures err { OnErr result (MayBeAsked (ask queue (Put bytes.now)) (asked self.old) (asked self.new)) }
         ensures fault { IfErr result (may_fail (asked self.old) (ask queue (Put bytes.now))) };
 
-    /// Begins a new file of the queue with this number, behind the last one, whose bytes are synced
-    /// then. After an `Err` it may be there or not.
+    /// Begins a new file of `queue`, numbered `seq`, behind the last one, whose bytes are synced then.
+    ///
+    /// # Errors
+    ///
+    /// Those of the implementor. The file may be there then, or not.
     fn rotate(&mut self, queue: LogQueue, seq: FileSeq) -> Result<()>
         ensures ok { OnOk result (IsAsked (ask queue (Begin seq)) (asked self.old) (asked self.new)) }
         ensures err { OnErr result (MayBeAsked (ask queue (Begin seq)) (asked self.old) (asked self.new)) }
         ensures fault { IfErr result (may_fail (asked self.old) (ask queue (Begin seq))) };
 
-    /// Makes all that was asked of the queue so far outlast a crash. An `Err` promises nothing, and
-    /// notes that the sync failed, or nothing where none was begun.
+    /// Makes everything that was asked of `queue` so far survive a crash.
+    ///
+    /// # Errors
+    ///
+    /// Those of the implementor. Nothing is promised then; a sync that was begun is noted as failed.
     fn sync(&mut self, queue: LogQueue) -> Result<()>
         ensures ok { OnOk result (IsAsked (ask queue Sync) (asked self.old) (asked self.new)) }
         ensures err { OnErr result (MayBeAsked (ask queue Unsynced) (asked self.old) (asked self.new)) }
         ensures fault { IfErr result (may_fail (asked self.old) (ask queue Sync)) };
 
-    /// Deletes the queue's oldest file. After an `Err` it may be gone or not.
+    /// Deletes the oldest file of `queue`.
+    ///
+    /// # Errors
+    ///
+    /// Those of the implementor. The file may be gone then, or not.
     fn delete_oldest(&mut self, queue: LogQueue) -> Result<()>
         ensures ok { OnOk result (IsAsked (ask queue Delete) (asked self.old) (asked self.new)) }
         ensures err { OnErr result (MayBeAsked (ask queue Delete) (asked self.old) (asked self.new)) }
         ensures fault { IfErr result (may_fail (asked self.old) (ask queue Delete)) };
 
-    /// Cuts the queue's last file to `len` bytes, if it has more. After an `Err` it may be cut or
-    /// not.
+    /// Cuts the last file of `queue` to `len` bytes, if it has more.
+    ///
+    /// # Errors
+    ///
+    /// Those of the implementor. The file may be cut then, or not.
     fn truncate(&mut self, queue: LogQueue, len: u64) -> Result<()>
         ensures ok { OnOk result (IsAsked (ask queue (Cut len)) (asked self.old) (asked self.new)) }
         ensures err { OnErr result (MayBeAsked (ask queue (Cut len)) (asked self.old) (asked self.new)) }
         ensures fault { IfErr result (may_fail (asked self.old) (ask queue (Cut len))) };
 
-    /// Returns the bytes at a place. That these are the ones that were put there is no clause: what
-    /// was read is noted. An `Err` changes nothing; with which it fails is said of a read without bytes.
+    /// Returns the bytes at `place`. No clause says that they are those that were put there: what was read is
+    /// noted.
+    ///
+    /// # Errors
+    ///
+    /// Those of the implementor, as `may_fail` says them of a read without bytes. Nothing changes then.
     fn read(&mut self, place: FileBlockHandle) -> Result<Vec<u8>>
         ensures ok { IfOk result (λ bytes. IsAsked (ask place.id.queue (Read place bytes.items))
             (asked self.old) (asked self.new)) }

@@ -1,7 +1,8 @@
 //! Files that are found when the machine starts, and are read before they are noted.
 
-ghost use Rattle.std.specs.Prelude.{◌≡◌, List, []};
-ghost use Rattle.raft_files.specs.Asks.{NumberedBytes};
+ghost use Rattle.std.specs.Prelude.{◌≡◌, List, [], ◌∷◌};
+ghost use Rattle.raft_base.specs.declared.pipe_log.LogQueue.TheVariants.{Append, Rewrite};
+ghost use Rattle.raft_files.specs.Asks.{Found, NumberedBytes, ask};
 
 use crate::{Asked, EngineFiles};
 
@@ -13,8 +14,11 @@ pub trait Found {
 
 /// Files of which nothing is asked or noted before they were read.
 pub trait NotesFound: EngineFiles {
-    /// Notes the files that were found.
+    /// Takes `found`, which notes the files of both queues that were found and nothing else, as what was
+    /// asked so far. Nothing was asked before.
     fn note_found(&mut self, found: Asked)
-        requires { Self.asked self.old ≡ [] }
+        requires none { Self.asked self.old ≡ [] }
+        requires found { (append : List NumberedBytes) × (rewrite : List NumberedBytes)
+            × (found.asks ≡ ask Rewrite (Found rewrite) ∷ ask Append (Found append) ∷ []) }
         ensures { Self.asked self.new ≡ found.asks };
 }

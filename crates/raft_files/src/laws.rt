@@ -7,9 +7,10 @@ ghost use Rattle.raft_base.specs.declared.pipe_log.LogQueue.TheVariants.{Append,
 ghost use Rattle.raft_files.specs.Asks.{Act, Ask, Found, Put, Read, Sync, Unsynced, ask};
 ghost use Rattle.raft_files.specs.Disk.{IsLeftOf, NumberedBytes, files_of};
 
-/// States what may be left of files: what was asked, if nothing is lost; after a sync nothing else, and of found files
-/// nothing else than these; after bytes were put all that might be left before; after a read, or a sync that failed, that and
-/// nothing else. What is asked of one queue leaves the other as it is.
+/// States what a crash may leave of files. If nothing is lost, it leaves what was asked. After a sync it
+/// leaves nothing else, and of files that were found nothing else than these. After bytes were put it may
+/// leave everything that it might have left before. After a read, or a sync that failed, it may leave only
+/// what it might have left before. What is asked of one queue leaves the other as it is.
 pub fn files_that_are_left()
     ensures whole { (queue : LogQueue) (asked : List Ask) → IsLeftOf queue asked (files_of queue asked) }
     ensures synced { (queue : LogQueue) (asked : List Ask) (files : List NumberedBytes)

@@ -39,7 +39,7 @@ impl Model for MemoryFiles {
 }
 
 impl MemoryFiles {
-    /// Makes files of which nothing was asked: there are none.
+    /// Returns files of which nothing was asked: there are none.
     pub fn new(alloc: Global) -> MemoryFiles
         ensures { result ≡ [] }
     {
@@ -50,7 +50,8 @@ impl MemoryFiles {
         }
     }
 
-    /// Makes files that are found when the machine starts: those of each queue, oldest first.
+    /// Returns files that are found when the machine starts: `append` and `rewrite` have those of each queue,
+    /// oldest first, with their numbers and bytes.
     pub fn found(append: Vec<(FileSeq, Vec<u8>)>, rewrite: Vec<(FileSeq, Vec<u8>)>) -> MemoryFiles
         ensures { result ≡ ask Rewrite (Found (map file_shown rewrite.items))
             ∷ ask Append (Found (map file_shown append.items)) ∷ [] }
@@ -65,7 +66,7 @@ impl MemoryFiles {
         }
     }
 
-    /// Returns the files of a queue with their bytes, oldest first.
+    /// Returns the files of `queue` with their numbers and bytes, oldest first.
     pub fn files(&self, queue: LogQueue) -> &Vec<(FileSeq, Vec<u8>)>
         ensures { map file_shown result.now.items ≡ files_of queue self.now }
     {
@@ -75,11 +76,11 @@ impl MemoryFiles {
         }
     }
 
-    /// Returns copies of the files of a queue, oldest first.
+    /// Returns copies of the files of `queue`, oldest first.
     ///
     /// # Errors
     ///
-    /// `Memory`.
+    /// `Memory` alone.
     pub fn copies(&self, queue: LogQueue) -> Result<Vec<(FileSeq, Vec<u8>)>>
         ensures ok { IfOk result (λ copies. map file_shown copies.items ≡ files_of queue self.now) }
         ensures fault { IfErr result (λ e. e ≡ Error.Memory) }
@@ -93,11 +94,11 @@ impl EngineFiles for MemoryFiles {
 
     ghost may_fail = { IsMemoryFault };
 
-    /// Puts bytes behind those of the queue's last file.
+    /// Puts `bytes` behind those of the last file of `queue`.
     ///
     /// # Errors
     ///
-    /// `InvalidArgument` where the queue has no file, `Memory`. The files are then as they were.
+    /// `InvalidArgument` if the queue has no file; `Memory`. The files are unchanged then.
     fn append(&mut self, queue: LogQueue, bytes: &[u8]) -> Result<()>
         ensures ok { OnOk result (IsAsked (ask queue (Put bytes.now)) self.old self.new) }
         ensures accepted { OnOk result (0 < length (files_of queue self.old)) }
@@ -112,11 +113,12 @@ impl EngineFiles for MemoryFiles {
         Ok(())
     }
 
-    /// Begins a new file of the queue.
+    /// Begins a new file of `queue`, numbered `seq`.
     ///
     /// # Errors
     ///
-    /// `InvalidArgument` where its number isn't above that of the last file, `Memory`. The files are then as they were.
+    /// `InvalidArgument` if `seq` isn't above the number of the last file; `Memory`. The files are unchanged
+    /// then.
     fn rotate(&mut self, queue: LogQueue, seq: FileSeq) -> Result<()>
         ensures ok { OnOk result (IsAsked (ask queue (Begin seq)) self.old self.new) }
         ensures accepted { OnOk result (IsNext seq (files_of queue self.old)) }
@@ -131,7 +133,7 @@ impl EngineFiles for MemoryFiles {
         Ok(())
     }
 
-    /// Succeeds, and changes no file.
+    /// Notes a sync of `queue`, and returns `Ok`: what is in memory counts as synced.
     fn sync(&mut self, queue: LogQueue) -> Result<()>
         ensures ok { IsAsked (ask queue Sync) self.old self.new }
         ensures succeeds { IsOk result }
@@ -140,11 +142,12 @@ impl EngineFiles for MemoryFiles {
         Ok(())
     }
 
-    /// Deletes the queue's oldest file.
+    /// Deletes the oldest file of `queue`.
     ///
     /// # Errors
     ///
-    /// `InvalidArgument` where the queue has one file or none. The files are then as they were.
+    /// `InvalidArgument` if the queue has fewer than two files, or `Memory` if there is none for its text.
+    /// The files are unchanged then.
     fn delete_oldest(&mut self, queue: LogQueue) -> Result<()>
         ensures ok { OnOk result (IsAsked (ask queue Delete) self.old self.new) }
         ensures accepted { OnOk result (1 < length (files_of queue self.old)) }
@@ -159,11 +162,12 @@ impl EngineFiles for MemoryFiles {
         Ok(())
     }
 
-    /// Cuts the queue's last file to `len` bytes, if it has more.
+    /// Cuts the last file of `queue` to `len` bytes, if it has more.
     ///
     /// # Errors
     ///
-    /// `InvalidArgument` where the queue has no file.
+    /// `InvalidArgument` if the queue has no file, or `Memory` if there is none for its text. The files are
+    /// unchanged then.
     fn truncate(&mut self, queue: LogQueue, len: u64) -> Result<()>
         ensures ok { OnOk result (IsAsked (ask queue (Cut len)) self.old self.new) }
         ensures accepted { OnOk result (0 < length (files_of queue self.old)) }
@@ -178,11 +182,11 @@ impl EngineFiles for MemoryFiles {
         Ok(())
     }
 
-    /// Returns the bytes at a place.
+    /// Returns the bytes at `place`.
     ///
     /// # Errors
     ///
-    /// `InvalidArgument` where no file has the place, `Memory`.
+    /// `InvalidArgument` if no file has this place; `Memory`. Nothing changes then.
     fn read(&mut self, place: FileBlockHandle) -> Result<Vec<u8>>
         ensures ok { IfOk result (λ bytes. IsAsked (ask place.id.queue (Read place bytes.items)) self.old self.new) }
         ensures there { IfOk result (λ bytes. IsAt self.old place bytes.items) }
@@ -197,11 +201,11 @@ impl EngineFiles for MemoryFiles {
     }
 }
 
-/// Returns copies of files.
+/// Returns copies of `files`, in the same order.
 ///
 /// # Errors
 ///
-/// `Memory`.
+/// `Memory` alone.
 fn copies_of(files: &Vec<(FileSeq, Vec<u8>)>) -> Result<Vec<(FileSeq, Vec<u8>)>>
     ensures ok { IfOk result (λ copies. map file_shown copies.items ≡ map file_shown files.now.items) }
     ensures fault { IfErr result (λ e. e ≡ Error.Memory) }
@@ -214,11 +218,11 @@ fn copies_of(files: &Vec<(FileSeq, Vec<u8>)>) -> Result<Vec<(FileSeq, Vec<u8>)>>
     Ok(copies)
 }
 
-/// Puts bytes behind those of the last file.
+/// Puts `bytes` behind those of the last file.
 ///
 /// # Errors
 ///
-/// `InvalidArgument` where there is no file, `Memory`. The files are then as they were.
+/// `InvalidArgument` if there is no file; `Memory`. The files are unchanged then.
 fn put(files: &mut Vec<(FileSeq, Vec<u8>)>, bytes: &[u8]) -> Result<()>
     ensures ok { OnOk result (map file_shown files.new.items
         ≡ put_behind bytes.now (map file_shown files.old.items)) }
@@ -234,11 +238,12 @@ fn put(files: &mut Vec<(FileSeq, Vec<u8>)>, bytes: &[u8]) -> Result<()>
     Ok(())
 }
 
-/// Begins a new file.
+/// Begins a file numbered `seq`, without bytes.
 ///
 /// # Errors
 ///
-/// `InvalidArgument` where its number isn't above that of the last file, `Memory`. The files are then as they were.
+/// `InvalidArgument` if `seq` isn't above the number of the last file; `Memory`. The files are unchanged
+/// then.
 fn begin(files: &mut Vec<(FileSeq, Vec<u8>)>, seq: FileSeq) -> Result<()>
     ensures ok { OnOk result (map file_shown files.new.items
         ≡ map file_shown files.old.items ++ (seq, []) ∷ []) }
@@ -256,11 +261,12 @@ fn begin(files: &mut Vec<(FileSeq, Vec<u8>)>, seq: FileSeq) -> Result<()>
     Ok(())
 }
 
-/// Deletes the first of two files or more.
+/// Removes the first of `files`, of which there are two or more.
 ///
 /// # Errors
 ///
-/// `InvalidArgument` where there are fewer. The files are then as they were.
+/// `InvalidArgument` if there are fewer, or `Memory` if there is none for its text. The files are unchanged
+/// then.
 fn delete_first(files: &mut Vec<(FileSeq, Vec<u8>)>) -> Result<()>
     ensures ok { OnOk result (map file_shown files.new.items
         ≡ drop 1 (map file_shown files.old.items)) }
@@ -276,11 +282,12 @@ fn delete_first(files: &mut Vec<(FileSeq, Vec<u8>)>) -> Result<()>
     Ok(())
 }
 
-/// Cuts the last file to `len` bytes.
+/// Cuts the last file to `len` bytes, if it has more.
 ///
 /// # Errors
 ///
-/// `InvalidArgument` where there is no file.
+/// `InvalidArgument` if there is no file, or `Memory` if there is none for its text. The files are unchanged
+/// then.
 fn cut(files: &mut Vec<(FileSeq, Vec<u8>)>, len: u64) -> Result<()>
     ensures ok { OnOk result (map file_shown files.new.items
         ≡ cut_last len (map file_shown files.old.items)) }
@@ -296,11 +303,11 @@ fn cut(files: &mut Vec<(FileSeq, Vec<u8>)>, len: u64) -> Result<()>
     Ok(())
 }
 
-/// Returns the bytes at a place of files, of which those with another number aren't looked at.
+/// Returns the bytes at `place`, in the first of `files` with the number of its file.
 ///
 /// # Errors
 ///
-/// `InvalidArgument` where no file has the place, `Memory`.
+/// `InvalidArgument` if that file doesn't have the place, or there is none; `Memory`.
 fn read_of(files: &Vec<(FileSeq, Vec<u8>)>, place: FileBlockHandle) -> Result<Vec<u8>>
     ensures ok { IfOk result (λ bytes.
         bytes_at (map file_shown files.now.items) place.id.seq place.offset place.len ≡ Some bytes.items) }
@@ -316,11 +323,11 @@ fn read_of(files: &Vec<(FileSeq, Vec<u8>)>, place: FileBlockHandle) -> Result<Ve
     Err(Error::invalid_argument(alloc, "no file has this place"))
 }
 
-/// Returns `len` bytes from an offset on.
+/// Returns `len` of `bytes`, from `offset` on.
 ///
 /// # Errors
 ///
-/// `InvalidArgument` where there are fewer, `Memory`.
+/// `InvalidArgument` if there are fewer; `Memory`.
 fn stretch(bytes: &Vec<u8>, offset: u64, len: usize) -> Result<Vec<u8>>
     ensures ok { IfOk result (λ found. stretch_of bytes.now.items offset len ≡ Some found.items) }
     ensures refused { IfErr result (λ e. e ≢ Error.Memory → stretch_of bytes.now.items offset len ≡ None) }

@@ -7,15 +7,16 @@ use raft_base::FileId;
 use std::io::Write;
 use std::{fs, io};
 
-/// How many tails are kept of one place of a file at most.
+/// The most tails that are kept of one offset in one file.
 const MOST_KEPT: u64 = 1 << 32;
 
-/// Keeps bytes that are about to be cut off a log file at an offset in a file of their own, which is on the disk then, but for
-/// its name, and returns its path.
+/// Writes `bytes`, which are about to be cut off the log file `id` at `offset`, to a file of their own, and
+/// syncs it, but not its name. Returns its path.
 ///
 /// # Errors
 ///
-/// `System`, and the file isn't there then; `Memory`.
+/// `System`, and the file has been removed then, unless that failed too; `Refused` if too much was cut off at
+/// this offset already; `Memory`.
 pub(crate) fn keep<R: FolderHost>(
     rt: &R,
     folder: &str,
@@ -33,8 +34,12 @@ pub(crate) fn keep<R: FolderHost>(
     }
 }
 
-/// Returns the path for bytes that are cut off at an offset: the first one where there is no file, or one with a prefix of
-/// them, which an earlier opening left that ended before it had cut them. Others that were cut there stay.
+/// Returns the path for bytes that are cut off at `offset`: the first one that [`is_free`] for them. So an
+/// opening that ended before it had cut them leaves no second copy, and other bytes that were cut there stay.
+///
+/// # Errors
+///
+/// `Refused` if none of `MOST_KEPT` paths is free; `System`; `Memory`.
 fn path_for<R: FolderHost>(
     rt: &R,
     folder: &str,
@@ -54,11 +59,11 @@ fn path_for<R: FolderHost>(
     Err(FolderError::Refused(folder, "too much was cut off one place of a file"))
 }
 
-/// Tests whether no file is at a path, or one with a prefix of the bytes.
+/// Tests whether `bytes` may be written to `path`: no file is there, or one with a prefix of them.
 ///
 /// # Errors
 ///
-/// `System` where the file can't be read, `Memory`.
+/// `System` if the file can't be read; `Memory`.
 fn is_free<R: FolderHost>(rt: &R, path: &str, bytes: &[u8]) -> FolderResult<bool> {
     match fs::exists(rt, path) {
         Ok(false) => return Ok(true),
@@ -71,11 +76,11 @@ fn is_free<R: FolderHost>(rt: &R, path: &str, bytes: &[u8]) -> FolderResult<bool
     }
 }
 
-/// Writes a file and syncs it, but not its name.
+/// Writes a file with `bytes` and syncs it, but not its name. A file that is there is written anew.
 ///
 /// # Errors
 ///
-/// Those of the system. Some of the file may be there then.
+/// Those of the system. A part of the file may be there then.
 fn write<R: FolderHost>(rt: &R, path: &str, bytes: &[u8]) -> io::Result<()> {
     let mut file = fs::create(rt, path)?;
     file.write_all(bytes)?;

@@ -32,7 +32,8 @@ pub enum FolderError {
 pub type FolderResult<T> = std::result::Result<T, FolderError>;
 
 impl FolderError {
-    /// Returns the refusal of a request about the file or folder at a path.
+    /// Returns `System`, for a request about the file or folder at `path` that the system refused, or
+    /// `Memory` if there is none for the path.
     pub(crate) fn system(alloc: Global, path: &str, error: io::Error) -> FolderError {
         match String::from_str(alloc, path) {
             Ok(path) => FolderError::System(path, error),
@@ -42,12 +43,14 @@ impl FolderError {
 }
 
 impl From<AllocError> for FolderError {
+    /// Returns `Memory`, so that `?` passes on want of memory.
     fn from(_: AllocError) -> FolderError {
         FolderError::Memory
     }
 }
 
 impl<T: Drop> From<AllocFailed<T>> for FolderError {
+    /// Returns `Memory`. What couldn't be stored is dropped.
     fn from(_: AllocFailed<T>) -> FolderError {
         FolderError::Memory
     }
@@ -55,6 +58,10 @@ impl<T: Drop> From<AllocFailed<T>> for FolderError {
 
 /// Makes of a refusal that of a call on an engine, which has no room for the path where the system refused a request.
 impl From<FolderError> for Error {
+    /// Returns `Io` with the system's own error, without the path; `TryAgain` with the path if another engine
+    /// has the folder open; `InvalidArgument` with the path and the reason for a wrong name, a file of
+    /// raft-engine, and a request that can't be met; `Memory` for want of memory, also for one of these
+    /// texts.
     fn from(error: FolderError) -> Error {
         match error {
             FolderError::System(_, error) => Error::Io(error),
@@ -70,7 +77,7 @@ impl From<FolderError> for Error {
     }
 }
 
-/// Returns the refusal of what is asked of the file or folder at a path.
+/// Returns `InvalidArgument` with `path: why`, or `Memory` if there is none for the text.
 fn refused(path: String, why: &str) -> Error {
     match told(path, why) {
         Ok(text) => Error::InvalidArgument(text),
@@ -78,11 +85,11 @@ fn refused(path: String, why: &str) -> Error {
     }
 }
 
-/// Returns a path with the reason behind it, as `logs: another engine has the folder open`.
+/// Returns `path: why`, as `logs: another engine has the folder open`.
 ///
 /// # Errors
 ///
-/// Where there is no memory for it.
+/// `AllocError` if there is no memory for it.
 fn told(path: String, why: &str) -> AllocResult<String> {
     let mut text = path;
     text.push_str(": ")?;

@@ -41,12 +41,12 @@ pub(crate) struct Folder<'a, R: FolderHost> {
 }
 
 impl<'a, R: FolderHost> Folder<'a, R> {
-    /// Opens a folder with all log files in it, for one who changes them. A folder that isn't there yet is made. Its name, and
-    /// those of the files, are on the disk then.
+    /// Opens the folder at `path` with all log files in it, to change them, and locks it. A folder that isn't
+    /// there is made. Its name, and those of the files, are on the disk then.
     ///
     /// # Errors
     ///
-    /// `Locked` where another engine has the folder open, `Misnamed`, `System`, `Memory`.
+    /// `Locked` if another engine has the folder open; `Misnamed`; `System`; `Memory`.
     pub(crate) fn open(rt: &'a R, path: &'a str) -> FolderResult<Folder<'a, R>> {
         if !is_there(rt, path)? {
             about_path(rt, path, fs::create_dir(rt, path))?;
@@ -60,11 +60,12 @@ impl<'a, R: FolderHost> Folder<'a, R> {
         Ok(folder)
     }
 
-    /// Opens a folder with all log files in it, for one who reads them.
+    /// Opens the folder at `path` with all log files in it, to read them, and locks it with a shared lock.
     ///
     /// # Errors
     ///
-    /// `Locked` where an engine has the folder open that writes, `Misnamed`, `System`, `Memory`.
+    /// `Locked` if an engine that writes has the folder open; `Misnamed`; `System`, also if there is no
+    /// folder; `Memory`.
     pub(crate) fn open_to_read(rt: &'a R, path: &'a str) -> FolderResult<Folder<'a, R>> {
         let locked = LockedFolder::shared(rt, path)?;
         let mut how = OpenOptions::new();
@@ -74,7 +75,7 @@ impl<'a, R: FolderHost> Folder<'a, R> {
         Ok(folder)
     }
 
-    /// Makes a locked folder of which no file is open yet.
+    /// Returns the folder at `path`, which is `locked`, and of which no file is open yet.
     fn of(rt: &'a R, path: &'a str, locked: LockedFolder) -> Folder<'a, R> {
         let alloc = rt.alloc();
         Folder {
@@ -87,12 +88,12 @@ impl<'a, R: FolderHost> Folder<'a, R> {
         }
     }
 
-    /// Opens all log files in the folder. Other names are left alone.
+    /// Opens all log files in the folder, as `how` says. Other names are left alone.
     ///
     /// # Errors
     ///
-    /// `Misnamed` for a name that ends like that of a log file and is none; `System`, `Memory`.
-    /// Some files are then open.
+    /// `Misnamed` for a name that ends like that of a log file and is none; `System`; `Memory`. Some of the
+    /// files are open then.
     fn open_files(&mut self, how: &OpenOptions) -> FolderResult<()> {
         for entry in about_path(self.rt, self.path, fs::read_dir(self.rt, self.path))? {
             let entry = about_path(self.rt, self.path, entry)?;
@@ -101,11 +102,11 @@ impl<'a, R: FolderHost> Folder<'a, R> {
         Ok(())
     }
 
-    /// Opens the log file that has this name, if one has.
+    /// Opens the log file with this name, if the name is that of one.
     ///
     /// # Errors
     ///
-    /// `Misnamed` for a name that ends like that of a log file and is none; `System`, `Memory`.
+    /// `Misnamed` for a name that ends like that of a log file and is none; `System`; `Memory`.
     fn open_named(&mut self, how: &OpenOptions, name: &str) -> FolderResult<()> {
         let alloc = self.rt.alloc();
         let folder = self.path;
@@ -121,7 +122,7 @@ impl<'a, R: FolderHost> Folder<'a, R> {
         }
     }
 
-    /// Syncs the names in the folder, and its own in the folder above.
+    /// Syncs the names in the folder, and its own name in the folder above.
     ///
     /// # Errors
     ///
@@ -132,7 +133,7 @@ impl<'a, R: FolderHost> Folder<'a, R> {
         fs::open(self.rt, parent.as_str())?.sync_all()
     }
 
-    /// Returns the open files of a queue by their numbers.
+    /// Returns the open files of `queue`, by their numbers.
     pub(crate) fn files(&self, queue: LogQueue) -> &OpenFiles {
         match queue {
             LogQueue::Append => &self.append,
@@ -140,7 +141,7 @@ impl<'a, R: FolderHost> Folder<'a, R> {
         }
     }
 
-    /// Returns the files of a queue, to be changed.
+    /// Returns the open files of `queue`, to be changed.
     fn files_mut(&mut self, queue: LogQueue) -> &mut OpenFiles {
         match queue {
             LogQueue::Append => &mut self.append,
@@ -148,11 +149,11 @@ impl<'a, R: FolderHost> Folder<'a, R> {
         }
     }
 
-    /// Returns the number and the length of each file of a queue, oldest first.
+    /// Returns the number and the length in bytes of each file of `queue`, oldest first.
     ///
     /// # Errors
     ///
-    /// `System`, `Memory`.
+    /// `System`; `Memory`.
     pub(crate) fn list(&self, queue: LogQueue) -> FolderResult<Vec<FolderFile>> {
         let mut files = Vec::new(self.rt.alloc());
         for (seq, file) in self.files(queue) {
@@ -162,11 +163,11 @@ impl<'a, R: FolderHost> Folder<'a, R> {
         Ok(files)
     }
 
-    /// Returns the number and the path of each file of a queue, oldest first.
+    /// Returns the number and the path of each file of `queue`, oldest first.
     ///
     /// # Errors
     ///
-    /// `Memory`.
+    /// `Memory` alone.
     pub(crate) fn paths(&self, queue: LogQueue) -> FolderResult<Vec<(FileSeq, String)>> {
         let mut paths = Vec::new(self.rt.alloc());
         for seq in self.files(queue).keys() {
@@ -175,11 +176,11 @@ impl<'a, R: FolderHost> Folder<'a, R> {
         Ok(paths)
     }
 
-    /// Syncs the files of a queue, one after another.
+    /// Syncs the files of `queue`, one after another.
     ///
     /// # Errors
     ///
-    /// `System`, `Memory`. Some files may then not be synced.
+    /// `System`; `Memory`. Some of the files may not be synced then.
     pub(crate) fn sync_all(&self, queue: LogQueue) -> FolderResult<()> {
         for (seq, file) in self.files(queue) {
             self.about_file(FileId::new(queue, *seq), file.sync_all())?;
@@ -187,12 +188,12 @@ impl<'a, R: FolderHost> Folder<'a, R> {
         Ok(())
     }
 
-    /// Refuses files of a queue that begin with a header of their own, of which the first bytes are read: no batch can be read in
-    /// them, so that they would be taken for torn, and cut.
+    /// Checks that no file of `queue` begins with raft-engine's header, by reading its first bytes. No batch
+    /// can be read in such a file, so all of it would be taken for a torn tail, and cut.
     ///
     /// # Errors
     ///
-    /// `Foreign` for such a file, `System`, `Memory`.
+    /// `Foreign` for such a file; `System`; `Memory`.
     pub(crate) fn check_headers(&self, queue: LogQueue) -> FolderResult<()> {
         for (seq, file) in self.files(queue) {
             let id = FileId::new(queue, *seq);
@@ -205,13 +206,12 @@ impl<'a, R: FolderHost> Folder<'a, R> {
         Ok(())
     }
 
-    /// Returns the files of a queue with their bytes, oldest first. Refuses files that begin with a
-    /// header of their own: no batch can be read in them, so that they would be taken for torn, and
-    /// cut.
+    /// Returns the number and all bytes of each file of `queue`, oldest first, if none begins with
+    /// raft-engine's header (see [`check_headers`](Folder::check_headers)).
     ///
     /// # Errors
     ///
-    /// `Foreign` for such a file, `System`, `Memory`.
+    /// `Foreign` for such a file; `System`; `Memory`.
     pub(crate) fn bytes_of_files(&self, queue: LogQueue) -> FolderResult<Vec<(FileSeq, Vec<u8>)>> {
         let mut files = Vec::new(self.rt.alloc());
         for (seq, file) in self.files(queue) {
@@ -226,17 +226,22 @@ impl<'a, R: FolderHost> Folder<'a, R> {
         Ok(files)
     }
 
-    /// Writes bytes behind those of a queue's last file. After an `Err` some of them may be there.
+    /// Writes `bytes` behind those of the last file of `queue`.
+    ///
+    /// # Errors
+    ///
+    /// `Refused` if the queue has no file; `System`; `Memory`. Some of the bytes may be there then: for want
+    /// of room they are taken off again, but that may fail too.
     pub(crate) fn append(&self, queue: LogQueue, bytes: &[u8]) -> FolderResult<()> {
         let (id, file) = self.last(queue)?;
         self.about_file(id, write_all_or_nothing(file, bytes))
     }
 
-    /// Syncs a queue's last file. The older ones were synced when they were closed.
+    /// Syncs the last file of `queue`, if it has one. The older ones were synced when a newer one was begun.
     ///
     /// # Errors
     ///
-    /// `System`, `Memory`.
+    /// `System`; `Memory`.
     pub(crate) fn sync(&self, queue: LogQueue) -> FolderResult<()> {
         match self.files(queue).last_key_value() {
             Some((seq, file)) => self.about_file(FileId::new(queue, *seq), file.sync_all()),
@@ -244,12 +249,13 @@ impl<'a, R: FolderHost> Folder<'a, R> {
         }
     }
 
-    /// Makes a file that isn't there yet, behind the queue's last one. Its name is on the disk
+    /// Makes the file `id`, whose number is above that of the queue's last one. Its name is on the disk
     /// then.
     ///
     /// # Errors
     ///
-    /// `System`, also where it is there; `Refused`, `Memory`. The file may be there then.
+    /// `Refused` if its number isn't above: nothing has changed then. `System`, also if there is a file of
+    /// that name; `Memory`. The file may be on the disk then, but isn't listed.
     pub(crate) fn create(&mut self, id: FileId) -> FolderResult<()> {
         if let Some((last, _)) = self.files(id.queue).last_key_value() {
             if id.seq <= *last {
@@ -265,11 +271,12 @@ impl<'a, R: FolderHost> Folder<'a, R> {
         Ok(())
     }
 
-    /// Deletes a queue's oldest file, but not its last one. Its name is gone from the disk then.
+    /// Deletes the oldest file of `queue`, but not its last one. Its name is gone from the disk then.
     ///
     /// # Errors
     ///
-    /// `Refused` where there is no older one, `System`, `Memory`. The file may be gone then.
+    /// `Refused` if the queue has fewer than two files: nothing has changed then. `System`; `Memory`. The
+    /// file isn't listed any more then, though it may still be on the disk.
     pub(crate) fn delete_oldest(&mut self, queue: LogQueue) -> FolderResult<()> {
         if self.files(queue).len() < 2 {
             return Err(self.refusal("a queue keeps its last file"));
@@ -283,8 +290,12 @@ impl<'a, R: FolderHost> Folder<'a, R> {
         Ok(())
     }
 
-    /// Cuts a queue's last file to `len` bytes, if it has more. What is cut off is gone from the disk then, but for a file beside,
-    /// which keeps it. After an `Err` nothing is cut that isn't kept.
+    /// Cuts the last file of `queue` to `len` bytes, if it has more. What is cut off is first written to a
+    /// file beside it, which keeps it; both are on the disk then.
+    ///
+    /// # Errors
+    ///
+    /// `Refused`; `System`; `Memory`. Nothing has been cut then that isn't kept.
     pub(crate) fn truncate(&mut self, queue: LogQueue, len: u64) -> FolderResult<()> {
         let (id, file) = self.last(queue)?;
         let old = self.len_of(id, file)?;
@@ -301,16 +312,16 @@ impl<'a, R: FolderHost> Folder<'a, R> {
         Ok(())
     }
 
-    /// Returns what was cut off.
+    /// Returns what was cut off the files, in order.
     pub(crate) fn kept(&self) -> &[KeptTail] {
         &self.kept
     }
 
-    /// Returns the bytes at a place.
+    /// Returns the bytes at `place`.
     ///
     /// # Errors
     ///
-    /// `Refused` where the file isn't there, `System` where it ends before, `Memory`.
+    /// `Refused` if the file isn't there; `System`, also if the file ends before the place does; `Memory`.
     pub(crate) fn read(&self, place: FileBlockHandle) -> FolderResult<Vec<u8>> {
         match self.files(place.id.queue).get(&place.id.seq) {
             Some(file) => self.about_file(place.id, self.bytes_at(file, place.offset, place.len)),
@@ -318,22 +329,22 @@ impl<'a, R: FolderHost> Folder<'a, R> {
         }
     }
 
-    /// Returns `len` bytes of a file from an offset on.
+    /// Returns `len` bytes of `file` from `offset` on.
     ///
     /// # Errors
     ///
-    /// Those of the system, where the file ends before too, and want of memory.
+    /// Those of the system, also if the file ends before, and want of memory.
     fn bytes_at(&self, file: &File, offset: u64, len: usize) -> io::Result<Vec<u8>> {
         let mut bytes = vec![in self.rt.alloc(); 0; len]?;
         file.read_exact_at(&mut bytes, offset)?;
         Ok(bytes)
     }
 
-    /// Returns how many bytes a file has.
+    /// Returns the length of `file` in bytes. `id` names it if that fails.
     ///
     /// # Errors
     ///
-    /// `System`, `Memory`.
+    /// `System`; `Memory`.
     pub(crate) fn len_of(&self, id: FileId, file: &File) -> FolderResult<u64> {
         match file.metadata() {
             Ok(metadata) => Ok(metadata.len()),
@@ -341,11 +352,11 @@ impl<'a, R: FolderHost> Folder<'a, R> {
         }
     }
 
-    /// Returns a queue's last file.
+    /// Returns the last file of `queue`.
     ///
     /// # Errors
     ///
-    /// `Refused` where the queue has none, `Memory`.
+    /// `Refused` if the queue has none; `Memory`.
     fn last(&self, queue: LogQueue) -> FolderResult<(FileId, &File)> {
         match self.files(queue).last_key_value() {
             Some((seq, file)) => Ok((FileId::new(queue, *seq), file)),
@@ -353,17 +364,21 @@ impl<'a, R: FolderHost> Folder<'a, R> {
         }
     }
 
-    /// Returns the path of a log file, whether it is there or not.
+    /// Returns the path of the log file `id`, whether it is there or not.
     ///
     /// # Errors
     ///
-    /// `Memory`.
+    /// `Memory` alone.
     pub(crate) fn path_of(&self, id: FileId) -> FolderResult<String> {
         let name = name_of(self.rt.alloc(), id)?;
         Ok(format!(in self.rt.alloc(); "{}/{name}", self.path)?)
     }
 
-    /// Names the file that a request was about where the system refused it.
+    /// Adds the path of the file `id` to a refusal of the system, or returns what the system answered.
+    ///
+    /// # Errors
+    ///
+    /// `System` for such a refusal; `Memory` if there is none for the path.
     fn about_file<T>(&self, id: FileId, answer: io::Result<T>) -> FolderResult<T> {
         match answer {
             Ok(value) => Ok(value),
@@ -371,7 +386,8 @@ impl<'a, R: FolderHost> Folder<'a, R> {
         }
     }
 
-    /// Makes the refusal of what is asked of this folder; `Memory` where its path finds none.
+    /// Returns `Refused` with the folder's path and the reason `why`, or `Memory` if there is none for the
+    /// path.
     fn refusal(&self, why: &'static str) -> FolderError {
         match String::from_str(self.rt.alloc(), self.path) {
             Ok(path) => FolderError::Refused(path, why),
@@ -380,16 +396,20 @@ impl<'a, R: FolderHost> Folder<'a, R> {
     }
 }
 
-/// Tests whether there is something at a path.
+/// Tests whether there is something at `path`.
 ///
 /// # Errors
 ///
-/// `System`, `Memory`.
+/// `System`; `Memory`.
 fn is_there<R: FolderHost>(rt: &R, path: &str) -> FolderResult<bool> {
     about_path(rt, path, fs::exists(rt, path))
 }
 
-/// Names the path that a request was about where the system refused it.
+/// Adds `path` to a refusal of the system, or returns what the system answered.
+///
+/// # Errors
+///
+/// `System` for such a refusal; `Memory` if there is none for the path.
 fn about_path<R: FolderHost, T>(rt: &R, path: &str, answer: io::Result<T>) -> FolderResult<T> {
     match answer {
         Ok(value) => Ok(value),

@@ -38,13 +38,14 @@ pub struct FoundFolder<'a, R: FolderHost> {
 }
 
 impl<'a, R: FolderHost> FolderFiles<'a, R> {
-    /// Opens a folder with all log files in it, whose bytes, and whose names with that of the folder, are on the disk then. One
-    /// that isn't there yet is made, in a folder that is. Hand what is found to `Engine::open`.
+    /// Opens the folder at `path` with all log files in it, and locks it. Their bytes and their names, and
+    /// the name of the folder, are on the disk then. A folder that isn't there is made, in one that is. Hand
+    /// what is found to `Engine::open`.
     ///
     /// # Errors
     ///
-    /// `Locked` where another engine has the folder open; `Misnamed` where a name ends like that of a log file and is none;
-    /// `Foreign` where a file is one of raft-engine, which begins with a header; `System`, `Memory`.
+    /// `Locked` if another engine has the folder open; `Misnamed` if a name ends like that of a log file and
+    /// is none; `Foreign` if a file is one of raft-engine, which begins with a header; `System`; `Memory`.
     pub fn open(rt: &'a R, path: &'a str) -> FolderResult<FoundFolder<'a, R>>
         ensures { IfOk result (λ found. found.files.asked.asks
             ≡ ask Rewrite (Found (map file_shown found.rewrite.items))
@@ -68,8 +69,8 @@ impl<'a, R: FolderHost> FolderFiles<'a, R> {
         })
     }
 
-    /// Opens a folder as [`FolderFiles::open`] does, but reads no more of its files than how they begin, and notes none as found:
-    /// for `open_in_pieces` of `raft_opening`, which reads them.
+    /// Opens the folder at `path` as [`FolderFiles::open`] does, but reads no more of its files than how they
+    /// begin, and notes none as found: for `open_in_pieces` of `raft_opening`, which reads them.
     ///
     /// # Errors
     ///
@@ -87,39 +88,43 @@ impl<'a, R: FolderHost> FolderFiles<'a, R> {
         })
     }
 
-    /// Returns the files of a queue, oldest first.
+    /// Returns the number and the length in bytes of each file of `queue`, oldest first.
     ///
     /// # Errors
     ///
-    /// `System`, `Memory`.
+    /// `System`; `Memory`.
     pub fn list(&self, queue: LogQueue) -> FolderResult<Vec<FolderFile>> {
         self.folder.list(queue)
     }
 
-    /// Returns the number and the path of each file of a queue, oldest first.
+    /// Returns the number and the path of each file of `queue`, oldest first.
     ///
     /// # Errors
     ///
-    /// `Memory`.
+    /// `Memory` alone.
     pub fn paths(&self, queue: LogQueue) -> FolderResult<Vec<(FileSeq, String)>> {
         self.folder.paths(queue)
     }
 
-    /// Returns the path of a log file, whether it is there or not.
+    /// Returns the path of the log file `id`, whether it is there or not.
     ///
     /// # Errors
     ///
-    /// `Memory`.
+    /// `Memory` alone.
     pub fn path_of(&self, id: FileId) -> FolderResult<String> {
         self.folder.path_of(id)
     }
 
-    /// Returns what was cut off the files.
+    /// Returns what was cut off the files since the folder was opened, in order.
     pub fn kept(&self) -> &[KeptTail] {
         self.folder.kept()
     }
 
-    /// Begins a call, which has failed until it ends.
+    /// Begins a call: it counts as failed until it ends well.
+    ///
+    /// # Errors
+    ///
+    /// `Failed` if an earlier call failed. Nothing changes then.
     fn begin(&mut self) -> Result<()>
         ensures { self.new.asked ≡ self.old.asked }
     {
@@ -134,6 +139,11 @@ impl<'a, R: FolderHost> FolderFiles<'a, R> {
 impl<R: FolderHost> EngineFiles for FolderFiles<'_, R> {
     ghost asked = { λ files. files.asked.asks };
 
+    /// Writes `bytes` behind those of the last file of `queue`, which isn't synced.
+    ///
+    /// # Errors
+    ///
+    /// Those of writing, and `Failed` after an earlier error. Every later call fails then.
     fn append(&mut self, queue: LogQueue, bytes: &[u8]) -> Result<()> {
         self.begin()?;
         self.asked.put(queue, bytes);
@@ -142,6 +152,12 @@ impl<R: FolderHost> EngineFiles for FolderFiles<'_, R> {
         Ok(())
     }
 
+    /// Syncs the last file of `queue`, and makes one numbered `seq` behind it. Its name is on the disk then.
+    ///
+    /// # Errors
+    ///
+    /// Those of the sync and of making the file, and `Failed` after an earlier error. Every later call fails
+    /// then.
     fn rotate(&mut self, queue: LogQueue, seq: FileSeq) -> Result<()> {
         self.begin()?;
         self.folder.sync(queue)?;
@@ -151,6 +167,12 @@ impl<R: FolderHost> EngineFiles for FolderFiles<'_, R> {
         Ok(())
     }
 
+    /// Syncs the last file of `queue`. Names need no sync: they are synced when a file is made or deleted.
+    ///
+    /// # Errors
+    ///
+    /// Those of the sync, which is noted as failed, and `Failed` after an earlier error. Every later call
+    /// fails then.
     fn sync(&mut self, queue: LogQueue) -> Result<()> {
         self.begin()?;
         let synced = self.folder.sync(queue);
@@ -163,6 +185,12 @@ impl<R: FolderHost> EngineFiles for FolderFiles<'_, R> {
         Ok(())
     }
 
+    /// Deletes the oldest file of `queue`. Its name is gone from the disk then.
+    ///
+    /// # Errors
+    ///
+    /// Those of deleting it, and `Failed` after an earlier error. The file may be gone then, or not, and
+    /// every later call fails.
     fn delete_oldest(&mut self, queue: LogQueue) -> Result<()> {
         self.begin()?;
         self.asked.delete(queue);
@@ -171,6 +199,12 @@ impl<R: FolderHost> EngineFiles for FolderFiles<'_, R> {
         Ok(())
     }
 
+    /// Cuts the last file of `queue` to `len` bytes, if it has more, and keeps what is cut off in a file
+    /// beside it.
+    ///
+    /// # Errors
+    ///
+    /// Those of keeping and cutting it, and `Failed` after an earlier error. Every later call fails then.
     fn truncate(&mut self, queue: LogQueue, len: u64) -> Result<()> {
         self.begin()?;
         self.asked.cut(queue, len);
@@ -179,6 +213,12 @@ impl<R: FolderHost> EngineFiles for FolderFiles<'_, R> {
         Ok(())
     }
 
+    /// Returns the bytes at `place`.
+    ///
+    /// # Errors
+    ///
+    /// Those of reading, after which later calls still serve, and `Failed` after an earlier error of another
+    /// call.
     fn read(&mut self, place: FileBlockHandle) -> Result<Vec<u8>> {
         if self.has_failed {
             return Err(Error::Failed);
@@ -190,16 +230,18 @@ impl<R: FolderHost> EngineFiles for FolderFiles<'_, R> {
 }
 
 impl<R: FolderHost> NotesFound for FolderFiles<'_, R> {
+    /// Takes `found` as what was asked so far.
     fn note_found(&mut self, found: Asked) {
         self.asked = found;
     }
 }
 
-/// Opens a folder with all log files in it, whose bytes, and whose names with that of the folder, are on the disk then.
+/// Opens the folder at `path` with all log files in it, and syncs them. Their bytes and their names, and the
+/// name of the folder, are on the disk then.
 ///
 /// # Errors
 ///
-/// Those of `Folder::open`, and of the syncs.
+/// Those of [`Folder::open`], and of the syncs.
 fn open_synced<'a, R: FolderHost>(rt: &'a R, path: &'a str) -> FolderResult<Folder<'a, R>> {
     let folder = Folder::open(rt, path)?;
     folder.sync_all(LogQueue::Append)?;

@@ -19,11 +19,12 @@ pub(crate) struct LockedFolder {
 }
 
 impl LockedFolder {
-    /// Locks a folder for one who changes it.
+    /// Locks the folder at `path`, and the file `LOCK` in it, which is made if it isn't there, for one who
+    /// changes the folder.
     ///
     /// # Errors
     ///
-    /// `Locked`, `System`, `Memory`.
+    /// `Locked` if either lock is held by another; `System`; `Memory`.
     pub(crate) fn exclusive<R: FolderHost>(rt: &R, path: &str) -> FolderResult<LockedFolder> {
         let alloc = rt.alloc();
         let entry = open_folder(rt, path)?;
@@ -42,11 +43,12 @@ impl LockedFolder {
         })
     }
 
-    /// Locks a folder for one who reads it, and may be allowed no more. Others may read it at the same time.
+    /// Locks the folder at `path`, and the file `LOCK` in it, if it is there, for one who reads the folder
+    /// and may be allowed no more. Others may read it at the same time.
     ///
     /// # Errors
     ///
-    /// `Locked` where an engine has it open that writes, `System`, `Memory`.
+    /// `Locked` if an engine that writes has it open; `System`; `Memory`.
     pub(crate) fn shared<R: FolderHost>(rt: &R, path: &str) -> FolderResult<LockedFolder> {
         let alloc = rt.alloc();
         let entry = open_folder(rt, path)?;
@@ -70,7 +72,11 @@ impl LockedFolder {
     }
 }
 
-/// Opens a folder.
+/// Opens the folder at `path` itself, as a file.
+///
+/// # Errors
+///
+/// `System`; `Memory`.
 fn open_folder<R: FolderHost>(rt: &R, path: &str) -> FolderResult<File> {
     match fs::open(rt, path) {
         Ok(entry) => Ok(entry),
@@ -78,7 +84,11 @@ fn open_folder<R: FolderHost>(rt: &R, path: &str) -> FolderResult<File> {
     }
 }
 
-/// Says how a lock was refused.
+/// Checks that a lock on `path` was taken.
+///
+/// # Errors
+///
+/// `Locked` if another holds it; `System`; `Memory` if there is none for the path.
 fn taken(
     alloc: Global,
     path: &str,

@@ -13,7 +13,7 @@ pub(crate) enum Meaning {
     Other,
 }
 
-/// Returns how the names of a queue's files end.
+/// Returns how the names of the files of `queue` end: `.raftlog` or `.rewrite`.
 fn ending_of(queue: LogQueue) -> &'static str {
     match queue {
         LogQueue::Append => ".raftlog",
@@ -21,21 +21,23 @@ fn ending_of(queue: LogQueue) -> &'static str {
     }
 }
 
-/// Returns the name of a log file.
+/// Returns the name of the log file `id`, as `0000000000000001.raftlog`: its number in at least 16 digits.
 ///
 /// # Errors
 ///
-/// Want of memory.
+/// `AllocError` if there is no memory for it.
 pub(crate) fn name_of(alloc: Global, id: FileId) -> AllocResult<String> {
     let ending = ending_of(id.queue);
     format!(in alloc; "{:016}{ending}", id.seq)
 }
 
-/// Returns the name of the file with what was cut off a log file at an offset, the `nth` one that was cut there.
+/// Returns the name of the file that keeps what was cut off the log file `id` at `offset`, as
+/// `0000000000000001.raftlog.4096.cut`; from the second one on that was cut there with its number `nth`, as
+/// `0000000000000001.raftlog.4096.2.cut`.
 ///
 /// # Errors
 ///
-/// Want of memory.
+/// `AllocError` if there is no memory for it.
 pub(crate) fn name_of_cut(alloc: Global, id: FileId, offset: u64, nth: u64) -> AllocResult<String> {
     let ending = ending_of(id.queue);
     if nth == 1 {
@@ -44,11 +46,11 @@ pub(crate) fn name_of_cut(alloc: Global, id: FileId, offset: u64, nth: u64) -> A
     format!(in alloc; "{:016}{ending}.{offset}.{nth}.cut", id.seq)
 }
 
-/// Returns what a name says.
+/// Returns whether `name` is that of a log file, and of which one.
 ///
 /// # Errors
 ///
-/// Want of memory.
+/// `AllocError` if there is no memory to spell the name that the file should have.
 pub(crate) fn meaning_of(alloc: Global, name: &str) -> AllocResult<Meaning> {
     for queue in [LogQueue::Append, LogQueue::Rewrite] {
         if let Some(number) = name.strip_suffix(ending_of(queue)) {
@@ -58,7 +60,12 @@ pub(crate) fn meaning_of(alloc: Global, name: &str) -> AllocResult<Meaning> {
     Ok(Meaning::Other)
 }
 
-/// Returns what a name says that ends like those of a queue's files, behind this number.
+/// Returns whether `name`, which ends like those of `queue` behind `number`, is that of a log file: only if
+/// it is spelled as [`name_of`] spells it.
+///
+/// # Errors
+///
+/// `AllocError` if there is no memory for that name.
 fn log_meaning_of(
     alloc: Global,
     queue: LogQueue,

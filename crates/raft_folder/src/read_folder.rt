@@ -23,49 +23,49 @@ pub struct ReadFolder<'a, R: FolderHost> {
 }
 
 impl<'a, R: FolderHost> ReadFolder<'a, R> {
-    /// Opens a folder with all log files in it.
+    /// Opens the folder at `path` with all log files in it, to read them.
     ///
     /// # Errors
     ///
-    /// `Locked` where an engine has the folder open that writes; `Misnamed` where a name ends like that of a log file and is
-    /// none; `System`, where there is no folder too; `Memory`.
+    /// `Locked` if an engine that writes has the folder open; `Misnamed` if a name ends like that of a log
+    /// file and is none; `System`, also if there is no folder; `Memory`.
     pub fn open(rt: &'a R, path: &'a str) -> FolderResult<ReadFolder<'a, R>> {
         let folder = Folder::open_to_read(rt, path)?;
         Ok(ReadFolder { folder })
     }
 
-    /// Returns the files of a queue, oldest first.
+    /// Returns the number and the length in bytes of each file of `queue`, oldest first.
     ///
     /// # Errors
     ///
-    /// `System`, `Memory`.
+    /// `System`; `Memory`.
     pub fn list(&self, queue: LogQueue) -> FolderResult<Vec<FolderFile>> {
         self.folder.list(queue)
     }
 
-    /// Returns the number and the path of each file of a queue, oldest first.
+    /// Returns the number and the path of each file of `queue`, oldest first.
     ///
     /// # Errors
     ///
-    /// `Memory`.
+    /// `Memory` alone.
     pub fn paths(&self, queue: LogQueue) -> FolderResult<Vec<(FileSeq, String)>> {
         self.folder.paths(queue)
     }
 
-    /// Returns the files of a queue with their bytes, oldest first.
+    /// Returns the number and all bytes of each file of `queue`, oldest first.
     ///
     /// # Errors
     ///
-    /// `Foreign` where a file begins with raft-engine's header; `System`, `Memory`.
+    /// `Foreign` if a file begins with raft-engine's header; `System`; `Memory`.
     pub fn bytes_of_files(&self, queue: LogQueue) -> FolderResult<Vec<(FileSeq, Vec<u8>)>> {
         self.folder.bytes_of_files(queue)
     }
 
-    /// Returns the path of a log file, whether it is there or not.
+    /// Returns the path of the log file `id`, whether it is there or not.
     ///
     /// # Errors
     ///
-    /// `Memory`.
+    /// `Memory` alone.
     pub fn path_of(&self, id: FileId) -> FolderResult<String> {
         self.folder.path_of(id)
     }

@@ -4,11 +4,13 @@ use std::fs::File;
 use std::io;
 use std::io::{ErrorKind, Write};
 
-/// Writes bytes behind those of a file. Where there is no room for all of them the first ones are taken back.
+/// Writes `bytes` behind those of `file`. If there is no room for all of them, those that were written are
+/// taken off again.
 ///
 /// # Errors
 ///
-/// Those of the system. Some of the bytes may be there.
+/// Those of the system. Some of the bytes may be there then, if the reason wasn't want of room, or taking
+/// them off failed too.
 pub(crate) fn write_all_or_nothing(file: &File, bytes: &[u8]) -> io::Result<()> {
     let old = file.metadata()?.len();
     let mut writer = file;
@@ -23,7 +25,8 @@ pub(crate) fn write_all_or_nothing(file: &File, bytes: &[u8]) -> io::Result<()> 
     }
 }
 
-/// Tests whether the system refused a write for want of room.
+/// Tests whether the system refused a write (`refused`) because the disk, a quota or the file has no room for
+/// it.
 fn lacks_room(refused: &io::Error) -> bool {
     matches!(
         refused.kind(),

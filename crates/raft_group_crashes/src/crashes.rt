@@ -15,9 +15,15 @@ use raft_base::Result;
 /// How many steps a history has.
 const STEPS: u64 = 40;
 
-/// Tries so many histories from a seed on, the first `by_bytes` of them at each byte, and prints how many crashes there
-/// were. Returns whether a store held after each of them what it had to.
-pub(crate) fn try_all<R: Host + Print + Eprint>(
+/// Tries `histories` histories, with the seeds from `seed` on, the first `by_bytes` of them with a crash at
+/// each byte that they write. Prints where a store has something else than it must have, and at the end how
+/// many such differences there were. Returns `true` if there were none.
+///
+/// # Errors
+///
+/// `Io` for a file or the output; `Memory`; whatever a call of a store returns. The folders of the histories
+/// are left then.
+pub(crate) fn try_histories<R: Host + Print + Eprint>(
     rt: &R,
     seed: u64,
     histories: u64,

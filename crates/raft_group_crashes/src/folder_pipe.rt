@@ -57,28 +57,41 @@ pub(crate) struct FolderPipe<'a, R: Disk> {
 impl<'a, R: Disk> FolderPipe<'a, R> {
     ghost use Rattle.raft_group_crashes.specs.FileRanges.{range_in};
 
-    /// Opens the pipe over the files that the folder holds. A folder or a queue that isn't there yet is made, with file
-    /// 1.
+    /// Opens the pipe over the files in `folder`. A folder that isn't there is made, and so is file 1 of a
+    /// queue without files.
+    ///
+    /// # Errors
+    ///
+    /// `Io` for the folder or a file; `Full` if the number of a file is so great that none can follow it;
+    /// `Memory`.
     pub(crate) fn open(rt: &'a R, folder: &'a str) -> Result<FolderPipe<'a, R>> {
         fs::create_dir_all(rt, folder)?;
         let pipe = FolderPipe {
             rt,
             folder,
-            append: span_in(rt, folder, LogQueue::Append)?,
-            rewrite: span_in(rt, folder, LogQueue::Rewrite)?,
+            append: span_in_folder(rt, folder, LogQueue::Append)?,
+            rewrite: span_in_folder(rt, folder, LogQueue::Rewrite)?,
         };
         for queue in [LogQueue::Append, LogQueue::Rewrite] {
-            pipe.make(FileId::new(queue, pipe.span(queue).last))?;
+            pipe.make_file(FileId::new(queue, pipe.span(queue).last))?;
         }
         Ok(pipe)
     }
 
-    /// Opens the pipe over the files that the same folder holds now.
+    /// Opens the pipe over the files that are in the same folder now, as after a rotation or a deletion.
+    ///
+    /// # Errors
+    ///
+    /// Those of [`FolderPipe::open`].
     pub(crate) fn reopen(&self) -> Result<FolderPipe<'a, R>> {
         FolderPipe::open(self.rt, self.folder)
     }
 
-    /// Returns the whole files of a queue, in order.
+    /// Returns the files of `queue` in order, each as a part with all its bytes.
+    ///
+    /// # Errors
+    ///
+    /// `Io` for a file; `Memory`.
     pub(crate) fn files(&self, queue: LogQueue) -> Result<Vec<FilePart>> {
         let mut files = Vec::new(self.rt.alloc());
         let span = self.span(queue);
@@ -90,7 +103,11 @@ impl<'a, R: Disk> FolderPipe<'a, R> {
         Ok(files)
     }
 
-    /// Drops the bytes of a file from `len` on, for good.
+    /// Cuts the file `id` to its first `len` bytes, and syncs it.
+    ///
+    /// # Errors
+    ///
+    /// `Io` for the file; `Memory`.
     pub(crate) fn cut_file(&self, id: FileId, len: u64) -> Result<()> {
         let mut options = OpenOptions::new();
         let file = options.write(true).open(self.rt, self.path(id)?.as_str())?;
@@ -98,17 +115,25 @@ impl<'a, R: Disk> FolderPipe<'a, R> {
         Ok(file.sync_all()?)
     }
 
-    /// Returns the path of a file.
+    /// Returns the path of the file `id`, as [`file_path`] does.
+    ///
+    /// # Errors
+    ///
+    /// `Memory` alone.
     pub(crate) fn path(&self, id: FileId) -> Result<String> {
-        path_in(self.rt.alloc(), self.folder, id)
+        file_path(self.rt.alloc(), self.folder, id)
     }
 
-    /// Returns how many bytes a file has.
-    pub(crate) fn len_of(&self, id: FileId) -> Result<u64> {
+    /// Returns the length of the file `id` in bytes.
+    ///
+    /// # Errors
+    ///
+    /// `Io` for the file; `Memory`.
+    pub(crate) fn file_len(&self, id: FileId) -> Result<u64> {
         Ok(fs::metadata(self.rt, self.path(id)?.as_str())?.len())
     }
 
-    /// Returns the files of a queue.
+    /// Returns the numbers of the first and the last file of `queue`.
     fn span(&self, queue: LogQueue) -> Span
         ensures { (result.first, result.last)
             ≡ range_in (self.now.append.first, self.now.append.last)
@@ -120,8 +145,12 @@ impl<'a, R: Disk> FolderPipe<'a, R> {
         }
     }
 
-    /// Makes a file that isn't there yet.
-    fn make(&self, id: FileId) -> Result<()> {
+    /// Makes an empty file `id`, unless it is there.
+    ///
+    /// # Errors
+    ///
+    /// `Io` for the file; `Memory`.
+    fn make_file(&self, id: FileId) -> Result<()> {
         let mut options = OpenOptions::new();
         options
             .create(true)
@@ -131,7 +160,11 @@ impl<'a, R: Disk> FolderPipe<'a, R> {
     }
 }
 
-/// Removes a folder with all its files, if there is one.
+/// Removes `folder` with all its files, if it is there.
+///
+/// # Errors
+///
+/// `Io` for the folder.
 pub(crate) fn remove_folder<R: Disk>(rt: &R, folder: &str) -> Result<()> {
     if fs::exists(rt, folder)? {
         fs::remove_dir_all(rt, folder)?;
@@ -139,13 +172,18 @@ pub(crate) fn remove_folder<R: Disk>(rt: &R, folder: &str) -> Result<()> {
     Ok(())
 }
 
-/// Returns the path of a file in a folder.
-pub(crate) fn path_in(alloc: Global, folder: &str, id: FileId) -> Result<String> {
+/// Returns the path of the file `id` in `folder`, as `logs/0000000000000001.raftlog`.
+///
+/// # Errors
+///
+/// `Memory` alone.
+pub(crate) fn file_path(alloc: Global, folder: &str, id: FileId) -> Result<String> {
     let extension = extension_of(id.queue);
     Ok(format!(in alloc; "{folder}/{:016}{extension}", id.seq)?)
 }
 
-/// Returns how the names of a queue's files end.
+/// Returns how the names of the files of `queue` end: `.raftlog` for the append queue, `.rewrite` for the
+/// rewrite queue.
 fn extension_of(queue: LogQueue) -> &'static str {
     match queue {
         LogQueue::Append => ".raftlog",
@@ -153,13 +191,16 @@ fn extension_of(queue: LogQueue) -> &'static str {
     }
 }
 
-/// Returns the files of a queue that a folder holds; file 1 alone where it holds none. `Full` where none can follow
-/// them.
-fn span_in<R: Disk>(rt: &R, folder: &str, queue: LogQueue) -> Result<Span> {
+/// Returns the numbers of the first and the last file of `queue` in `folder`, or 1 and 1 if there is none.
+///
+/// # Errors
+///
+/// `Full` if the number of the last file is so great that none can follow it; those of reading the folder.
+fn span_in_folder<R: Disk>(rt: &R, folder: &str, queue: LogQueue) -> Result<Span> {
     let (mut first, mut last) = (FileSeq::MAX, 0);
     for entry in fs::read_dir(rt, folder)? {
         let entry = entry?;
-        if let Some(seq) = number_in(entry.file_name(), queue) {
+        if let Some(seq) = number_in_name(entry.file_name(), queue) {
             first = first.min(seq);
             last = last.max(seq);
         }
@@ -173,8 +214,9 @@ fn span_in<R: Disk>(rt: &R, folder: &str, queue: LogQueue) -> Result<Span> {
     Ok(Span { first, last })
 }
 
-/// Returns the number in the name of a file, if it is one of the queue.
-fn number_in(name: &str, queue: LogQueue) -> Option<FileSeq> {
+/// Returns the number in the name of a file, such as 1 in `0000000000000001.raftlog`, or `None` if it isn't a
+/// file of `queue`.
+fn number_in_name(name: &str, queue: LogQueue) -> Option<FileSeq> {
     name.strip_suffix(extension_of(queue))?.parse::<u64>().ok()
 }
 
@@ -184,6 +226,11 @@ impl<R: Disk> PipeLog for FolderPipe<'_, R> {
     ghost file_range_of = { λ pipe queue. range_in (pipe.append.first, pipe.append.last)
         (pipe.rewrite.first, pipe.rewrite.last) queue };
 
+    /// Opens the file of `handle`, and reads the bytes there.
+    ///
+    /// # Errors
+    ///
+    /// Those of the system, also if the file ends before the place does; `Memory`.
     fn read_bytes(&self, alloc: Global, handle: FileBlockHandle) -> Result<Vec<u8>> {
         let mut file = fs::open(self.rt, self.path(handle.id)?.as_str())?;
         file.seek(SeekFrom::Start(handle.offset))?;
@@ -192,7 +239,12 @@ impl<R: Disk> PipeLog for FolderPipe<'_, R> {
         Ok(bytes)
     }
 
-    /// Appends to the last file. Where that fails the file is cut back to what it held.
+    /// Appends `bytes` to the last file of `queue`, and returns their place. If that fails the file is cut
+    /// back to what it had.
+    ///
+    /// # Errors
+    ///
+    /// Those of the system; `Memory`.
     fn append<T: ReactiveBytes>(&self, queue: LogQueue, bytes: &mut T) -> Result<FileBlockHandle> {
         let id = FileId::new(queue, self.span(queue).last);
         let bytes = bytes.as_bytes(&LogFileContext::new(id, VERSION));
@@ -210,35 +262,52 @@ impl<R: Disk> PipeLog for FolderPipe<'_, R> {
         })
     }
 
+    /// Syncs the last file of `queue`.
+    ///
+    /// # Errors
+    ///
+    /// Those of the system; `Memory`.
     fn sync(&self, queue: LogQueue) -> Result<()> {
         let id = FileId::new(queue, self.span(queue).last);
         Ok(fs::open(self.rt, self.path(id)?.as_str())?.sync_all()?)
     }
 
+    /// Returns the numbers of the first and the last file of `queue`.
     fn file_span(&self, queue: LogQueue) -> (FileSeq, FileSeq) {
         let span = self.span(queue);
         (span.first, span.last)
     }
 
+    /// Returns how many bytes the files of `queue` have, capped at 2^64 - 1. Those whose length can't be had
+    /// count as empty.
     fn total_size(&self, queue: LogQueue) -> usize {
         let span = self.span(queue);
         let mut total = 0usize;
         for seq in span.first..=span.last {
-            if let Ok(len) = self.len_of(FileId::new(queue, seq)) {
+            if let Ok(len) = self.file_len(FileId::new(queue, seq)) {
                 total = total.saturating_add(len as usize);
             }
         }
         total
     }
 
-    /// Syncs the last file, begins the next one, and syncs the folder. After an error the new file may be there.
+    /// Syncs the last file of `queue`, begins the next one, and syncs the folder.
+    ///
+    /// # Errors
+    ///
+    /// Those of the system; `Memory`. The new file may be there then.
     fn rotate(&self, queue: LogQueue) -> Result<()> {
         self.sync(queue)?;
-        self.make(FileId::new(queue, self.span(queue).last + 1))?;
+        self.make_file(FileId::new(queue, self.span(queue).last + 1))?;
         Ok(fs::open(self.rt, self.folder)?.sync_all()?)
     }
 
-    /// Deletes the oldest file first, so that those that are left have no gap wherever it stops.
+    /// Deletes the files below `file_id` in its queue, but not the last one, the oldest first, so that those
+    /// that are left have no gap wherever it stops. Returns how many they were.
+    ///
+    /// # Errors
+    ///
+    /// Those of the system; `Memory`. Some of the files may be gone then.
     fn purge_to(&self, file_id: FileId) -> Result<usize> {
         let span = self.span(file_id.queue);
         let mut count = 0usize;

@@ -20,7 +20,12 @@ pub(crate) struct Logs {
 }
 
 impl Logs {
-    /// Reads all files of a folder. A torn tail of the last file of a queue is cut off, on the disk too.
+    /// Reads all files of both queues of `pipe`. A torn tail of the last file of a queue, bytes of a batch
+    /// that wasn't written to its end, is cut off, on the disk too.
+    ///
+    /// # Errors
+    ///
+    /// `Io` for a file; `Memory`.
     pub(crate) fn read<R: Disk>(alloc: Global, pipe: &FolderPipe<'_, R>) -> Result<Logs> {
         Ok(Logs {
             append: segments_of(alloc, pipe, LogQueue::Append)?,
@@ -28,7 +33,12 @@ impl Logs {
         })
     }
 
-    /// Returns what the batches of the append queue take away, in order, each run at its first index.
+    /// Returns what the batches of the append queue take away, in order: their compactions, truncations and
+    /// deletions, and for each run the truncation at its first index.
+    ///
+    /// # Errors
+    ///
+    /// Those of [`next_batch`]; `Memory`.
     pub(crate) fn tombstones(&self, alloc: Global) -> Result<Vec<LogItem>> {
         let mut tombstones = Vec::new(alloc);
         for part in self.append.iter().flatten() {
@@ -39,7 +49,11 @@ impl Logs {
         Ok(tombstones)
     }
 
-    /// Returns the greatest number of an atomic group in the rewrite queue, 0 where there is none.
+    /// Returns the greatest number of an atomic group in the rewrite queue, or 0 if there is none.
+    ///
+    /// # Errors
+    ///
+    /// Those of [`next_batch`]; `Corruption` for a group marker with an unknown status; `Memory`.
     pub(crate) fn last_group(&self, alloc: Global) -> Result<u64> {
         let mut last = 0;
         for part in self.rewrite.iter().flatten() {
@@ -55,9 +69,14 @@ impl Logs {
     }
 }
 
-/// Adds what these items take away to a list: compactions, truncations and deletions as they are, and each run as the
-/// truncation at its first index, unless these tables, which don't have it yet, end there. The tables themselves list
-/// the regions that were cleaned.
+/// Appends what `items` take away to a list: compactions, truncations and deletions as they are, and for each
+/// run the truncation at its first index. A run that begins at the end of its region's entries in `tables`,
+/// which don't have it yet, or behind it takes nothing away. Cleans are left out: the tables list those
+/// regions.
+///
+/// # Errors
+///
+/// `Memory` alone. Some of them may have been appended then.
 pub(crate) fn push_tombstones(
     tombstones: &mut Vec<LogItem>,
     items: &[LogItem],
@@ -80,7 +99,8 @@ pub(crate) fn push_tombstones(
     Ok(())
 }
 
-/// Returns the first index of a run, unless the region's table ends at or below it.
+/// Returns the first index of `run` if it replaces entries of `region`: if the region's table ends above that
+/// index, or if there are no `tables` to tell. Returns `None` otherwise, and for a run without entries.
 fn first_overwritten(
     region: u64,
     run: &EntryIndexes,
@@ -98,7 +118,11 @@ fn first_overwritten(
     }
 }
 
-/// Returns the files of a queue, the last of them without a torn tail.
+/// Returns the files of `queue`, a segment each. A torn tail of the last one is cut off, on the disk too.
+///
+/// # Errors
+///
+/// `Io` for a file; `Memory`.
 fn segments_of<R: Disk>(
     alloc: Global,
     pipe: &FolderPipe<'_, R>,
@@ -115,8 +139,12 @@ fn segments_of<R: Disk>(
     Ok(segments)
 }
 
-/// Cuts a file where its readable batches end, on the disk too. Not so where there was no memory to read on, and not
-/// where a readable batch follows an unreadable one: that file is damaged, and a recovery refuses it.
+/// Cuts `file`, the last one of a queue, where its readable batches end, on the disk too. A file in which a
+/// readable batch follows an unreadable one is damaged, and left as it is: a recovery refuses it.
+///
+/// # Errors
+///
+/// `Memory`, also if there was none to read on; those of the system.
 fn cut_torn_tail<R: Disk>(pipe: &FolderPipe<'_, R>, file: &mut FilePart) -> Result<()> {
     match readable_front(file) {
         (_, None) => Ok(()),
@@ -131,7 +159,12 @@ fn cut_torn_tail<R: Disk>(pipe: &FolderPipe<'_, R>, file: &mut FilePart) -> Resu
     }
 }
 
-/// Tests whether a readable batch follows the unreadable one at an offset, whose header says where it ends.
+/// Tests whether a readable batch follows the unreadable one at position `at` of `file`, whose header says
+/// where it ends.
+///
+/// # Errors
+///
+/// `Memory` alone.
 fn is_damaged(file: &FilePart, at: usize) -> Result<bool>
     requires { at ≤ length file.now.bytes }
 {
@@ -150,7 +183,11 @@ fn is_damaged(file: &FilePart, at: usize) -> Result<bool>
     }
 }
 
-/// Returns the batches of a part, each with where the next one begins.
+/// Returns the batches of `part`, each with the position at which the next one begins.
+///
+/// # Errors
+///
+/// Those of [`next_batch`]; `Memory`.
 pub(crate) fn batches_of(alloc: Global, part: &FilePart) -> Result<Vec<(LogItemBatch, usize)>> {
     let mut batches = Vec::new(alloc);
     let mut at = 0;

@@ -1,5 +1,6 @@
-//! Crashes of a store with atomic groups in random histories: `raft_group_crashes SEED HISTORIES BY_BYTES` tries so many from a seed on,
-//! and in the first `BY_BYTES` of them each byte. Its status is 1 where a store recovered something else than it had to.
+//! Crashes of a store with atomic groups in random histories: `raft_group_crashes SEED HISTORIES BY_BYTES` tries `HISTORIES` of them,
+//! with the seeds from `SEED` on, and in the first `BY_BYTES` of them a crash at each byte. Its status is 1 if a store recovered
+//! something else than it had to.
 //!
 //! The store is written over the calls below `Engine`, which has no atomic groups.
 #![tactic(auto)]
@@ -17,6 +18,12 @@ use std::process::ExitCode;
 const USAGE: &str =
     "usage: raft_group_crashes SEED HISTORIES BY_BYTES   (crashes a store with atomic groups in so many random histories from a seed on)";
 
+/// Does what the words of the command line ask for. The status is 0 if each store had what it must have, 1 if
+/// one had something else, and 2, with a hint at the words, if they ask for nothing.
+///
+/// # Errors
+///
+/// Those of [`crashes::try_histories`], and `Io` for the words or the output.
 fn main(rt: HostRuntime) -> Result<ExitCode> {
     let words = command_words(&rt)?;
     if words.first().is_some_and(|word: &String| word.as_str() == "--help"
@@ -25,19 +32,20 @@ fn main(rt: HostRuntime) -> Result<ExitCode> {
         println!(rt; "{USAGE}")?;
         return Ok(ExitCode::SUCCESS);
     }
-    let Some((seed, histories, by_bytes)) = numbers_in(words.as_slice()) else {
+    let Some((seed, histories, by_bytes)) = parse_numbers(words.as_slice()) else {
         eprintln!(rt; "{USAGE}")?;
         return Ok(ExitCode::from(2));
     };
-    if crashes::try_all(&rt, seed, histories, by_bytes)? {
+    if crashes::try_histories(&rt, seed, histories, by_bytes)? {
         Ok(ExitCode::SUCCESS)
     } else {
         Ok(ExitCode::FAILURE)
     }
 }
 
-/// Returns the three numbers, if these are the words.
-fn numbers_in(words: &[String]) -> Option<(u64, u64, u64)> {
+/// Returns the seed, the number of histories, and how many of these are tried at each byte, or `None` if
+/// `words` aren't three numbers.
+fn parse_numbers(words: &[String]) -> Option<(u64, u64, u64)> {
     let [seed, histories, by_bytes] = words else {
         return None;
     };

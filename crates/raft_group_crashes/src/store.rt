@@ -18,7 +18,7 @@ use std::alloc::Global;
 use std::collections::BTreeMap;
 use std::thread::Threads;
 
-/// The last offset at which a batch may stand.
+/// The last offset at which a batch may begin.
 const LAST_OFFSET: u64 = u64::MAX - 16;
 
 /// What a store asks of the machine: files, memory, and threads that recover.
@@ -29,7 +29,7 @@ impl<R: Disk + Threads + Sync> Host for R {}
 /// The logs of many regions: files of both queues, and the tables that say where their records are.
 ///
 /// After an `Err` of a call that writes or deletes, the files may hold something else than the tables say: open the
-/// store again. A batch that the tables wouldn't take is refused before anything is written, and the store serves on.
+/// store again. A batch that the tables wouldn't take is refused before anything is written, and the store can be used after it.
 #[derive(Drop)]
 pub(crate) struct Store<'a, R: Host> {
     rt: &'a R,
@@ -49,7 +49,12 @@ pub(crate) struct Store<'a, R: Host> {
 }
 
 impl<'a, R: Host> Store<'a, R> {
-    /// Recovers what a folder holds, with so many threads at most. A folder that isn't there yet is made.
+    /// Opens the store in `folder`, which is made if it isn't there, and recovers its tables with at most
+    /// `workers` threads. A file gets `file_size` bytes before the next one is begun.
+    ///
+    /// # Errors
+    ///
+    /// Those of [`FolderPipe::open`] and [`Logs::read`], and of the recovery.
     pub(crate) fn open(
         rt: &'a R,
         folder: &'a str,
@@ -71,7 +76,13 @@ impl<'a, R: Host> Store<'a, R> {
         })
     }
 
-    /// Writes a batch to the append queue, and then to the tables. With `sync` it lasts once the call returns `Ok`.
+    /// Writes a batch to the append queue, and then to the tables. With `sync` it survives a crash once the
+    /// call returns `Ok`. An empty batch does nothing.
+    ///
+    /// # Errors
+    ///
+    /// Those of the tables' check, and nothing has been written then; those of the files, after which the
+    /// store must be opened again.
     pub(crate) fn write(&mut self, mut batch: LogBatch, sync: bool) -> Result<()>
         requires { batch.stage ≡ is_open }
     {
@@ -87,45 +98,68 @@ impl<'a, R: Host> Store<'a, R> {
         self.tables.apply_append_writes(batch.drain())
     }
 
-    /// Syncs a queue.
+    /// Syncs the last file of `queue`, and notes it.
+    ///
+    /// # Errors
+    ///
+    /// `Io` for the file; `Memory`.
     fn sync(&mut self, queue: LogQueue) -> Result<()> {
         self.pipe.sync(queue)?;
-        self.note(FileChange::Synced(queue))
+        self.note_change(FileChange::Synced(queue))
     }
 
-    /// Begins a new file of a queue. What the queue holds by then lasts.
+    /// Begins a new file of `queue`. What the queue has by then survives a crash.
+    ///
+    /// # Errors
+    ///
+    /// `Io` for a file; `Full` if no number can follow; `Memory`.
     pub(crate) fn rotate(&mut self, queue: LogQueue) -> Result<()> {
         self.pipe.rotate(queue)?;
         self.pipe = self.pipe.reopen()?;
         let (_, last) = self.pipe.file_span(queue);
-        self.note(FileChange::Begun(FileId::new(queue, last)))
+        self.note_change(FileChange::Begun(FileId::new(queue, last)))
     }
 
-    /// Notes what was done to the files.
-    fn note(&mut self, change: FileChange) -> Result<()> {
+    /// Notes `change`, what was done to the files, if somebody looks at it.
+    ///
+    /// # Errors
+    ///
+    /// `Memory` alone.
+    fn note_change(&mut self, change: FileChange) -> Result<()> {
         if let Some(changes) = &mut self.changes {
             changes.push(change)?;
         }
         Ok(())
     }
 
-    /// Notes that a sealed batch was written to a file.
+    /// Notes that `batch`, which is sealed, was written to the file `id`, with its bytes, if somebody looks
+    /// at it.
+    ///
+    /// # Errors
+    ///
+    /// `Memory` alone.
     fn note_written(&mut self, id: FileId, batch: &LogBatch) -> Result<()>
         requires { IsSealedStage batch.now.stage }
     {
         if self.changes.is_some() {
             let bytes = Vec::from_slice(self.rt.alloc(), batch.encoded_bytes())?;
-            self.note(FileChange::Written(id, bytes))?;
+            self.note_change(FileChange::Written(id, bytes))?;
         }
         Ok(())
     }
 
-    /// Writes a batch to the last file of a queue, which is returned, and gives its items their places.
+    /// Writes `batch` to the last file of `queue`, gives its items their places, and returns the number of
+    /// the file. If that file is long enough, a new one is begun first.
+    ///
+    /// # Errors
+    ///
+    /// `Io` for a file; `Full` for a batch that is too long; `Failed` if its place would be behind the last
+    /// offset; `Memory`. The batch may be in the file then, and not in the tables.
     fn append(&mut self, queue: LogQueue, batch: &mut LogBatch) -> Result<FileSeq>
         requires { batch.old.stage ≡ is_open }
     {
         let (_, last) = self.pipe.file_span(queue);
-        if self.pipe.len_of(FileId::new(queue, last))? >= self.file_size {
+        if self.pipe.file_len(FileId::new(queue, last))? >= self.file_size {
             self.rotate(queue)?;
         }
         batch.finish_populate()?;
@@ -138,26 +172,40 @@ impl<'a, R: Host> Store<'a, R> {
         Ok(place.id.seq)
     }
 
-    /// Reads the records of all regions out of the files, by the tables.
+    /// Returns the records of all regions: the entries' bytes are read from the files at the places that the
+    /// tables have.
+    ///
+    /// # Errors
+    ///
+    /// Those of reading the entry blocks; `Memory`.
     pub(crate) fn contents(&self) -> Result<Contents> {
         let mut contents = BTreeMap::new(self.rt.alloc());
         for table in self.tables.tables()? {
-            let _ = contents.insert(table.region_id(), self.records_in(table)?)?;
+            let _ = contents.insert(table.region_id(), self.records_of_table(table)?)?;
         }
         Ok(contents)
     }
 
-    /// Reads the records of a table.
-    fn records_in(&self, table: &MemTable) -> Result<Records> {
+    /// Returns the records of `table`, with the bytes of its entries, which are read from the files.
+    ///
+    /// # Errors
+    ///
+    /// Those of reading the entry blocks; `Memory`.
+    fn records_of_table(&self, table: &MemTable) -> Result<Records> {
         let alloc = self.rt.alloc();
         let mut records = Records::new(alloc);
-        records.push_entries(self.read(&entries_of(alloc, table)?)?)?;
+        records.push_entries(self.read_entries(&entries_of(alloc, table)?)?)?;
         records.push_pairs(alloc, table)?;
         Ok(records)
     }
 
-    /// Reads the bytes of entries. Neighbors in one entry block are read together.
-    fn read(&self, entries: &[EntryIndex]) -> Result<Vec<Proposal>> {
+    /// Returns `entries` with their bytes, read from the files. Neighbors in one entry block are read
+    /// together.
+    ///
+    /// # Errors
+    ///
+    /// `EntryNotFound` for an entry without a place; those of reading the entry blocks; `Memory`.
+    fn read_entries(&self, entries: &[EntryIndex]) -> Result<Vec<Proposal>> {
         let alloc = self.rt.alloc();
         let mut proposals = Vec::new(alloc);
         for neighbors in entries.chunk_by(are_in_one_block) {
@@ -170,7 +218,12 @@ impl<'a, R: Host> Store<'a, R> {
         Ok(proposals)
     }
 
-    /// Reads the entry bytes of the entry block at a place. `Corruption` names the file and the offset.
+    /// Returns the entry bytes of the entry block at `place`, without their checksum.
+    ///
+    /// # Errors
+    ///
+    /// `Io` for the file; `Corruption`, whose text begins with the path and the offset, if the checksum is
+    /// another; `Memory`.
     fn read_block(&self, place: FileBlockHandle, compression: CompressionType) -> Result<Vec<u8>> {
         let alloc = self.rt.alloc();
         let block = self.pipe.read_bytes(alloc, place)?;
@@ -184,12 +237,16 @@ impl<'a, R: Host> Store<'a, R> {
     }
 }
 
-/// Tests whether the bytes of two entries are in the same entry block.
+/// Tests whether the bytes of the entries `a` and `b` are in the same entry block.
 fn are_in_one_block(a: &EntryIndex, b: &EntryIndex) -> bool {
     a.entries == b.entries
 }
 
-/// Adds entries whose bytes are among these to a list.
+/// Appends `entries` to a list, each with its bytes out of `bytes`, those of their block.
+///
+/// # Errors
+///
+/// `Corruption` if an entry would end behind these bytes; `Memory`.
 fn push_proposals(
     alloc: Global,
     proposals: &mut Vec<Proposal>,

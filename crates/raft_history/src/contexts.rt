@@ -11,9 +11,10 @@ pub fn new_contexts_stand_exactly()
     ensures { IsExactFor new_context [] }
 {}
 
-/// States that a context that stands for a history stands for it and one batch more after taking
-/// the batch in, exactly if it did before. The batch is refused only where no sound history goes on
-/// with it.
+/// States what a context stands for after one more batch. If it stood for a history, it then stands for that
+/// history and the batch; exactly, if it did so before. The batch is refused only if no sound history goes on
+/// with it, and a batch with which a sound history goes on is of the context's queue, of a file that may
+/// follow, and may be in that file.
 pub fn batches_are_taken_in()
     ensures stands { (c d : Context) (h : List Event) (e : Event) → Suits e.file.queue c.files
         → follows c.files (files_of (e ∷ [])) ≡ true → AreInFile e.file e.items
@@ -32,9 +33,9 @@ pub fn batches_are_taken_in()
         × AreInFile e.file e.items × HaveStatus e.file.queue e.items }
 {}
 
-/// States that contexts of two neighboring histories, merged, stand for both, one after the other;
-/// exactly, if both did and the effects of that history are apart. They are refused only where it
-/// isn't sound, in the rewrite queue by its files alone.
+/// States what two merged contexts stand for: if they stood for two neighboring histories, for both, one
+/// after the other; exactly, if both did and the effects of that history are apart. The merge is refused only
+/// if that history isn't sound; in the rewrite queue, only for its files.
 pub fn merges_stand_for_both()
     ensures stands { (q : LogQueue) (c d e : Context) (h k : List Event) → Suits q c.files
         → Suits q d.files → StandsFor c h → StandsFor d k → merged_context q c d ≡ Some e
@@ -49,8 +50,8 @@ pub fn merges_stand_for_both()
         → merged_context Rewrite c d ≡ None → ⊥ }
 {}
 
-/// States the same of the merged regions one by one, in no order: they may be joined into the older
-/// context or the newer one.
+/// States what [`merges_stand_for_both`] states, of contexts whose regions are merged one by one, in any
+/// order: they may be joined into the older context or into the newer one.
 pub fn regions_merge_one_by_one()
     ensures stands { (q : LogQueue) (c d : Context) (h k : List Event) (regions : MarkedRegions)
         → Suits q c.files → Suits q d.files → StandsFor c h → StandsFor d k
@@ -69,8 +70,8 @@ pub fn regions_merge_one_by_one()
     ensures rewrite { (c d : Context) → AreRegionsRefused Rewrite c d → ⊥ }
 {}
 
-/// States that the merge that takes one region after another is that of the regions one by one, and is
-/// refused where that is: so what is said of either holds of both.
+/// States that the merge that takes one region after another gives what merging them one by one, in any
+/// order, gives, and is refused exactly when that is: so what is said of either holds of both.
 pub fn merges_go_region_by_region()
     ensures same { (q : LogQueue) (c d e : Context) → (merged_context q c d ≡ Some e)
         ↔ ((follows c.files d.files ≡ true) × AreMerged q c d e.regions
@@ -79,37 +80,38 @@ pub fn merges_go_region_by_region()
         ↔ ((follows c.files d.files ≡ false) ⊎ AreRegionsRefused q c d) }
 {}
 
-/// States that an exact context has what one reading of its history gives.
+/// States that a context that stands exactly for a history has the tables and cleaned regions that one
+/// reading of it gives.
 pub fn exact_contexts_are_one_reading()
     ensures { (q : LogQueue) (c : Context) (h : List Event) → IsExactFor c h → Suits q c.files
         → IsOneReading q h c.regions.tables c.cleaned }
 {}
 
-/// States that an exact context holds at most what its history may hold, number by number.
+/// States that a context that stands exactly for a history holds at most what the history may hold, number by
+/// number.
 pub fn exact_contexts_keep_little()
     ensures { (q : LogQueue) (c : Context) (h : List Event) (tables : Tables) (cleaned : List ℕ)
         → IsExactFor c h → Suits q c.files → IsOneReading q h tables cleaned
         → IsAtMost (kept_of c) (kept_by q h tables) }
 {}
 
-/// States that contexts that are exact for one history hold the same: so merges of exact contexts are
-/// associative in meaning.
+/// States that contexts that stand exactly for one history hold the same, whatever merges made them.
 pub fn exact_contexts_agree()
     ensures { (c d : Context) (h : List Event) → IsExactFor c h → IsExactFor d h
         → (c.regions.tables ≡ d.regions.tables) × (c.groups ≡ d.groups) × (c.cleaned ≡ d.cleaned)
         × (c.files ≡ d.files) }
 {}
 
-/// States that what waits after two neighbors were joined, and what became whole between them, is
-/// no more than waited in both.
+/// States that a join of two neighbors makes no records: those that wait after it, and those of the groups
+/// that became whole by it, are together no more than waited in both.
 pub fn waiting_records_stay_few()
     ensures { (older newer : WaitingGroups)
         → waiting_records (joined_groups older newer) + records_in_wholes (whole_groups older newer)
         ≤ waiting_records older + waiting_records newer }
 {}
 
-/// States that the steps that become whole between two histories of a queue are such as replays into
-/// it ask for.
+/// States that the steps of groups that become whole between two histories of a queue are steps that a replay
+/// of that queue accepts.
 pub fn wholes_are_of_the_queue()
     ensures { (q : LogQueue) (h k : List Event)
         → FilesFrom q 0 h → AllByRecursion (λ (e : Event). AreInFile e.file e.items) h

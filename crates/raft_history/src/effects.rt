@@ -5,15 +5,15 @@ ghost use Rattle.std.specs.Prelude.{◌≡◌, ◌≢◌, ◌↔◌, ◌||◌, �
 ghost use Rattle.raft_history.specs.Common.{AllByRecursion, list_any, names, steps_on, WholeGroup, whole_group, group_in, BatchSteps, Effect, EachApart, effects, steps_of, is_named, EndsNoEffect, without_group, AreEffects, groups_in};
 ghost use Rattle.raft_history.specs.Common.{joined_groups, whole_groups, groups_after, steps_by_batch, names_by_batch, known_of, steps_of_wholes};
 
-/// States that the effects of a history are the batches without a group marker and the stretches of
-/// each group's group markers, in the order of their last batches.
+/// States that the effects of a history are its batches without a group marker, and the stretches of each
+/// group's markers, in the order of their last batches.
 pub fn effects_are_stretches()
     ensures are { (h : List BatchSteps) → AreEffects h (effects h) }
     ensures alone { (h : List BatchSteps) (es : List Effect) → AreEffects h es → es ≡ effects h }
 {}
 
-/// States that what is known of the groups of two neighboring histories tells what is known of
-/// both, one after the other.
+/// States that what is known of the groups of two neighboring histories tells what is known of both, one
+/// after the other. That holds for one batch more, too, and group by group.
 pub fn groups_join()
     ensures joined { (h k : List BatchSteps)
         → groups_in (h ++ k) ≡ joined_groups (groups_in h) (groups_in k) }
@@ -22,8 +22,9 @@ pub fn groups_join()
     ensures each { (g : ℕ) (h : List BatchSteps) → known_of (groups_in h) g ≡ group_in g h }
 {}
 
-/// States which steps two histories, one after the other, have on a region: those of the older, of
-/// the groups that become whole between them, and of the newer.
+/// States which steps two histories, one after the other, have on a region, if their effects are apart: those
+/// of the older one, those of the groups that become whole between them, and those of the newer one. One
+/// batch more adds its own steps, or those of the group that it makes whole.
 pub fn steps_join()
     ensures across { (r : ℕ) (h k : List BatchSteps) → EachApart (effects (h ++ k))
         → steps_of r (h ++ k)
@@ -33,7 +34,7 @@ pub fn steps_join()
         → steps_of r (h ++ b ∷ []) ≡ steps_of r h ++ steps_by_batch r (groups_in h) b b.marker }
 {}
 
-/// States that groups that become whole between two histories name different regions, where the
+/// States that different groups that become whole between two histories name different regions, if the
 /// effects of both, one after the other, are apart.
 pub fn wholes_name_different_regions()
     ensures { (h k : List BatchSteps) → EachApart (effects (h ++ k)) → (g l : ℕ) → g ≢ l
@@ -42,8 +43,8 @@ pub fn wholes_name_different_regions()
         → names r v.steps ≡ true → ⊥ }
 {}
 
-/// States that where no batch has a group marker, as in the append queue, each batch is an effect, and the
-/// effects are apart.
+/// States that if no batch has a group marker, as in the append queue, each batch is an effect of its own,
+/// and the effects are apart.
 pub fn batches_without_markers_are_effects()
     ensures apart { (h : List BatchSteps) → AllByRecursion (λ b. b.marker ≡ None) h
         → EachApart (effects h) }
@@ -51,9 +52,10 @@ pub fn batches_without_markers_are_effects()
         → steps_of r h ≡ flat_map (λ b. steps_on r b.steps) h }
 {}
 
-/// States that a region has steps in the effects exactly where one of them names it; and, where the effects of
-/// two histories, one after the other, are apart, the regions that both name are those of the older, of the groups
-/// that become whole between them, and of the newer.
+/// States that a region has steps in the effects of a history exactly if one of the effects names it. If the
+/// effects of two histories, one after the other, are apart, both together name the regions that the older
+/// one names, that the groups name that become whole between the two, or that the newer one names. With one
+/// more batch a history names the regions that it named, and those named by what takes effect with the batch.
 pub fn named_regions_have_steps()
     ensures steps { (r : ℕ) (h : List BatchSteps) → (is_named r h ≡ false) ↔ (steps_of r h ≡ []) }
     ensures across { (r : ℕ) (h k : List BatchSteps) → EachApart (effects (h ++ k))
@@ -65,8 +67,8 @@ pub fn named_regions_have_steps()
         → is_named r (h ++ b ∷ []) ≡ (is_named r h || names_by_batch r (groups_in h) b b.marker) }
 {}
 
-/// States that a group that never becomes whole changes nothing: without its batches every region
-/// has the same steps.
+/// States that a group that never becomes whole changes nothing: without its batches every region has the
+/// same steps.
 pub fn incomplete_groups_change_nothing()
     ensures { (g : ℕ) (h : List BatchSteps) → EndsNoEffect g h → (r : ℕ)
         → steps_of r (without_group g h) ≡ steps_of r h }

@@ -3,8 +3,8 @@
 ghost use Rattle.std.specs.Prelude.{List};
 ghost use Rattle.raft_history.specs.Common.{FileId, EntryIndex, IsDecodedIn, entries, IsRunIn};
 
-/// States that the entries of an item that was read from a file are a run of the file's queue, as
-/// tables ask for: nobody tests it again.
+/// States that the entries of an item that was read from a file are a run of the file's queue, as tables ask
+/// for: nobody needs to test it again.
 #[tactic(auto, using(crate::proofs::ReadItemLemmas::read_run))]
 pub fn read_entries_are_runs()
     ensures { (file : FileId) (es : List EntryIndex) → IsDecodedIn file (entries es)

@@ -14,8 +14,8 @@ pub struct RegionStep {
 }
 
 impl RegionStep {
-    /// Returns the step of an item. A change of the reserved key has none, nor has a put without a value or
-    /// a file.
+    /// Returns the step of `item`, or `None` if it has none: a change of the key that is kept for group
+    /// markers, or a put without a value or a file.
     pub fn of_item(item: LogItem) -> Option<RegionStep>
         ensures { option_map region_step_shown result ≡ item_step (item_of item) }
     {
@@ -27,7 +27,7 @@ impl RegionStep {
     }
 }
 
-/// Returns the step that an item's content makes of its region, if it makes one.
+/// Returns the step that `content`, that of an item, is for its region, or `None` if it is none.
 fn content_step(content: LogItemContent) -> Option<Step>
     ensures { option_map step_shown result ≡ content_step (content_of content) }
 {
@@ -38,7 +38,7 @@ fn content_step(content: LogItemContent) -> Option<Step>
     }
 }
 
-/// Returns the step of a command.
+/// Returns the step of `command`: a clean, a compaction or a truncation.
 fn command_step(command: Command) -> Step
     ensures { step_shown result ≡ command_step command }
 {
@@ -49,8 +49,8 @@ fn command_step(command: Command) -> Step
     }
 }
 
-/// Returns the step of a change of a key; none under the reserved key, nor for a put without value
-/// or file.
+/// Returns the step of `kv`, a change of a key, or `None` for a change of the key that is kept for group
+/// markers, and for a put without a value or a file.
 fn pair_step(kv: KeyValue) -> Option<Step>
     ensures { option_map step_shown result ≡ content_step (pair (pair_of kv)) }
 {

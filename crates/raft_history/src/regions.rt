@@ -5,7 +5,8 @@ ghost use Rattle.raft_history.specs.Common.{AllByRecursion, FileId, LogQueue, Ap
 ghost use Rattle.raft_history.specs.Common.{overlaid_region, MarkedRegions, no_regions, regions_after, region_steps_of_whole, RegionStep, steps_of_items, WholeGroup};
 ghost use Rattle.std.specs.FinMap as finite;
 
-/// States that further steps and joins keep what region marks and tables stand for.
+/// States that region marks and tables still stand for steps after further steps, items, whole groups or
+/// joins, if they did before. Those of no region do, and so do those that are exact for a history.
 pub fn regions_stand_for_steps()
     ensures none { (q : LogQueue) → StandForSteps q no_regions }
     ensures steps { (q : LogQueue) (rs new : MarkedRegions) (steps : List RegionStep)
@@ -25,8 +26,10 @@ pub fn regions_stand_for_steps()
         → StandForSteps q rs }
 {}
 
-/// States that over a rewritten table an exact region mark and table of the append queue give the overlay by
-/// its steps, for the regions that these name; the others keep their rewritten tables.
+/// States that a region mark is enough to overlay a region, without the steps that it stands for. Where
+/// region marks and tables are exact for batches of the append queue, a region that the batches name gets
+/// by its mark, over any rewritten table, what it gets by its steps; any other region keeps its rewritten
+/// table. This is a law: it computes nothing.
 #[tactic(auto, using(crate::proofs::RegionLaws::overlay_by_steps))]
 pub fn overlays_are_by_steps()
     ensures { (r : ℕ) (rs : MarkedRegions) (bs : List BatchSteps) (rewritten : Option Table)

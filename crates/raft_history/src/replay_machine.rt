@@ -20,7 +20,12 @@ pub trait ReplayMachine: Send + Drop {
     /// The machine stands for the history, and holds all that it says.
     ghost stands_exactly: { Self → List Event → Type 0 };
 
-    /// Replays one more batch, that was written to this file.
+    /// Replays one more batch, which was written to the file `file_id`.
+    ///
+    /// # Errors
+    ///
+    /// `Memory`; any other only if the batches so far and this one aren't a sound history. What the machine
+    /// then stands for isn't said.
     fn replay(&mut self, batch: LogItemBatch, file_id: FileId) -> Result<()>
         ensures stands { (h : List Event) → IsSmall (h ++ event batch file_id ∷ [])
             → stands_for self.old h
@@ -32,8 +37,13 @@ pub trait ReplayMachine: Send + Drop {
             → IsSmall (h ++ event batch file_id ∷ []) → stands_for self.old h
             → ¬ (Sound (h ++ event batch file_id ∷ []))) };
 
-    /// Replays one more batch as it was read, with the errors of `replay`. A machine that has no
-    /// better way makes a [`LogItemBatch`] of it.
+    /// Does what [`ReplayMachine::replay`] does, with a batch whose keys and values still stand in the
+    /// bytes that it was read from. Unless a machine has a way of its own, they are copied into a
+    /// [`LogItemBatch`].
+    ///
+    /// # Errors
+    ///
+    /// Those of [`ReplayMachine::replay`]; `Memory` also if there is none for the copy.
     fn replay_read(&mut self, batch: &ReadBatch<'_>, file_id: FileId) -> Result<()>
         ensures stands { (h : List Event) → IsSmall (h ++ event batch.now file_id ∷ [])
             → stands_for self.old h
@@ -49,7 +59,12 @@ pub trait ReplayMachine: Send + Drop {
         self.replay(own, file_id)
     }
 
-    /// Takes in the machine of the batches that follow, all of one queue.
+    /// Takes in `rhs`, the machine of the batches that follow, all of `queue`.
+    ///
+    /// # Errors
+    ///
+    /// `Memory`; any other only if both histories, one after the other, aren't a sound one, or `queue` isn't
+    /// theirs. What the machine then stands for isn't said.
     fn merge(&mut self, rhs: Self, queue: LogQueue) -> Result<()>
         ensures stands { (h g : List Event) → IsSmall (h ++ g) → stands_for self.old h
             → stands_for rhs g → OnOk result (stands_for self.new (h ++ g)) }

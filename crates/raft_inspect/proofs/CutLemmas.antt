@@ -1,16 +1,6 @@
 -- Cuts of which one failed.
-use Rattle.std.proofs.Common.{◌≡◌, inl, ℕ, List, [], ◌∷◌, ◌++◌, Result, Ok, Err, IfErr, OnErr, refl, sym, ap, ◌∙◌, subst, append_assoc}
-use Rattle.raft_base.specs.declared.errors.Error.{Error}
-use Rattle.raft_files.specs.Asks.{Ask, MayBeAsked, failed_ask}
-use Rattle.raft_base.specs.declared.pipe_log.Version.{Version}
-use Rattle.raft_base.specs.declared.pipe_log.FileId.{FileId}
-use Rattle.raft_reading.specs.IoErrors.{IoError}
-use Rattle.raft_reading.specs.declared.queue_files.FileSize.{FileSize}
-use Rattle.raft_engine.specs.OpeningAsks.{Failures, FailsAmong}
-use Rattle.raft_report.specs.declared.print_error.PrintError.{PrintError}
-use Rattle.raft_report.specs.declared.print_error.PrintError.TheVariants.{Files, Output}
-use Rattle.raft_inspect.specs.Cuts.{IsCutFault}
-use Rattle.raft_inspect.specs.Faults.{IsUnprinted}
+use Rattle.raft_inspect.proofs.Common.{◌≡◌, inl, ℕ, List, [], ◌∷◌, ◌++◌, Result, Ok, Err, IfErr, OnErr, refl, sym, ap, ◌∙◌, subst, append_assoc, Error, Ask, MayBeAsked, failed_ask, Version, FileId, IoError, FileSize, Failures, FailsAmong, PrintError, Files, Output, IsCutFault}
+use Rattle.raft_inspect.proofs.Common.{IsUnprinted}
 
 module _ (MayFail : Failures) where
   -- the only one

@@ -1,16 +1,5 @@
 -- Why something isn't printed to its end.
-use Rattle.std.proofs.Common.{inl, inr, ℕ, List, Contains}
-use Rattle.raft_base.specs.declared.errors.Error.{Error}
-use Rattle.raft_base.specs.declared.pipe_log.FileId.{FileId}
-use Rattle.raft_base.specs.declared.pipe_log.LogQueue.{LogQueue}
-use Rattle.raft_base.specs.declared.pipe_log.LogQueue.TheVariants.{Append, Rewrite}
-use Rattle.raft_reading.specs.IoErrors.{IoError}
-use Rattle.raft_reading.specs.declared.queue_files.FileSize.{FileSize}
-use Rattle.raft_survey.specs.FileWalks.{IsFileUnread, IsOneUnread}
-use Rattle.raft_report.specs.declared.print_error.PrintError.{PrintError}
-use Rattle.raft_report.specs.declared.print_error.PrintError.TheVariants.{Files, Output}
-use Rattle.raft_base.specs.declared.pipe_log.Version.{Version}
-use Rattle.raft_inspect.specs.Faults.{IsUnchecked, IsUnprinted, IsUnprintedFor}
+use Rattle.raft_inspect.proofs.Common.{inl, inr, ℕ, List, Contains, Error, FileId, LogQueue, Append, Rewrite, IoError, FileSize, IsFileUnread, IsOneUnread, PrintError, Files, Output, Version, IsUnchecked, IsUnprinted, IsUnprintedFor}
 
 -- for another reason
 for_another : (P Q : Error → Type 0) → ((e : Error) → P e → Q e) → (f : PrintError) → IsUnprintedFor P f → IsUnprintedFor Q f

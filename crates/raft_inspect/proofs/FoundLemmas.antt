@@ -1,18 +1,5 @@
 -- What a check has found.
-use Rattle.std.proofs.Common.{◌≡◌, ◌↔◌, ℕ, List, sym, subst, true}
-use Rattle.raft_base.specs.declared.pipe_log.FileId.{FileId}
-use Rattle.raft_base.specs.declared.pipe_log.LogQueue.TheVariants.{Append, Rewrite}
-use Rattle.raft_base.specs.declared.pipe_log.Version.{Version}
-use Rattle.raft_reading.specs.IoErrors.{IoError}
-use Rattle.raft_reading.specs.declared.queue_files.FileSize.{FileSize}
-use Rattle.raft_listing.specs.declared.scan.FileScan.{FileScan}
-use Rattle.raft_survey.specs.FileScans.{AreScansOf}
-use Rattle.raft_survey.proofs.SoundLemmas.{files_sound}
-use Rattle.raft_inspect.specs.Checked.{IsChecked}
-use Rattle.raft_inspect.specs.Openings.{IsOpeningOf}
-use Rattle.raft_inspect.specs.Verdicts.{IsNothingWrong}
-use Rattle.raft_inspect.specs.declared.findings.Findings.{Findings}
-use Rattle.raft_inspect.specs.declared.opening.Opening.{Opening}
+use Rattle.raft_inspect.proofs.Common.{◌≡◌, ◌↔◌, ℕ, List, sym, subst, true, FileId, Append, Rewrite, Version, IoError, FileSize, FileScan, AreScansOf, files_sound, IsChecked, IsOpeningOf, IsNothingWrong, Findings, Opening}
 use Rattle.raft_inspect.proofs.OpeningLemmas.{opening_uncut}
 
 module _ (Gives : FileId → ℕ → List ℕ → Type 0) (Fails : FileId → ℕ → IoError → Type 0) (version : Version) (workers : ℕ) (append rewrite : List FileSize) where

@@ -1,16 +1,6 @@
 -- The lines of JSON that are written.
-use Rattle.std.proofs.Common.{◌≡◌, ℕ, Bool, true, false, List, ◌++◌, codes, decimal, refl, sym, ap, ◌∙◌, append_assoc, None, Some}
-use Rattle.serde_json.proofs.OnLiterals.{serde_json_on_literals}
-use Rattle.serde_json.specs.Data.{string}
-use Rattle.serde_json.specs.Written.{compact_text}
-use Rattle.raft_base.specs.declared.errors.Error.{Error}
-use Rattle.raft_base.specs.declared.pipe_log.LogQueue.{LogQueue}
-use Rattle.raft_engine.specs.declared.recovered.CutTail.{CutTail}
-use Rattle.raft_listing.specs.Reasons.{reason_text}
-use Rattle.raft_report.specs.JsonData.{json_line}
-use Rattle.raft_report.specs.JsonLines.{queue_data}
-use Rattle.raft_inspect.specs.Printed.{word_of}
-use Rattle.raft_inspect.specs.PrintedJson.{cut_data, refused_data, verdict_data}
+use Rattle.raft_inspect.proofs.Common.{◌≡◌, ℕ, Bool, true, false, List, ◌++◌, codes, decimal, refl, sym, ap, ◌∙◌, append_assoc, None, Some, serde_json_on_literals, string, compact_text, Error, LogQueue, CutTail, reason_text, json_line, queue_data, word_of, cut_data, refused_data}
+use Rattle.raft_inspect.proofs.Common.{verdict_data}
 
 -- two pieces in front of what ends a line
 in_front : (a x rest end : List ℕ) → end ≡ rest ++ codes "\n" → a ++ (x ++ end) ≡ (a ++ (x ++ rest)) ++ codes "\n"

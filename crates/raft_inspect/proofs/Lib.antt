@@ -1,3 +1,4 @@
+mod Common
 pub mod OpeningLemmas
 pub mod TextLemmas
 pub mod PrintedLemmas

@@ -1,27 +1,8 @@
 -- What an opening would do, by what a reading of the files says.
-use Rattle.std.proofs.Common.{◌≡◌, ◌≢◌, ◌∙◌, ◌++◌, ℕ, List, Result, Ok, Err, IfErr, true, refl, subst, sym}
-use Rattle.raft_base.specs.declared.errors.Error.{Error}
+use Rattle.raft_inspect.proofs.Common.{◌≡◌, ◌≢◌, ◌∙◌, ◌++◌, ℕ, List, Result, Ok, Err, IfErr, true, refl, subst, sym, Error, FileId, Append, Rewrite, Version, NumberedBytes, IoError, FileSize, IsTailTold, tail_of, FoundRecordsLast, AreReadFound, reading_asks, FoundFilesAreReady}
+use Rattle.raft_inspect.proofs.Common.{FoundFilesAreStored, found_asks, ReadFiles, Reading, Recovered, TolerateTornTail, opened_so, IsReadingOf, IsUntried, AreRefusedFor, AreTablesOf, CutsNothing, HoldsOfRead, IsAcceptedSo, IsOpenedSo, IsOpeningOf, is_refused_read, IsUncut, Opening, Opens}
+use Rattle.raft_inspect.proofs.Common.{Refuses}
 use Rattle.raft_base.specs.declared.errors.Error.TheVariants as errors
-use Rattle.raft_base.specs.declared.pipe_log.FileId.{FileId}
-use Rattle.raft_base.specs.declared.pipe_log.LogQueue.TheVariants.{Append, Rewrite}
-use Rattle.raft_base.specs.declared.pipe_log.Version.{Version}
-use Rattle.raft_files.specs.Asks.{NumberedBytes}
-use Rattle.raft_reading.specs.IoErrors.{IoError}
-use Rattle.raft_reading.specs.declared.queue_files.FileSize.{FileSize}
-use Rattle.raft_engine.specs.CutTails.{IsTailTold, tail_of}
-use Rattle.raft_engine.specs.FoundRecords.{FoundRecordsLast}
-use Rattle.raft_engine.specs.ReadFound.{AreReadFound, reading_asks}
-use Rattle.raft_engine.specs.StoredFound.{FoundFilesAreReady, FoundFilesAreStored, found_asks}
-use Rattle.raft_engine.specs.declared.reading.Reading.{Reading}
-use Rattle.raft_engine.specs.declared.recovered.Recovered.{Recovered}
-use Rattle.raft_engine.specs.declared.recovery_mode.RecoveryMode.TheVariants.{TolerateTornTail}
-use Rattle.raft_engine.proofs.OpenedLemmas.{opened_so}
-use Rattle.raft_opening.specs.ReadOnce.{IsReadingOf}
-use Rattle.raft_inspect.specs.Faults.{IsUntried}
-use Rattle.raft_inspect.specs.Openings.{AreRefusedFor, AreTablesOf, CutsNothing, HoldsOfRead, IsAcceptedSo, IsOpenedSo, IsOpeningOf, is_refused_read}
-use Rattle.raft_inspect.specs.SoundFiles.{IsUncut}
-use Rattle.raft_inspect.specs.declared.opening.Opening.{Opening}
-use Rattle.raft_inspect.specs.declared.opening.Opening.TheVariants.{Opens, Refuses}
 
 -- the tables of a reading are those of an engine that is opened
 tables_of : (ready : FoundFilesAreReady) (stored : FoundFilesAreStored) (lasting : FoundRecordsLast) (version : Version) (append rewrite : List NumberedBytes) (reading : Reading)
@@ -44,9 +25,9 @@ module _ (Gives : FileId → ℕ → List ℕ → Type 0) (Fails : FileId → �
   holds_more P Q more h = record { append_files = h.append_files; rewrite_files = h.rewrite_files; given = h.given; holds = more h.append_files h.rewrite_files h.holds }
 
   -- what was read
-  pub read_so : (ready : FoundFilesAreReady) (stored : FoundFilesAreStored) (lasting : FoundRecordsLast) (reading : Reading) → IsReadingOf Gives TolerateTornTail version append rewrite reading
-      → HoldsOfRead Gives append rewrite (IsAcceptedSo version reading)
-  read_so ready stored lasting reading is =
+  pub read_so : (ready : FoundFilesAreReady) (stored : FoundFilesAreStored) (lasting : FoundRecordsLast) (files : ReadFiles) → IsReadingOf Gives TolerateTornTail version append rewrite files
+      → HoldsOfRead Gives append rewrite (IsAcceptedSo version files.reading)
+  read_so ready stored lasting files is =
       let over = is.2 in
       record {
         append_files = is.0;
@@ -56,7 +37,7 @@ module _ (Gives : FileId → ℕ → List ℕ → Type 0) (Fails : FileId → �
           accepted = over.accepted;
           append_told = over.read.append_told;
           rewrite_told = over.read.rewrite_told;
-          are_tables = tables_of ready stored lasting version is.0 is.1 reading over.read;
+          are_tables = tables_of ready stored lasting version is.0 is.1 files.reading over.read;
         };
       }
 

@@ -1,17 +1,6 @@
 -- Scans that are printed one behind another.
-use Rattle.std.proofs.Common.{◌≡◌, ℕ, List, [], ◌∷◌, ◌++◌, Option, Some, None, sym, ap, ◌∙◌, subst, append_assoc, append-nil}
-use Rattle.std.specs.Io.KnownBytes.{Appends}
-use Rattle.raft_base.specs.declared.pipe_log.FileId.{FileId}
-use Rattle.raft_base.specs.declared.pipe_log.LogQueue.{LogQueue}
-use Rattle.raft_base.specs.declared.pipe_log.LogQueue.TheVariants.{Append, Rewrite}
-use Rattle.raft_base.specs.declared.pipe_log.Version.{Version}
-use Rattle.raft_reading.specs.declared.queue_files.FileSize.{FileSize}
-use Rattle.raft_listing.specs.declared.scan.FileScan.{FileScan}
-use Rattle.raft_survey.specs.FileScans.{AreScansOf, IsScanOf}
-use Rattle.raft_survey.proofs.SoundLemmas.{AreBegun, all_scanned, one_more}
-use Rattle.raft_report.specs.declared.form.Form.{Form}
-use Rattle.raft_inspect.specs.PrintedForms.{check_lines, ending_lines, scan_lines, scans_lines}
-use Rattle.raft_inspect.specs.declared.findings.Findings.{Findings}
+use Rattle.raft_inspect.proofs.Common.{◌≡◌, ℕ, List, [], ◌∷◌, ◌++◌, Option, Some, None, sym, ap, ◌∙◌, subst, append_assoc, append-nil, Appends, FileId, LogQueue, Append, Rewrite, Version, FileSize, FileScan, AreScansOf, IsScanOf, AreBegun, all_scanned, one_more, Form}
+use Rattle.raft_inspect.proofs.Common.{check_lines, ending_lines, scan_lines, scans_lines, Findings}
 
 -- ---- bytes behind bytes, where they are known
 

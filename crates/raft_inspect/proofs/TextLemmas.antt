@@ -1,5 +1,5 @@
 -- Texts one behind another.
-use Rattle.std.proofs.Common.{◌≡◌, ℕ, List, ◌++◌, if◌then◌else◌, is_ok, OnOk, Result, Ok, Err, ◌∙◌, ap, append_assoc}
+use Rattle.raft_inspect.proofs.Common.{◌≡◌, ℕ, List, ◌++◌, if◌then◌else◌, is_ok, OnOk, Result, Ok, Err, ◌∙◌, ap, append_assoc}
 
 pub two_added : (old a b mid new : List ℕ) → mid ≡ old ++ a → new ≡ mid ++ b → new ≡ old ++ (a ++ b)
 two_added old a b mid new is_mid is_new = is_new ∙ ap (λ (t : List ℕ). t ++ b) is_mid ∙ append_assoc old a b

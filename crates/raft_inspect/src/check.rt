@@ -23,7 +23,7 @@ use std::io::Write;
 use std::thread::Threads;
 
 /// Checks the files of both queues, and prints what is found: the lines of each file as soon as it is read, then what an opening
-/// would do, and the last word. The files are read in pieces, twice: for the scans, and for the opening that is tried.
+/// would do, and the verdict. The files are read in pieces, twice: for the scans, and for the opening that is tried.
 ///
 /// # Errors
 ///
@@ -111,7 +111,7 @@ fn print_scans<S: ReadFiles, W: Write>(
     Ok(scans)
 }
 
-/// Scans a file, behind the one of this number, and prints what is found in it.
+/// Scans a file, and prints what is found in it. `last` is the number of the file before it, `None` where it is the first.
 ///
 /// # Errors
 ///
@@ -136,11 +136,11 @@ fn scan_and_print<S: ReadFiles, W: Write>(
     Ok(scan)
 }
 
-/// Prints what a scan of a file finds.
+/// Prints what a scan of a file finds; `last` is the number of the file before it.
 ///
 /// # Errors
 ///
-/// `Output`, `Files` with `Memory`.
+/// `Output` where the output takes no more, `Files` with `Memory`.
 fn print_scan<W: Write>(
     form: Form,
     alloc: Global,
@@ -154,16 +154,16 @@ fn print_scan<W: Write>(
     ensures fault { IfErr result IsUnprinted }
 {
     let mut text = String::new(alloc);
-    append_scan_as(form, alloc, queue, last, scan, &mut text)?;
+    append_scan_in_form(form, alloc, queue, last, scan, &mut text)?;
     write_text(out, text.as_str())
 }
 
-/// Appends what a scan of a file finds.
+/// Appends what a scan of a file finds, as text or as JSON; `last` is the number of the file before it.
 ///
 /// # Errors
 ///
 /// Want of memory. Some lines may then be appended.
-fn append_scan_as(
+fn append_scan_in_form(
     form: Form,
     alloc: Global,
     queue: LogQueue,
@@ -180,11 +180,11 @@ fn append_scan_as(
     }
 }
 
-/// Prints the lines behind those of the files.
+/// Prints the end of a check: which queue has no files, what an opening would do, and the verdict.
 ///
 /// # Errors
 ///
-/// `Output`, `Files` with `Memory`.
+/// `Output` where the output takes no more, `Files` with `Memory`.
 fn print_ending<W: Write>(
     form: Form,
     alloc: Global,
@@ -195,16 +195,16 @@ fn print_ending<W: Write>(
     ensures fault { IfErr result IsUnprinted }
 {
     let mut text = String::new(alloc);
-    append_ending_as(form, alloc, found, &mut text)?;
+    append_ending_in_form(form, alloc, found, &mut text)?;
     write_text(out, text.as_str())
 }
 
-/// Appends the lines behind those of the files.
+/// Appends the end of a check, as text or as JSON.
 ///
 /// # Errors
 ///
 /// Want of memory. Some lines may then be appended.
-fn append_ending_as(
+fn append_ending_in_form(
     form: Form,
     alloc: Global,
     found: &Findings,
@@ -218,7 +218,7 @@ fn append_ending_as(
     }
 }
 
-/// Appends the lines behind those of the files: which queues have none, what an opening would do, and the last word.
+/// Appends the end of a check: which queue has no files, what an opening would do, and the verdict.
 ///
 /// # Errors
 ///
@@ -232,7 +232,11 @@ fn append_ending(found: &Findings, text: &mut String) -> AllocResult<()>
     append_verdict(found, text)
 }
 
-/// Appends the last word, as a line.
+/// Appends the verdict, as a line.
+///
+/// # Errors
+///
+/// Want of memory. A part may then be appended.
 fn append_verdict(found: &Findings, text: &mut String) -> AllocResult<()>
     ensures { OnOk result (string_bytes text.new ≡ string_bytes text.old ++ (verdict_word found.now ++ codes "\n")) }
 {

@@ -18,13 +18,13 @@ use std::alloc::Global;
 use std::io::Write;
 use std::thread::Threads;
 
-/// Finds out what an opening of files would do, which are read in pieces, prints that, and then cuts off what it would. Of files that are
-/// refused nothing is asked. The files that are read and those that are cut have to be the same ones.
+/// Finds out what an opening by `workers` threads would do with files, which are read in pieces, prints that, and then cuts off what the
+/// opening would. Of files that an opening refuses nothing is asked. `source` and `files` have to be the same files.
 ///
 /// # Errors
 ///
 /// `Output` where the output takes no more, and `Files` with `Memory`, or with `Io` where the system refuses a read: nothing is asked of the
-/// files then. `Files` with the error of [`EngineFiles::truncate`], and some of it may be cut.
+/// files then. `Files` with the error of [`EngineFiles::truncate`]; the tail of the append queue may be cut off then.
 pub fn cut_as_opened<R: Threads + Sync, S: ReadFiles, F: EngineFiles, W: Write>(
     rt: &R,
     alloc: Global,
@@ -54,7 +54,7 @@ pub fn cut_as_opened<R: Threads + Sync, S: ReadFiles, F: EngineFiles, W: Write>(
 ///
 /// # Errors
 ///
-/// Those of [`EngineFiles::truncate`]. Some of it may be cut.
+/// Those of [`EngineFiles::truncate`]. The tail of the append queue may be cut off then.
 fn cut_tails<F: EngineFiles>(opening: &Opening, files: &mut F) -> Result<()>
     ensures ok { OnOk result (F.asked files.new ≡ opening_cuts opening.now ++ F.asked files.old) }
     ensures err { IfErr result (FailsAmong F.may_fail (opening_cuts opening.now) (F.asked files.old) (F.asked files.new)) }
@@ -68,7 +68,7 @@ fn cut_tails<F: EngineFiles>(opening: &Opening, files: &mut F) -> Result<()>
     }
 }
 
-/// Cuts off the tail of a queue's last file, if there is one.
+/// Cuts off the tail of a queue's last file; asks nothing for `None`.
 ///
 /// # Errors
 ///

@@ -38,7 +38,7 @@ impl Findings {
         }
     }
 
-    /// Returns the last word of a check: `empty` where there are no files, `sound` where nothing is wrong with them, else `damaged`.
+    /// Returns the verdict of a check: `empty` where there are no files, `sound` where nothing is wrong with them, else `damaged`.
     pub fn verdict(&self) -> &'static str
         ensures { result.now ≡ verdict_word self.now }
     {

@@ -1,4 +1,5 @@
-//! What an opening would do, and a check's last word, as lines of JSON.
+//! What an opening would do, and the verdict of a check, as lines of JSON. Each call fails for want of memory alone, and a part may then be
+//! appended.
 
 ghost use Rattle.std.specs.Prelude.{◌≡◌, ◌++◌, string_bytes, None, Some, OnOk};
 ghost use Rattle.raft_report.specs.JsonData.{json_line};
@@ -42,7 +43,7 @@ fn append_json_refused(alloc: Global, error: &Error, text: &mut String) -> Alloc
     writeln!(text, "{{\"opening\":\"refused\",\"why\":{why}}}")
 }
 
-/// Appends what an opening would cut off from a queue's last file.
+/// Appends what an opening would cut off from a queue's last file; that it is nothing for `None`.
 fn append_json_cut(
     alloc: Global,
     queue: LogQueue,
@@ -68,7 +69,7 @@ fn append_json_uncut(queue: LogQueue, text: &mut String) -> AllocResult<()>
     )
 }
 
-/// Appends that this tail is cut off from a queue.
+/// Appends that a tail is cut off from a queue, and why.
 fn append_json_tail(
     alloc: Global,
     queue: LogQueue,
@@ -88,7 +89,7 @@ fn append_json_tail(
     )
 }
 
-/// Appends the lines of a check behind those of the files: which queues have none, what an opening would do, and the last word.
+/// Appends the end of a check: which queue has no files, what an opening would do, and the verdict.
 ///
 /// # Errors
 ///
@@ -106,7 +107,7 @@ pub(crate) fn append_json_ending(
     append_json_verdict(found, text)
 }
 
-/// Appends the line of a queue without files, if it has none.
+/// Appends the line of a queue without files, where it has no scans.
 fn append_json_if_empty(
     queue: LogQueue,
     scans: &Vec<FileScan>,
@@ -120,7 +121,7 @@ fn append_json_if_empty(
     Ok(())
 }
 
-/// Appends the line with which a check ends: whether all is sound. Only memory may lack.
+/// Appends the line with which a check ends: its verdict.
 fn append_json_verdict(found: &Findings, text: &mut String) -> AllocResult<()>
     ensures { OnOk result (string_bytes text.new ≡ string_bytes text.old ++ json_line (verdict_data (verdict_word found.now))) }
 {

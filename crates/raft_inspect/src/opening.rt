@@ -20,7 +20,7 @@ use std::thread::Threads;
 /// What an opening would do with files.
 #[derive(Drop)]
 pub enum Opening {
-    /// It opens them, and cuts these tails off first.
+    /// It opens them, and first cuts off the tails that the value has.
     Opens(Recovered),
     /// It refuses them for this reason, and changes nothing.
     Refuses(Error),
@@ -38,7 +38,7 @@ impl Opening {
     }
 }
 
-/// Finds out what an opening by so many workers would do with files, which are read in pieces and stay as they are.
+/// Finds out what an opening by `workers` threads would do with files, which are read in pieces and stay as they are.
 ///
 /// # Errors
 ///
@@ -57,18 +57,18 @@ pub fn try_opening<R: Threads + Sync, S: ReadFiles>(
     ensures untried { IfErr result (λ e. e ≢ Error.Memory → IsUntried (S.gives source.now) (S.may_fail source.now) version workers
         sizes.now.append.items sizes.now.rewrite.items e) }
 {
-    match read_aside(rt, alloc, source, version, sizes, workers) {
+    match read_both_queues(rt, alloc, source, version, sizes, workers) {
         Ok(reading) => Ok(Opening::Opens(tails_of(reading))),
         Err(error) => refusal_for(error),
     }
 }
 
-/// Reads files in pieces, as an opening by so many workers does, and asks nothing of them.
+/// Reads the files of both queues in pieces, as an opening by `workers` threads does, and asks nothing of them.
 ///
 /// # Errors
 ///
 /// Those of an opening that refuses the files; `Io` where a read fails; `Memory`.
-pub(crate) fn read_aside<R: Threads + Sync, S: ReadFiles>(
+pub(crate) fn read_both_queues<R: Threads + Sync, S: ReadFiles>(
     rt: &R,
     alloc: Global,
     source: &S,
@@ -84,10 +84,11 @@ pub(crate) fn read_aside<R: Threads + Sync, S: ReadFiles>(
     found_files_are_stored();
     let mode = RecoveryMode::TolerateTornTail;
     let (append, rewrite) = (sizes.append.as_slice(), sizes.rewrite.as_slice());
-    read_in_pieces(rt, alloc, source, mode, version, append, rewrite, workers)
+    let read = read_in_pieces(rt, alloc, source, mode, version, append, rewrite, workers)?;
+    Ok(read.reading)
 }
 
-/// Returns the tails that are missing of what was read.
+/// Returns the tails that an opening would cut off behind what was read.
 fn tails_of(reading: Reading) -> Recovered
     ensures { (result.append ≡ tail_of reading.append_missing) × (result.rewrite ≡ tail_of reading.rewrite_missing) }
 {
@@ -97,11 +98,11 @@ fn tails_of(reading: Reading) -> Recovered
     }
 }
 
-/// Returns that files are refused for this reason. Want of memory is none, nor is a read that the system refuses.
+/// Returns that files are refused with an error. Want of memory is no refusal of theirs, nor is a read that the system refuses.
 ///
 /// # Errors
 ///
-/// The reason, where it is none.
+/// The error itself, where it is no refusal.
 fn refusal_for(error: Error) -> Result<Opening>
     ensures ok { IfOk result (λ opening. (opening ≡ Refuses error) × (error ≢ Error.Memory) × (is_refused_read error ≡ false)) }
     ensures same { IfErr result (λ e. e ≡ error) }

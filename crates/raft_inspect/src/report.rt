@@ -1,4 +1,5 @@
-//! The lines of what an opening would do, and of a queue without files.
+//! The lines of what an opening would do, and of a queue without files. Each call that appends fails for want of memory alone, and a part
+//! may then be appended.
 
 ghost use Rattle.std.specs.Prelude.{◌≡◌, ◌++◌, codes, string_bytes, None, Some, IfErr, OnOk};
 ghost use Rattle.std.specs.Io.KnownBytes.{Appends};
@@ -33,7 +34,7 @@ pub fn print_opening<W: Write>(
     ensures fault { IfErr result IsUnprinted }
 {
     let mut text = String::new(alloc);
-    append_opening_as(form, alloc, opening, &mut text)?;
+    append_opening_in_form(form, alloc, opening, &mut text)?;
     write_text(out, text.as_str())
 }
 
@@ -42,7 +43,7 @@ pub fn print_opening<W: Write>(
 /// # Errors
 ///
 /// Want of memory. Some of it may then be appended.
-fn append_opening_as(
+fn append_opening_in_form(
     form: Form,
     alloc: Global,
     opening: &Opening,
@@ -81,7 +82,7 @@ fn append_refused(error: &Error, text: &mut String) -> AllocResult<()>
     append_reason_line(error, text)
 }
 
-/// Appends what an opening would cut off from a queue's last file.
+/// Appends what an opening would cut off from a queue's last file; that it is nothing for `None`.
 fn append_cut(queue: LogQueue, cut: &Option<CutTail>, text: &mut String) -> AllocResult<()>
     ensures { OnOk result (string_bytes text.new ≡ string_bytes text.old ++ cut_line queue cut.now) }
 {
@@ -102,7 +103,7 @@ fn append_uncut(queue: LogQueue, text: &mut String) -> AllocResult<()>
     )
 }
 
-/// Appends that this tail is cut off from a queue, and why.
+/// Appends that a tail is cut off from a queue, and why.
 fn append_tail(queue: LogQueue, tail: &CutTail, text: &mut String) -> AllocResult<()>
     ensures { OnOk result (string_bytes text.new ≡ string_bytes text.old ++ cut_line queue (Some tail.now)) }
 {
@@ -110,7 +111,7 @@ fn append_tail(queue: LogQueue, tail: &CutTail, text: &mut String) -> AllocResul
     append_reason_line(&tail.error, text)
 }
 
-/// Appends that this tail is cut off from a queue.
+/// Appends that a tail is cut off from a queue, up to why.
 fn append_tail_words(queue: LogQueue, tail: &CutTail, text: &mut String) -> AllocResult<()>
     ensures { OnOk result (string_bytes text.new ≡ string_bytes text.old ++ tail_words queue tail.now) }
 {
@@ -130,7 +131,7 @@ fn append_reason_line(reason: &Error, text: &mut String) -> AllocResult<()>
     text.push_str("\n")
 }
 
-/// Appends the line of a queue without files, if it has none.
+/// Appends the line of a queue without files, where it has no scans.
 ///
 /// # Errors
 ///

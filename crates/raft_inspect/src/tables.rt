@@ -3,7 +3,7 @@
 ghost use Rattle.std.specs.Prelude.{◌≢◌, ◌<◌, ◌≤◌, IfErr, IfOk};
 ghost use Rattle.raft_inspect.specs.Openings.{AreRefusedFor, AreTablesOf, HoldsOfRead};
 
-use crate::opening::read_aside;
+use crate::opening::read_both_queues;
 use raft_base::{Error, Result, Version};
 use raft_reading::ReadFiles;
 use raft_recover::MemTableAccessor;
@@ -11,7 +11,7 @@ use raft_survey::BothSizes;
 use std::alloc::Global;
 use std::thread::Threads;
 
-/// Reads the tables that an engine would have which is opened over the files by so many workers. The files are read in pieces, and stay as they
+/// Returns the tables of an engine that would be opened over files by `workers` threads. The files are read in pieces, and stay as they
 /// are.
 ///
 /// # Errors
@@ -31,6 +31,6 @@ pub fn read_tables<R: Threads + Sync, S: ReadFiles>(
     ensures refused { IfErr result (λ e. e ≢ Error.Memory → AreRefusedFor (S.gives source.now) (S.may_fail source.now) version workers
         sizes.now.append.items sizes.now.rewrite.items e) }
 {
-    let reading = read_aside(rt, alloc, source, version, sizes, workers)?;
+    let reading = read_both_queues(rt, alloc, source, version, sizes, workers)?;
     Ok(reading.accessor)
 }

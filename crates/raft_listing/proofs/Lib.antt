@@ -1,3 +1,4 @@
+mod Common
 pub mod WalkLemmas
 pub mod TextLemmas
 pub mod LossLemmas

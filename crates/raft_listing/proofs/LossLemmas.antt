@@ -1,16 +1,6 @@
 -- What is said of the entries of items.
-use Rattle.std.proofs.Common.{◌≡◌, ℕ, List, [], ◌∷◌, ◌++◌, Option, Some, None, inl, inr, refl, sym, ◌∙◌, ap, subst, append_assoc, append-nil}
-use Rattle.std.specs.List.{AllByRecursion}
-use Rattle.raft_base.specs.declared.entry_index.EntryIndex.{EntryIndex}
-use Rattle.raft_records.specs.FilePart.{Part}
-use Rattle.raft_records.specs.Item.{Item}
-use Rattle.raft_listing.specs.Dumped.{HasBytes}
-use Rattle.raft_listing.specs.Scanned.{AreLost, AreSaidOf, AreSaidOfEntries}
-use Rattle.raft_listing.specs.SoundParts.{CanBeRead, IsLossOf}
-use Rattle.raft_listing.specs.Stretches.{IsItemSaid, IsLossIn, IsTakenIn, said_of_stretch, stretch_of}
-use Rattle.raft_listing.specs.declared.damage.Damage.{Damage}
-use Rattle.raft_listing.specs.declared.damage.Loss.{Loss}
-use Rattle.raft_listing.specs.declared.scan.Stretch.{Stretch}
+use Rattle.raft_listing.proofs.Common.{◌≡◌, ℕ, List, [], ◌∷◌, ◌++◌, Option, Some, None, inl, inr, refl, sym, ◌∙◌, ap, subst, append_assoc, append-nil, AllByRecursion, EntryIndex, Part, Item, HasBytes, AreLost, AreSaidOf, AreSaidOfEntries, CanBeRead, IsLossOf, IsItemSaid}
+use Rattle.raft_listing.proofs.Common.{IsLossIn, IsTakenIn, said_of_stretch, stretch_of, Damage, Loss, Stretch}
 
 -- an entry whose bytes stand in its block can be read
 pub bytes_can_be_read : (part : Part) (entry : EntryIndex) (bytes : List ℕ) → HasBytes part entry bytes → CanBeRead part entry

@@ -1,10 +1,5 @@
 -- Bytes that are printable, and texts in one line.
-use Rattle.std.proofs.Common.{◌≡◌, ℕ, zero, suc, List, [], ◌∷◌, ◌++◌, length, map, encode_utf8, encode_utf8_all, IsUtf8, IsAscii, ap, ◌∙◌, arith}
-use Rattle.std.proofs.lemmas.List.{nil_from_length}
-use Rattle.std.proofs.lemmas.Str.{IsUtf8-from_ascii, chars_past_char, chars-nil}
-use Rattle.std.specs.List.{AllByRecursion}
-use Rattle.raft_listing.specs.Dumped.{IsPrintable}
-use Rattle.raft_listing.specs.Reasons.{in_line, unbroken}
+use Rattle.raft_listing.proofs.Common.{◌≡◌, ℕ, zero, suc, List, [], ◌∷◌, ◌++◌, length, map, encode_utf8, encode_utf8_all, IsUtf8, IsAscii, ap, ◌∙◌, arith, nil_from_length, IsUtf8-from_ascii, chars_past_char, chars-nil, AllByRecursion, IsPrintable, in_line, unbroken}
 
 printable_is_ascii : (bytes : List ℕ) → AllByRecursion IsPrintable bytes → IsAscii bytes
 printable_is_ascii [] all i = omega arith

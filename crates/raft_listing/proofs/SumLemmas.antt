@@ -1,12 +1,6 @@
 -- The numbers of a scan, as it meets one thing after another.
-use Rattle.std.proofs.Common.{◌≡◌, ◌⊎◌, inl, inr, ℕ, ◌+◌, ◌-◌, ◌^◌, ◌<◌, ◌≤◌, min, leb, true, false, List, [], ◌∷◌, ◌++◌, filter, length, None, Some, refl, sym, ap, ◌∙◌, subst, arith}
-use Rattle.std.proofs.lemmas.Bool.Decides.{leb_tells}
-use Rattle.std.specs.List.{AllByRecursion}
-use Rattle.raft_records.specs.FilePart.{Part}
-use Rattle.raft_listing.specs.Scanned.{IsScanned, batches_after, read_after, unseen_after}
-use Rattle.raft_listing.specs.ScanSums.{IsDamage, IsDeadEnd, IsSummedUp, is_batch}
-use Rattle.raft_listing.specs.Walks.{AreVisited, Met, batch, damage}
-use Rattle.raft_listing.specs.declared.scan.FileScan.{FileScan}
+use Rattle.raft_listing.proofs.Common.{◌≡◌, ◌⊎◌, inl, inr, ℕ, ◌+◌, ◌-◌, ◌^◌, ◌<◌, ◌≤◌, min, leb, true, false, List, [], ◌∷◌, ◌++◌, filter, length, None, Some, refl, sym, ap, ◌∙◌, subst, arith, leb_tells, AllByRecursion, Part, IsScanned, batches_after, read_after, unseen_after}
+use Rattle.raft_listing.proofs.Common.{IsDamage, IsDeadEnd, IsSummedUp, is_batch, AreVisited, Met, batch, damage, FileScan}
 
 abbrev Seen : Type 0
 Seen = ℕ × Met

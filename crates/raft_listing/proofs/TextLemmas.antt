@@ -1,19 +1,7 @@
 -- Text that is made of pieces, one for each of some things.
-use Rattle.std.proofs.Common.{◌≡◌, inl, inr, ℕ, ◌<◌, List, [], ◌∷◌, ◌++◌, length, codes, slice_get, true, is_ok, if◌then◌else◌, OnOk, Option, Some, None, Result, Ok, Err, refl, sym, ◌∙◌, ap, subst, arith, append_assoc, append-nil}
-use Rattle.raft_base.specs.declared.entry_index.EntryIndex.{EntryIndex}
-use Rattle.raft_records.specs.FilePart.{Part}
-use Rattle.raft_records.specs.Group.{marker_byte}
-use Rattle.raft_records.specs.Item.{Item, Pair}
-use Rattle.raft_records.specs.declared.atomic_group.AtomicGroupStatus.{AtomicGroupStatus}
-use Rattle.raft_records.specs.declared.atomic_group.AtomicGroupStatus.TheVariants.{Begin, Middle, End}
-use Rattle.raft_listing.specs.Dumped.{Adds, AreContents, AreEntryLines, AreItemTexts, IsEntriesText, IsEntryShown, IsMetText, IsPairText, IsSelectedLine, IsSelectedText, IsShown, IsValueText, MarksGroup, entries_line, lost_text, op_words, status_words}
-use Rattle.raft_listing.specs.LossWords.{loss_words}
-use Rattle.raft_listing.specs.ReadBlocks.{AreBytesShown, IsReadOf}
-use Rattle.raft_listing.specs.Walks.{batch}
-use Rattle.raft_listing.specs.declared.blocks.BytesOfEntry.{BytesOfEntry}
-use Rattle.raft_listing.specs.declared.blocks.BytesOfEntry.TheVariants.{Read, Lost}
-use Rattle.raft_listing.specs.declared.damage.Loss.{Loss}
-use Rattle.raft_listing.specs.declared.selection.Selection.{Selection}
+use Rattle.raft_listing.proofs.Common.{◌≡◌, inl, inr, ℕ, ◌<◌, List, [], ◌∷◌, ◌++◌, length, codes, slice_get, true, is_ok, if◌then◌else◌, OnOk, Option, Some, None, Result, Ok, Err, refl, sym, ◌∙◌, ap, subst, arith, append_assoc, append-nil, EntryIndex, Part, marker_byte, Item}
+use Rattle.raft_listing.proofs.Common.{Pair, AtomicGroupStatus, Begin, Middle, End, Adds, AreContents, AreEntryLines, AreItemTexts, IsEntriesText, IsEntryShown, IsMetText, IsPairText, IsSelectedLine, IsSelectedText, IsShown, IsValueText, MarksGroup, entries_line, lost_text}
+use Rattle.raft_listing.proofs.Common.{op_words, status_words, loss_words, AreBytesShown, IsReadOf, batch, BytesOfEntry, Read, Lost, Loss, Selection}
 
 -- the text so far: with that of what is left it is all
 pub record IsAdding {X : Type 0} (AreTexts : List X → List ℕ → Type 0) (all : List X) (old : List ℕ) (left : List X) (new : List ℕ) : Type 0 where
@@ -110,10 +98,6 @@ pub no_status : (item : Item) (byte : ℕ) → marker_byte item.content ≡ Some
 no_status item byte is above Begin marks = let same : Some byte ≡ Some 0 = sym is ∙ marks in let n : byte ≡ 0 = cc in absurd (omega (arith, n, above))
 no_status item byte is above Middle marks = let same : Some byte ≡ Some 1 = sym is ∙ marks in let n : byte ≡ 1 = cc in absurd (omega (arith, n, above))
 no_status item byte is above End marks = let same : Some byte ≡ Some 2 = sym is ∙ marks in let n : byte ≡ 2 = cc in absurd (omega (arith, n, above))
-
--- the text of a batch of which no item is selected, or of one that some are of
-pub batch_unselected : (s : Selection) (part : Part) (at next : ℕ) (items : List Item) (lines : List ℕ) → AreItemTexts s part items lines → lines ≡ [] → IsMetText s part at (batch items next) []
-batch_unselected s part at next items lines are none = (lines, are, inl (none, refl))
 
 -- what is shown of the bytes of an entry, or of their loss, is shown of the entry
 pub shown_of : (part : Part) (entry : EntryIndex) (read : BytesOfEntry) → IsReadOf part entry read → (text : List ℕ) → AreBytesShown read text → IsEntryShown part entry text

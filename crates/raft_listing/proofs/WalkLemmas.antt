@@ -1,12 +1,7 @@
 -- A walk through a part, as far as it has come.
-use Rattle.std.proofs.Common.{◌≡◌, ◌≢◌, ℕ, ◌<◌, ◌≤◌, List, [], ◌∷◌, length, drop, Option, Some, None, IfNone, IfSome, MatchOption, refl, sym, subst, arith}
-use Rattle.raft_codec.specs.Reading.{HasNoFront}
-use Rattle.raft_base.specs.Signature.{signature_in}
-use Rattle.raft_base.specs.declared.errors.Error.{Error}
+use Rattle.raft_listing.proofs.Common.{◌≡◌, ◌≢◌, ℕ, ◌<◌, ◌≤◌, List, [], ◌∷◌, length, drop, Option, Some, None, IfNone, IfSome, MatchOption, refl, sym, subst, arith, HasNoFront, signature_in, Error, IsNextFault, Part, IsReadable, AreVisited, EndsByHeader, EndsNowhere, HasWalked}
+use Rattle.raft_listing.proofs.Common.{IsMet, IsVisited, IsWalkFrom, Met, damage}
 use Rattle.raft_base.specs.declared.errors.Error.TheVariants as errors
-use Rattle.raft_records.specs.FilePart.{IsNextFault, Part}
-use Rattle.raft_records.specs.LogBatch.{IsReadable}
-use Rattle.raft_listing.specs.Walks.{AreVisited, EndsByHeader, EndsNowhere, HasWalked, IsMet, IsVisited, IsWalkFrom, Met, damage}
 
 -- what is met where no batch can be read
 pub damage_met : (part : Part) (at : ℕ) (next : Option ℕ) (e : Error) → e ≢ errors.Memory → HasNoFront (λ bytes. IsReadable bytes (signature_in part.version part.id.seq)) (drop at part.bytes)

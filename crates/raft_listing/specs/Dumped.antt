@@ -211,9 +211,9 @@ IsMetText s part at (batch items next) text =
     (lines : List ℕ) × AreItemTexts s part items lines × (((lines ≡ []) × (text ≡ [])) ⊎ ((lines ≢ []) × (text ≡ batch_line part at next (length items) ++ lines)))
 IsMetText s part at (damage next e) text = text ≡ damage_line part at e
 
--- it comes behind what was written, where that is known
-abbrev pub IsDumped : Selection → Part → ℕ → Met → Option (List ℕ) → Option (List ℕ) → Type 0
-IsDumped s part at met old new = (text : List ℕ) × IsMetText s part at met text × Appends old new text
+-- a text that says what is met comes behind what was written, where that is known
+abbrev pub IsDumped : (Selection → Part → ℕ → Met → List ℕ → Type 0) → Selection → Part → ℕ → Met → Option (List ℕ) → Option (List ℕ) → Type 0
+IsDumped Says s part at met old new = (text : List ℕ) × Says s part at met text × Appends old new text
 
 -- whether a batch couldn't be read so far
 abbrev pub is_damaged_after : Met → Bool → Bool

@@ -15,7 +15,7 @@ use raft_records::{FilePart, LogItem, LogItemContent, entries_block_in};
 pub struct ReadBlock<'a> {
     /// Where it stands.
     pub place: FileBlockHandle,
-    /// The entry bytes, if an entry block stands there whose checksum holds.
+    /// The entry bytes; `None` where no entry block stands there, or its checksum doesn't hold.
     pub entries: Option<&'a [u8]>,
 }
 
@@ -28,7 +28,7 @@ pub enum BytesOfEntry<'a> {
     Lost(Loss),
 }
 
-/// Reads the block at a place.
+/// Reads the block at a place; its entry bytes are `None` where no entry block stands there, or its checksum doesn't hold.
 ///
 /// # Errors
 ///
@@ -51,7 +51,7 @@ fn read_block(part: &FilePart, place: FileBlockHandle) -> Result<ReadBlock<'_>>
     }
 }
 
-/// Reads the block of the first entry of items, if they have one.
+/// Reads the block of the first item of a batch whose first entry has one; `None` where there is no such item.
 ///
 /// # Errors
 ///
@@ -72,7 +72,8 @@ pub(crate) fn first_block<'a>(
     Ok(None)
 }
 
-/// Reads the block of the first entry of items, if they have one, and the bytes of entries are asked for.
+/// Reads the block of the first item of a batch whose first entry has one, where the bytes of entries are selected; `None` where they aren't,
+/// or there is no such item.
 ///
 /// # Errors
 ///
@@ -91,7 +92,7 @@ pub fn needed_block<'a>(
     Ok(None)
 }
 
-/// Returns where the first entry of an item stands, if it has one.
+/// Returns where the block of an item's first entry stands; `None` where it has no entry, or that has no place.
 fn first_place(item: &LogItem) -> Option<FileBlockHandle> {
     match &item.content {
         LogItemContent::EntryIndexes(entries) => entries.0.first()?.entries,
@@ -99,7 +100,7 @@ fn first_place(item: &LogItem) -> Option<FileBlockHandle> {
     }
 }
 
-/// Returns why the bytes of an entry can't be read; nothing where they can be. A block that is known isn't read again.
+/// Returns why the bytes of an entry can't be read, `None` where they can be. The block `known` isn't read again.
 ///
 /// # Errors
 ///
@@ -120,7 +121,7 @@ pub(crate) fn loss_of(
     }
 }
 
-/// Returns the bytes of an entry, or why they can't be read. A block that is known isn't read again.
+/// Returns the bytes of an entry, or why they can't be read. The block `known` isn't read again.
 ///
 /// # Errors
 ///
@@ -141,7 +142,7 @@ pub fn bytes_of_entry<'a>(
     Ok(bytes_in(block, entry))
 }
 
-/// Returns the block at a place: the one that is known, or what is read.
+/// Returns the block at a place: `known`, if it stands there, or one that is read.
 ///
 /// # Errors
 ///

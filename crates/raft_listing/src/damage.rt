@@ -45,7 +45,7 @@ pub enum Loss {
 }
 
 impl Loss {
-    /// Returns the words for it.
+    /// Returns the words that say so in a line.
     pub fn words(self) -> &'static str
         ensures { result.now ≡ loss_words self }
     {
@@ -58,7 +58,7 @@ impl Loss {
     }
 }
 
-/// Appends in words why something can't be read, or is refused, in one line.
+/// Appends in words why something can't be read, or is refused, in one line: line breaks of the reason are spaces.
 ///
 /// # Errors
 ///
@@ -67,10 +67,10 @@ pub fn append_reason(reason: &Error, text: &mut String) -> AllocResult<()>
     ensures { OnOk result (string_bytes text.new ≡ string_bytes text.old ++ reason_text reason.now) }
 {
     match reason {
-        Error::InvalidArgument(why) => append_named("Invalid Argument: ", why, text),
-        Error::Corruption(why) => append_named("Corruption: ", why, text),
-        Error::TryAgain(why) => append_named("TryAgain Error: ", why, text),
-        Error::Other(why) => append_named("Other Error: ", why, text),
+        Error::InvalidArgument(why) => append_named_reason("Invalid Argument: ", why, text),
+        Error::Corruption(why) => append_named_reason("Corruption: ", why, text),
+        Error::TryAgain(why) => append_named_reason("TryAgain Error: ", why, text),
+        Error::Other(why) => append_named_reason("Other Error: ", why, text),
         Error::Io(why) => text.push_str(io_words(why)),
         Error::Codec(_) => text.push_str("Codec Error: a number is cut short, or is none"),
         Error::Message(_) => text.push_str("Message Error"),
@@ -92,8 +92,12 @@ fn io_words(error: &io::Error) -> &'static str
     }
 }
 
-/// Appends a name, and behind it a reason in one line.
-fn append_named(name: &str, why: &String, text: &mut String) -> AllocResult<()>
+/// Appends the name of an error, and behind it its reason in one line.
+///
+/// # Errors
+///
+/// Want of memory. Some of it may then be appended.
+fn append_named_reason(name: &str, why: &String, text: &mut String) -> AllocResult<()>
     ensures { OnOk result (string_bytes text.new ≡ string_bytes text.old ++ (name.now ++ in_line (string_bytes why.now))) }
 {
     text.push_str(name)?;

@@ -1,4 +1,5 @@
-//! The lines of items.
+//! The lines of items. `known` is the entry block that was read already, so that it isn't read for each entry. Each call that appends fails
+//! for want of memory alone, and a part may then be appended.
 
 ghost use Rattle.std.specs.Prelude.{◌≡◌, ◌++◌, codes, map, option_map, string_bytes, IfErr, IfOk, IfSome, OnOk};
 ghost use Rattle.raft_records.specs.Item.{item_of, pair, pair_of};
@@ -16,7 +17,7 @@ use raft_records::{
 };
 use std::alloc::Global;
 
-/// Appends the lines of those items of a batch that are selected.
+/// Appends the lines of the selected items of a batch.
 ///
 /// # Errors
 ///
@@ -33,13 +34,13 @@ pub(crate) fn append_items(
 {
     let block = needed_block(part, items, selection)?;
     for item in items {
-        append_if_selected(part, item, selection, block, text)?;
+        append_item_if_selected(part, item, selection, block, text)?;
     }
     Ok(())
 }
 
-/// Appends the lines of an item, if it is selected.
-fn append_if_selected(
+/// Appends the lines of an item, if the item is selected.
+fn append_item_if_selected(
     part: &FilePart,
     item: &LogItem,
     selection: &Selection,
@@ -74,7 +75,7 @@ fn append_item(
     append_content(part, item, selection, known, text)
 }
 
-/// Appends what an item says.
+/// Appends what an item says: entries, a command, or the change of a key.
 fn append_content(
     part: &FilePart,
     item: &LogItem,
@@ -140,7 +141,7 @@ fn op_words(op_type: OpType) -> &'static str
     }
 }
 
-/// Appends a value, or how many bytes it has.
+/// Appends how many bytes a value has, or, where values are selected, the value; nothing for `None`.
 fn append_value(
     part: &FilePart,
     value: &Option<Vec<u8>>,
@@ -160,7 +161,7 @@ fn append_value(
     append_shown(part.allocator(), value.as_slice(), text)
 }
 
-/// Returns how an item marks the place of its batch in an atomic group, if it does.
+/// Returns how an item marks the place of its batch in an atomic group, `None` where it doesn't.
 ///
 /// # Errors
 ///
@@ -177,7 +178,7 @@ pub fn status_of(part: &FilePart, item: &LogItem) -> Result<Option<AtomicGroupSt
     }
 }
 
-/// Returns the words for the place of a batch in an atomic group.
+/// Returns the words for the place of a batch in an atomic group; none for `None`.
 fn status_words(status: Option<AtomicGroupStatus>) -> &'static str
     ensures { result.now ≡ status_words status }
 {
@@ -189,7 +190,7 @@ fn status_words(status: Option<AtomicGroupStatus>) -> &'static str
     }
 }
 
-/// Appends the entries of an item, and where values are asked for a line for each of them.
+/// Appends the entries of an item, and, where values are selected, a line for each selected entry.
 fn append_entries(
     part: &FilePart,
     entries: &[EntryIndex],
@@ -207,10 +208,10 @@ fn append_entries(
         return Ok(());
     };
     append_entries_line(first, entries.len(), text)?;
-    append_contents(part, entries, selection, known, text)
+    append_lines_if_asked(part, entries, selection, known, text)
 }
 
-/// Appends the rest of the line of so many entries, of which this one is the first.
+/// Appends the rest of the line of `count` entries, the first of which is `first`.
 fn append_entries_line(first: &EntryIndex, count: usize, text: &mut String) -> AllocResult<()>
     ensures { OnOk result (string_bytes text.new ≡ string_bytes text.old ++ entries_line first.now count) }
 {
@@ -220,8 +221,8 @@ fn append_entries_line(first: &EntryIndex, count: usize, text: &mut String) -> A
     text.push('\n')
 }
 
-/// Appends the lines of entries, where values are asked for.
-fn append_contents(
+/// Appends a line for each selected entry, where values are selected.
+fn append_lines_if_asked(
     part: &FilePart,
     entries: &[EntryIndex],
     selection: &Selection,
@@ -234,12 +235,12 @@ fn append_contents(
     ensures memory { IfErr result (λ e. e ≡ Error.Memory) }
 {
     if selection.values {
-        return append_lines(part, entries, selection, known, text);
+        return append_entry_lines(part, entries, selection, known, text);
     }
     Ok(())
 }
 
-/// Appends where an entry block stands.
+/// Appends where an entry block stands; nothing for `None`.
 fn append_place(place: &Option<FileBlockHandle>, text: &mut String) -> AllocResult<()>
     ensures { OnOk result (string_bytes text.new ≡ string_bytes text.old ++ place_words place.now) }
 {
@@ -250,7 +251,7 @@ fn append_place(place: &Option<FileBlockHandle>, text: &mut String) -> AllocResu
 }
 
 /// Appends a line for each entry that is selected.
-fn append_lines(
+fn append_entry_lines(
     part: &FilePart,
     entries: &[EntryIndex],
     selection: &Selection,
@@ -263,13 +264,13 @@ fn append_lines(
     ensures memory { IfErr result (λ e. e ≡ Error.Memory) }
 {
     for index in entries {
-        append_selected_line(part, index, selection, known, text)?;
+        append_line_if_selected(part, index, selection, known, text)?;
     }
     Ok(())
 }
 
-/// Appends the line of an entry, if it is selected.
-fn append_selected_line(
+/// Appends the line of an entry, if the entry is selected.
+fn append_line_if_selected(
     part: &FilePart,
     entry: &EntryIndex,
     selection: &Selection,
@@ -300,13 +301,13 @@ fn append_entry(
     ensures memory { IfErr result (λ e. e ≡ Error.Memory) }
 {
     write!(text, "    {} ", entry.index)?;
-    append_entry_shown(part, entry, known, text)?;
+    append_entry_bytes(part, entry, known, text)?;
     text.push('\n')?;
     Ok(())
 }
 
 /// Appends the bytes of an entry, or why they can't be read.
-fn append_entry_shown(
+fn append_entry_bytes(
     part: &FilePart,
     entry: &EntryIndex,
     known: Option<ReadBlock<'_>>,
@@ -318,12 +319,12 @@ fn append_entry_shown(
     ensures memory { IfErr result (λ e. e ≡ Error.Memory) }
 {
     let read = bytes_of_entry(part, entry, known)?;
-    append_read(part.allocator(), read, text)?;
+    append_bytes_or_loss(part.allocator(), read, text)?;
     Ok(())
 }
 
-/// Appends the bytes of an entry, or that they can't be read.
-fn append_read(alloc: Global, read: BytesOfEntry<'_>, text: &mut String) -> AllocResult<()>
+/// Appends the bytes of an entry that were read, or why they can't be.
+fn append_bytes_or_loss(alloc: Global, read: BytesOfEntry<'_>, text: &mut String) -> AllocResult<()>
     ensures { OnOk result (Adds (AreBytesShown read.entry) (string_bytes text.old) (string_bytes text.new)) }
 {
     match read {
@@ -339,7 +340,7 @@ fn append_loss(loss: Loss, text: &mut String) -> AllocResult<()>
     append_unreadable(loss.words(), text)
 }
 
-/// Appends that an entry can't be read, for this reason.
+/// Appends that an entry can't be read, and `why`.
 fn append_unreadable(why: &str, text: &mut String) -> AllocResult<()>
     ensures { OnOk result (string_bytes text.new ≡ string_bytes text.old ++ (codes "unreadable: " ++ why.now)) }
 {

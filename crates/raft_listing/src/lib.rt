@@ -9,14 +9,16 @@ pub mod missing;
 pub mod scan;
 pub mod selection;
 pub mod shown;
+pub mod text_dump;
 pub mod walk;
 
 pub use blocks::{BytesOfEntry, ReadBlock, bytes_of_entry, needed_block};
 pub use damage::{Damage, DamageKind, Loss, append_reason};
-pub use dump::Dump;
+pub use dump::{Dump, DumpForm};
 pub use items::status_of;
 pub use missing::missing_between;
 pub use scan::FileScan;
 pub use selection::Selection;
 pub use shown::append_shown;
+pub use text_dump::TextDump;
 pub use walk::{PartVisitor, walk_part};

@@ -5,7 +5,8 @@ ghost use Rattle.raft_listing.specs.Missing.{missing_behind, missing_between};
 
 use raft_base::FileSeq;
 
-/// Returns the first and the last number that are missing between two files, if some are: none are where there is no file before.
+/// Returns the first and the last number that are missing between the file `last` and the file `next` behind it; `None` where no number is
+/// missing, or there is no file before.
 pub fn missing_between(last: Option<FileSeq>, next: FileSeq) -> Option<(FileSeq, FileSeq)>
     ensures { result ≡ missing_between last next }
 {
@@ -15,7 +16,7 @@ pub fn missing_between(last: Option<FileSeq>, next: FileSeq) -> Option<(FileSeq,
     }
 }
 
-/// Returns the first and the last number between two, if there are some.
+/// Returns the first and the last number between two numbers; `None` where there is no number between them.
 fn missing_behind(last: FileSeq, next: FileSeq) -> Option<(FileSeq, FileSeq)>
     ensures { result ≡ missing_behind last next }
 {

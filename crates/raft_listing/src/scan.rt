@@ -23,19 +23,19 @@ pub struct FileScan {
     pub seq: FileSeq,
     /// How many bytes it has.
     pub len: u64,
-    /// How many batches of it can be read, those behind damage included.
+    /// How many batches of it can be read, also behind damage.
     pub batches: u64,
     /// Up to which byte, from the first one on, its batches can be read: the first byte at which none can be, or its length.
     pub read: u64,
-    /// How many bytes at the end weren't searched for batches: those from the byte on at which none can be read and past which no header leads,
-    /// if a walk met such a byte.
+    /// How many bytes at the end weren't searched for batches: from the byte on at which none can be read and past which no header leads; 0
+    /// where there is no such byte.
     pub unseen: u64,
     /// What can't be read, in the order of the file.
     pub damages: Vec<Damage>,
 }
 
 impl FileScan {
-    /// Makes a scan of a file with this number and so many bytes, which has met nothing yet.
+    /// Returns a scan of a file with the number `seq` and `len` bytes, which has met nothing yet.
     pub fn new(alloc: Global, seq: FileSeq, len: u64) -> FileScan
         ensures seq { result.seq ≡ seq }
         ensures len { result.len ≡ len }
@@ -72,7 +72,7 @@ impl PartVisitor for FileScan {
         items: &[LogItem],
     ) -> Result<()> {
         let offset = part.offset() + at as u64;
-        add_lost(part, offset, items, &mut self.damages)?;
+        add_batch_losses(part, offset, items, &mut self.damages)?;
         self.batches = self.batches.saturating_add(1);
         Ok(())
     }
@@ -106,12 +106,12 @@ pub(crate) struct Stretch {
     pub loss: Loss,
 }
 
-/// Adds what can't be read of the entries of a batch at an offset, item by item.
+/// Adds to `damages` what can't be read of the entries of a batch at an offset, item by item.
 ///
 /// # Errors
 ///
-/// `Memory`. Some of it may then be added.
-fn add_lost(
+/// `Memory`. A part may then be added; so it is of the calls below.
+fn add_batch_losses(
     part: &FilePart,
     offset: u64,
     items: &[LogItem],
@@ -123,13 +123,13 @@ fn add_lost(
 {
     let known = first_block(part, items)?;
     for item in items {
-        add_loss(part, offset, item, known, damages)?;
+        add_item_losses(part, offset, item, known, damages)?;
     }
     Ok(())
 }
 
-/// Adds what can't be read of the entries of an item, if it has entries.
-fn add_loss(
+/// Adds to `damages` what can't be read of the entries of an item; nothing where it has no entries.
+fn add_item_losses(
     part: &FilePart,
     offset: u64,
     item: &LogItem,
@@ -144,14 +144,14 @@ fn add_loss(
     match &item.content {
         LogItemContent::EntryIndexes(entries) => {
             let entries = entries.0.as_slice();
-            add_lost_entries(part, offset, region, entries, known, damages)
+            add_entry_losses(part, offset, region, entries, known, damages)
         }
         LogItemContent::Command(_) | LogItemContent::Kv(_) => Ok(()),
     }
 }
 
-/// Adds what can't be read of entries of a region: an element for each stretch of neighbors that can't be, all for one reason.
-fn add_lost_entries(
+/// Adds to `damages` what can't be read of entries of a region: an element for each stretch of neighbors that can't be, all for one reason.
+fn add_entry_losses(
     part: &FilePart,
     offset: u64,
     region: u64,
@@ -167,14 +167,14 @@ fn add_lost_entries(
     let mut stretch = None;
     for entry in entries {
         let loss = loss_of(part, entry, known)?;
-        stretch = take_in(offset, region, stretch, entry.index, loss, damages)?;
+        stretch = take_in_entry(offset, region, stretch, entry.index, loss, damages)?;
     }
     add_stretch(offset, region, stretch, damages)
 }
 
-/// Takes an entry behind a stretch: it becomes longer, or it is added to what can't be read, and another one may begin. Returns the
-/// stretch that ends with the entry, if there is one.
-fn take_in(
+/// Goes on behind a stretch with the entry of an index: the stretch becomes longer, or it is added to `damages`, and another one may begin.
+/// Returns the stretch that ends with the entry, `None` where the entry can be read.
+fn take_in_entry(
     offset: u64,
     region: u64,
     stretch: Option<Stretch>,
@@ -192,7 +192,8 @@ fn take_in(
     Ok(stretch_of(index, loss))
 }
 
-/// Returns the stretch with one entry more, if that can't be read for the same reason.
+/// Returns the stretch with the entry of an index more; `None` where there is no stretch, or the entry can be read, or can't be for another
+/// reason.
 fn longer_stretch(stretch: Option<Stretch>, index: u64, loss: Option<Loss>) -> Option<Stretch>
     ensures { IfSome result (IsLonger stretch index loss) }
 {
@@ -207,7 +208,7 @@ fn longer_stretch(stretch: Option<Stretch>, index: u64, loss: Option<Loss>) -> O
     })
 }
 
-/// Returns the stretch that begins with an entry, if that can't be read.
+/// Returns the stretch that begins with the entry of an index, `None` where the entry can be read.
 fn stretch_of(index: u64, loss: Option<Loss>) -> Option<Stretch>
     ensures { result ≡ stretch_of index loss }
 {
@@ -218,7 +219,7 @@ fn stretch_of(index: u64, loss: Option<Loss>) -> Option<Stretch>
     }
 }
 
-/// Adds a stretch to what can't be read, if there is one.
+/// Adds a stretch to `damages`; nothing for `None`.
 fn add_stretch(
     offset: u64,
     region: u64,

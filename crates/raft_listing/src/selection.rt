@@ -21,7 +21,7 @@ pub struct Selection {
 }
 
 impl Selection {
-    /// Tests whether an item is printed: it is of the selected region, and where it has entries some of them are selected.
+    /// Tests whether an item is printed: it is of the selected region, and where it has entries one of them is selected.
     pub fn has_item(&self, item: &LogItem) -> bool
         ensures { result ≡ is_selected self.now (item_of item.now) }
     {
@@ -42,7 +42,7 @@ impl Selection {
         }
     }
 
-    /// Tests whether one of the entries is printed; where there are none, the item is.
+    /// Tests whether an item with these `entries` is printed: one of them is, or it has none.
     fn has_any(&self, entries: &[EntryIndex]) -> bool
         ensures { result ≡ has_any self.now entries.now }
     {

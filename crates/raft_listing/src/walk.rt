@@ -25,7 +25,7 @@ pub trait PartVisitor {
     ///
     /// # Errors
     ///
-    /// The visitor's own. What it has seen by then is its own matter.
+    /// The visitor's own, and what it keeps then is its own matter.
     fn visit_batch(
         &mut self,
         part: &FilePart,
@@ -37,12 +37,12 @@ pub trait PartVisitor {
         ensures ok { OnOk result (visits self.old part.now at (batch (map item_of items.now) next) self.new) }
         ensures fault { IfErr result may_fail };
 
-    /// Visits a byte at which no batch can be read, for this reason. `next` is where the batch ends that stands there by its
-    /// header, if one does.
+    /// Visits a byte at which no batch can be read for `reason`. `next` is where the batch ends that stands there by its header, `None` where
+    /// no header leads on.
     ///
     /// # Errors
     ///
-    /// The visitor's own. What it has seen by then is its own matter.
+    /// The visitor's own, and what it keeps then is its own matter.
     fn visit_damage(
         &mut self,
         part: &FilePart,
@@ -61,14 +61,14 @@ pub trait PartVisitor {
 ///
 /// # Errors
 ///
-/// The visitor's, and `Memory`. Some of it was shown then.
+/// The visitor's, and `Memory`. The visitor was shown what stands in front of the failure.
 pub fn walk_part<V: PartVisitor>(part: &FilePart, visitor: &mut V) -> Result<()>
     ensures ok { OnOk result (HasWalked V.visits part.now visitor.old visitor.new) }
     ensures fault { IfErr result (λ e. e ≢ Error.Memory → V.may_fail e) }
 {
     let mut at = 0;
     while at < part.bytes().len() {
-        let behind = visit_at(part, at, visitor)?;
+        let behind = visit_byte(part, at, visitor)?;
         let Some(next) = behind else {
             return Ok(());
         };
@@ -77,8 +77,8 @@ pub fn walk_part<V: PartVisitor>(part: &FilePart, visitor: &mut V) -> Result<()>
     Ok(())
 }
 
-/// Shows a visitor what stands at a byte of a part. Returns where the walk goes on, if it does.
-fn visit_at<V: PartVisitor>(part: &FilePart, at: usize, visitor: &mut V) -> Result<Option<usize>>
+/// Shows a visitor what stands at a byte of a part. Returns where the walk goes on, `None` where no header leads on.
+fn visit_byte<V: PartVisitor>(part: &FilePart, at: usize, visitor: &mut V) -> Result<Option<usize>>
     requires { at < length part.now.bytes }
     ensures ok { IfOk result (λ next. IsVisited V.visits part.now at next visitor.old visitor.new) }
     ensures ahead { IfOk result (λ next. IfSome next (λ n. at < n)) }
@@ -95,7 +95,8 @@ fn visit_at<V: PartVisitor>(part: &FilePart, at: usize, visitor: &mut V) -> Resu
     }
 }
 
-/// Shows a visitor that at a byte of a part no batch can be read. Returns where the walk goes on, if it does.
+/// Shows a visitor that at a byte of a part no batch can be read for `reason`. Returns where the walk goes on, `None` where no header leads
+/// on. Want of memory isn't shown, but returned as an error.
 fn visit_damage<V: PartVisitor>(
     part: &FilePart,
     at: usize,
@@ -117,8 +118,8 @@ fn visit_damage<V: PartVisitor>(
     }
 }
 
-/// Shows a visitor that at a byte of a part no batch stands that can be read, for this reason. Returns where the walk goes on, if it
-/// does.
+/// Shows a visitor that at a byte of a part no batch can be read for `reason`, which isn't want of memory. Returns where the walk goes on,
+/// `None` where no header leads on.
 fn visit_unreadable<V: PartVisitor>(
     part: &FilePart,
     at: usize,
@@ -140,7 +141,7 @@ fn visit_unreadable<V: PartVisitor>(
     Ok(next)
 }
 
-/// Returns where the batch at a byte ends by the header that stands there, if one does and the batch is whole by it.
+/// Returns where the batch at a byte ends by the header that stands there; `None` where none stands there, or the batch isn't whole by it.
 fn end_by_header(part: &FilePart, at: usize) -> Option<usize>
     requires { at ≤ length part.now.bytes }
     ensures some { IfSome result (EndsByHeader part.now at) }

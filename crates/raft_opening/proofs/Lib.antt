@@ -1,4 +1,7 @@
+mod Common
 mod RestLemmas
 pub mod SizedLemmas
 pub mod SizedReadLemmas
+mod NamedLemmas
+mod PathLemmas
 pub mod OnceLemmas

@@ -1,41 +1,15 @@
 -- Files of which each byte was read once.
-use Rattle.std.proofs.Common.{◌≡◌, ◌⊎◌, inl, inr, ℕ, ◌+◌, ◌-◌, Option, Some, None, List, [], ◌∷◌, ◌++◌, Result, Ok, Err, IfOk, length, map, take, drop, refl, sym, ap, ◌∙◌, subst, arith, append_assoc, append-nil, length-append}
-use Rattle.std.specs.Prelude.{replicate}
-use Rattle.std.proofs.lemmas.List.{drop_at, length-replicate, nil_from_length, take_at}
-use Rattle.raft_base.specs.declared.errors.Error.{Error}
-use Rattle.raft_base.specs.declared.pipe_log.LogFileContext.{LogFileContext}
-use Rattle.raft_base.specs.declared.pipe_log.LogQueue.{LogQueue}
-use Rattle.raft_base.specs.declared.pipe_log.Version.{Version}
-use Rattle.raft_records.specs.FilePart.{Part, part_of}
-use Rattle.raft_files.specs.Asks.{NumberedBytes}
-use Rattle.raft_files.proofs.LastLemmas.{last_of}
-use Rattle.raft_history.specs.Batches.{Event}
-use Rattle.raft_history.specs.Histories.{Apart, IsSmall}
-use Rattle.raft_history.proofs.StretchOfHistory.{apart_back, apart_front, small_back, small_front}
-use Rattle.raft_replay.specs.Replays.{HasReplayed}
-use Rattle.raft_replay.specs.Segments.{HoldsFrom}
-use Rattle.raft_replay.proofs.MachineOrderLemmas.{each_join, each_single}
-use Rattle.raft_reading.specs.FilesRead.{AreRead}
-use Rattle.raft_reading.specs.QueueRead.{AreAllRead, IsQueueReplayed, file_of}
-use Rattle.raft_reading.specs.declared.queue_files.FileSize.{FileSize}
-use Rattle.raft_reading.proofs.PieceLemmas.{read_more}
-use Rattle.raft_recover.specs.Files.{FilesHold, whole_file}
-use Rattle.raft_prefix.specs.Prefixes.{EndsOrStops, IsPrefix, IsPrefixReplayed, IsTailRead}
-use Rattle.raft_prefix.specs.declared.file_prefix.ReplayedPrefix.{ReplayedPrefix}
-use Rattle.raft_engine.specs.FoundFiles.{BeginsInOther, IsOfEngine, IsRefusedAt}
-use Rattle.raft_engine.specs.FoundQueues.{IsLastOf}
-use Rattle.raft_engine.specs.declared.missing.Missing.TheVariants.{Nothing, FirstFile, Cut}
-use Rattle.raft_engine.specs.declared.recovered.CutTail.{CutTail}
-use Rattle.raft_engine.specs.declared.recovery_mode.RecoveryMode.{RecoveryMode}
-use Rattle.raft_engine.proofs.FoundQueueLemmas.{first_missing}
-use Rattle.raft_opening.specs.ReadOnce.{AreClosedAndLastRead, AreReplayed, Giving, IsLastReplayed, IsStandingFor, before_tail}
-use Rattle.raft_opening.specs.SizedFiles.{IsRestOf, size_of}
+use Rattle.raft_opening.proofs.Common.{◌≡◌, ◌⊎◌, inl, inr, ℕ, ◌+◌, ◌-◌, Option, Some, None, List, [], ◌∷◌, ◌++◌, Result, Ok, Err, IfOk, length, map, take, drop, refl, sym, ap, ◌∙◌, subst, arith, append_assoc, append-nil, length-append, replicate, Vec, Global, drop_at, length-replicate}
+use Rattle.raft_opening.proofs.Common.{nil_from_length, take_at, Error, LogFileContext, LogQueue, Version, Part, part_of, NumberedBytes, last_of, Event, Apart, IsSmall, apart_back, apart_front, small_back, small_front, HasReplayed, HoldsFrom, each_join, each_single, AreRead}
+use Rattle.raft_opening.proofs.Common.{AreAllRead, IsQueueReplayed, file_of, FileSize, read_more, FilesHold, whole_file, EndsOrStops, IsPrefix, IsPrefixOf, IsPrefixReplayed, IsTailRead, ReplayedPrefix, BeginsInOther, IsOfEngine, IsRefusedAt, IsLastOf, Nothing, FirstFile, Cut, CutTail, DamagedBatch}
+use Rattle.raft_opening.proofs.Common.{RecoveryMode, first_missing, AreDamagedLast, AreNamed, LastRead, QueueReplayed, AreClosedAndLastRead, AreReplayed, IsTailAccepted, Giving, IsLastReplayed, IsStandingFor, before_tail, IsRestOf, size_of}
+use Rattle.raft_opening.proofs.NamedLemmas.{damaged_last, damaged_named, none_damaged}
 use Rattle.raft_opening.proofs.SizedLemmas.{sized_missing, torn_accepted, whole_accepted}
 
 -- ---- the last file
 
 module _ {M : Type 0} (Gives : ℕ → List ℕ → Type 0) (mode : RecoveryMode) (file : LogFileContext) (len : ℕ) (stands_for stands_exactly : M → List Event → Type 0) (old new : M) (read : ReplayedPrefix)
-    (p : IsPrefixReplayed Gives file len stands_for stands_exactly old new read) where
+    (p : IsPrefixReplayed Gives file len stands_for stands_exactly old new read) (batches : Vec DamagedBatch Global) (named : AreNamed file.id read.prefix.damaged.items batches.items) where
   abbrev given : List ℕ
   given = p.front ++ read.behind.items
 
@@ -49,7 +23,7 @@ module _ {M : Type 0} (Gives : ℕ → List ℕ → Type 0) (mode : RecoveryMode
         let room = p.inside in
         let many = length-replicate {A = ℕ} (len - length p.front - length read.behind.items) 0 in
         let is = p.is rest (omega (arith, room, many)) in
-        let stops : read.prefix.len ≡ length (given ++ rest) = subst (EndsOrStops (part_of file 0 (given ++ rest)) read.prefix.len) none is.stops in
+        let stops : read.prefix.len ≡ length (given ++ rest) = subst (EndsOrStops (part_of file 0 (given ++ rest)) read.prefix.len) none is.is.stops in
         sym p.ends ∙ stops
 
     sums : length (given ++ rest) ≡ length p.front + length read.behind.items + length rest
@@ -69,15 +43,16 @@ module _ {M : Type 0} (Gives : ℕ → List ℕ → Type 0) (mode : RecoveryMode
         let many = length-replicate {A = ℕ} (len - length p.front - length read.behind.items) 0 in
         omega (arith, e, n, many, room)
 
-    pub last_whole : IsLastReplayed Gives mode file len stands_for stands_exactly old new None
+    pub last_whole : IsLastReplayed Gives mode file len stands_for stands_exactly old new (record { tail = None; damaged = batches })
     last_whole =
         let over : length p.front + length read.behind.items + 0 ≡ len = let n = ap length nothing_behind in let l = long in omega (arith, n, l) in
-        let is = subst (λ (xs : List ℕ). IsPrefix (part_of file 0 xs) read.prefix.len read.prefix.stopped) (append-nil given ∙ all_given) (p.is [] over) in
+        let is = subst (λ (xs : List ℕ). IsPrefixOf (part_of file 0 xs) read.prefix) (append-nil given ∙ all_given) (p.is [] over) in
         record {
           bytes = p.front;
           read = subst (AreRead Gives) all_given p.given;
           whole = long;
-          accepted = whole_accepted mode (part_of file 0 p.front) read.prefix.len (subst (IsPrefix (part_of file 0 p.front) read.prefix.len) none is);
+          accepted = whole_accepted mode (part_of file 0 p.front) read.prefix.len (subst (IsPrefix (part_of file 0 p.front) read.prefix.len) none is.is);
+          damaged = damaged_named (part_of file 0 p.front) refl read.prefix.damaged.items batches.items is.damaged named;
           replayed = p.replayed;
         }
 
@@ -103,13 +78,14 @@ module _ {M : Type 0} (Gives : ℕ → List ℕ → Type 0) (mode : RecoveryMode
 
     pub last_torn : (tail : CutTail) → tail ≡ record { file = file.id.seq; offset = read.prefix.len; len = len - read.prefix.len; error = e }
         → ((part : Part) (at : ℕ) → IsRestOf part at rest → ¬ (IsRefusedAt mode part at)) → ((part : Part) (at : ℕ) → IsRestOf part at rest → at ≡ 0 → ¬ (BeginsInOther part ⊎ IsOfEngine part))
-        → IsLastReplayed Gives mode file len stands_for stands_exactly old new (Some tail)
+        → IsLastReplayed Gives mode file len stands_for stands_exactly old new (record { tail = Some tail; damaged = batches })
     last_torn tail is tolerated of_version =
         let part = part_of file 0 bytes in
         let ends = p.ends in
         let all = t.all in
         let sum = whole in
-        let prefix = subst (IsPrefix part read.prefix.len) some (p.is t.bytes (omega (arith, all, ends))) in
+        let of = p.is t.bytes (omega (arith, all, ends)) in
+        let prefix = subst (IsPrefix part read.prefix.len) some of.is in
         let offset : tail.offset ≡ read.prefix.len = ap (λ (x : CutTail). x.offset) is in
         let rest_len : tail.len ≡ len - read.prefix.len = ap (λ (x : CutTail). x.len) is in
         let front : p.front ≡ take tail.offset bytes =
@@ -121,6 +97,7 @@ module _ {M : Type 0} (Gives : ℕ → List ℕ → Type 0) (mode : RecoveryMode
           whole = whole;
           accepted = torn_accepted mode part read.prefix.len e prefix (tolerated part read.prefix.len is_rest) (of_version part read.prefix.len is_rest) tail (ap (λ (x : CutTail). x.file) is) offset
               (omega (arith, offset, rest_len, all, sum)) (ap (λ (x : CutTail). x.error) is);
+          damaged = damaged_named part refl read.prefix.damaged.items batches.items of.damaged named;
           replayed = subst (λ (xs : List ℕ). HasReplayed (HoldsFrom (part_of file 0 xs) 0) stands_for stands_exactly old new) front p.replayed;
         }
 
@@ -150,10 +127,10 @@ read_behind Gives queue (s ∷ sizes) (f ∷ files) size own r one as_long = (r.
 
 module _ {M : Type 0} (Gives : Giving) (mode : RecoveryMode) (queue : LogQueue) (version : Version) (stands_for stands_exactly : M → List Event → Type 0) where
   -- the last file alone
-  pub alone_read : (last : FileSize) (file : LogFileContext) (old new : M) (tail : Option CutTail) → file ≡ record { id = file_of queue last.seq; version = version } → stands_for old [] → stands_exactly old []
-      → IsLastReplayed (Gives file.id) mode file last.len stands_for stands_exactly old new tail → AreClosedAndLastRead Gives mode queue version [] last stands_for stands_exactly (new, tail)
-  alone_read last file old new tail is stands exact r =
-      let s = subst (λ (c : LogFileContext). IsLastReplayed (Gives c.id) mode c last.len stands_for stands_exactly old new tail) is r in
+  pub alone_read : (last : FileSize) (file : LogFileContext) (old new : M) (own : LastRead) → file ≡ record { id = file_of queue last.seq; version = version } → stands_for old [] → stands_exactly old []
+      → IsLastReplayed (Gives file.id) mode file last.len stands_for stands_exactly old new own → AreClosedAndLastRead Gives mode queue version [] last stands_for stands_exactly (new, own)
+  alone_read last file old new own is stands exact r =
+      let s = subst (λ (c : LogFileContext). IsLastReplayed (Gives c.id) mode c last.len stands_for stands_exactly old new own) is r in
       record {
         files = [];
         files_read = tt;
@@ -161,22 +138,23 @@ module _ {M : Type 0} (Gives : Giving) (mode : RecoveryMode) (queue : LogQueue) 
         bytes_read = s.read;
         whole = s.whole;
         accepted = s.accepted;
+        damaged = s.damaged;
         standing = record {
           history = s.replayed.history;
-          held = each_single (λ file h. HoldsFrom (whole_file queue version file) 0 h) (last.seq, before_tail tail s.bytes) s.replayed.history s.replayed.held;
+          held = each_single (λ file h. HoldsFrom (whole_file queue version file) 0 h) (last.seq, before_tail own.tail s.bytes) s.replayed.history s.replayed.held;
           stands = λ small. s.replayed.stands [] small stands;
           exact = λ small apart. s.replayed.exact [] small exact;
         };
       }
 
   -- behind the closed ones
-  pub parts_read : (closed : List FileSize) (last : FileSize) (older now : M) (newer : M × Option CutTail) → IsQueueReplayed Gives queue version closed stands_for stands_exactly older
+  pub parts_read : (closed : List FileSize) (last : FileSize) (older now : M) (newer : M × LastRead) → IsQueueReplayed Gives queue version closed stands_for stands_exactly older
       → AreClosedAndLastRead Gives mode queue version [] last stands_for stands_exactly newer
       → ((h g : List Event) → IsSmall (h ++ g) → stands_for older h → stands_for newer.0 g → stands_for now (h ++ g))
       → ((h g : List Event) → IsSmall (h ++ g) → Apart (h ++ g) → stands_exactly older h → stands_exactly newer.0 g → stands_exactly now (h ++ g))
       → AreClosedAndLastRead Gives mode queue version closed last stands_for stands_exactly (now, newer.1)
   parts_read closed last older now newer a b stands exact =
-      let kept : NumberedBytes = (last.seq, before_tail newer.1 b.bytes) in
+      let kept : NumberedBytes = (last.seq, before_tail newer.1.tail b.bytes) in
       let own = b.standing in
       let held = subst (λ (fs : List NumberedBytes). FilesHold queue version (fs ++ kept ∷ []) own.history) (none_read Gives queue b.files b.files_read) own.held in
       record {
@@ -186,6 +164,7 @@ module _ {M : Type 0} (Gives : Giving) (mode : RecoveryMode) (queue : LogQueue) 
         bytes_read = b.bytes_read;
         whole = b.whole;
         accepted = b.accepted;
+        damaged = b.damaged;
         standing = record {
           history = a.history ++ own.history;
           held = each_join (λ file h. HoldsFrom (whole_file queue version file) 0 h) a.files (kept ∷ []) a.history own.history a.held held;
@@ -196,45 +175,50 @@ module _ {M : Type 0} (Gives : Giving) (mode : RecoveryMode) (queue : LogQueue) 
       }
 
   module _ (sizes closed : List FileSize) (last : FileSize) (split : sizes ≡ closed ++ last ∷ []) where
-    all_read : (read : M × Option CutTail) (r : AreClosedAndLastRead Gives mode queue version closed last stands_for stands_exactly read) → AreAllRead Gives queue sizes (r.files ++ (last.seq, r.bytes) ∷ [])
+    all_read : (read : M × LastRead) (r : AreClosedAndLastRead Gives mode queue version closed last stands_for stands_exactly read) → AreAllRead Gives queue sizes (r.files ++ (last.seq, r.bytes) ∷ [])
     all_read read r = subst (λ (ss : List FileSize). AreAllRead Gives queue ss (r.files ++ (last.seq, r.bytes) ∷ [])) (sym split) (read_behind Gives queue closed r.files last r.bytes r.files_read r.bytes_read r.whole)
 
-    is_last : (read : M × Option CutTail) (r : AreClosedAndLastRead Gives mode queue version closed last stands_for stands_exactly read) → IsLastOf queue version (r.files ++ (last.seq, r.bytes) ∷ []) (whole_file queue version (last.seq, r.bytes))
+    is_last : (read : M × LastRead) (r : AreClosedAndLastRead Gives mode queue version closed last stands_for stands_exactly read) → IsLastOf queue version (r.files ++ (last.seq, r.bytes) ∷ []) (whole_file queue version (last.seq, r.bytes))
     is_last read r = record { closed = r.files; last = (last.seq, r.bytes); split = refl; is = refl }
 
     -- nothing is missing of them
-    whole_read_so : (machine : M) → AreClosedAndLastRead Gives mode queue version closed last stands_for stands_exactly (machine, None) → AreReplayed Gives mode queue version sizes stands_for stands_exactly (machine, Nothing)
-    whole_read_so machine r = record {
-      files = r.files ++ (last.seq, r.bytes) ∷ [];
-      files_read = all_read (machine, None) r;
-      missing = λ consecutive. sized_missing mode queue version (r.files ++ (last.seq, r.bytes) ∷ []) (whole_file queue version (last.seq, r.bytes)) (is_last (machine, None) r) consecutive None r.accepted Nothing (inl (refl, refl));
-      standing = r.standing;
-    }
-
-    pub whole_read : (read : M × Option CutTail) → read.1 ≡ None → AreClosedAndLastRead Gives mode queue version closed last stands_for stands_exactly read → AreReplayed Gives mode queue version sizes stands_for stands_exactly (read.0, Nothing)
-    whole_read read none r = whole_read_so read.0 (subst (AreClosedAndLastRead Gives mode queue version closed last stands_for stands_exactly) (λ i. (read.0, none i)) r)
+    pub whole_read : (read : M × LastRead) → read.1.tail ≡ None → AreClosedAndLastRead Gives mode queue version closed last stands_for stands_exactly read
+        → AreReplayed Gives mode queue version sizes stands_for stands_exactly (record { machine = read.0; missing = Nothing; damaged = read.1.damaged })
+    whole_read read none r =
+        let files = r.files ++ (last.seq, r.bytes) ∷ [] in
+        let part = whole_file queue version (last.seq, r.bytes) in
+        record {
+          files = files;
+          files_read = all_read read r;
+          missing = λ consecutive. sized_missing mode queue version files part (is_last read r) consecutive None (subst (IsTailAccepted mode part) none r.accepted) Nothing (inl (refl, refl));
+          damaged = damaged_last queue version files r.files (last.seq, r.bytes) read.1.damaged.items refl r.damaged;
+          standing = subst (λ (tail : Option CutTail). IsStandingFor queue version stands_for stands_exactly (r.files ++ (last.seq, before_tail tail r.bytes) ∷ []) read.0) none r.standing;
+        }
 
     -- or the cut of this tail
-    torn_read_so : (machine : M) (tail : CutTail) → AreClosedAndLastRead Gives mode queue version closed last stands_for stands_exactly (machine, Some tail) → AreReplayed Gives mode queue version sizes stands_for stands_exactly (machine, Cut tail)
-    torn_read_so machine tail r =
+    pub torn_read : (read : M × LastRead) (tail : CutTail) → read.1.tail ≡ Some tail → AreClosedAndLastRead Gives mode queue version closed last stands_for stands_exactly read
+        → AreReplayed Gives mode queue version sizes stands_for stands_exactly (record { machine = read.0; missing = Cut tail; damaged = read.1.damaged })
+    torn_read read tail some r =
         let files = r.files ++ (last.seq, r.bytes) ∷ [] in
+        let part = whole_file queue version (last.seq, r.bytes) in
         let left = last_of (λ (old : List ℕ). take tail.offset old) r.files (last.seq, r.bytes) in
         record {
           files = files;
-          files_read = all_read (machine, Some tail) r;
-          missing = λ consecutive. sized_missing mode queue version files (whole_file queue version (last.seq, r.bytes)) (is_last (machine, Some tail) r) consecutive (Some tail) r.accepted (Cut tail) (inr (tail, refl, refl));
-          standing = subst (λ (fs : List NumberedBytes). IsStandingFor queue version stands_for stands_exactly fs machine) (sym left) r.standing;
+          files_read = all_read read r;
+          missing = λ consecutive. sized_missing mode queue version files part (is_last read r) consecutive (Some tail) (subst (IsTailAccepted mode part) some r.accepted) (Cut tail) (inr (tail, refl, refl));
+          damaged = damaged_last queue version files r.files (last.seq, r.bytes) read.1.damaged.items refl r.damaged;
+          standing = subst (λ (fs : List NumberedBytes). IsStandingFor queue version stands_for stands_exactly fs read.0) (sym left)
+              (subst (λ (t : Option CutTail). IsStandingFor queue version stands_for stands_exactly (r.files ++ (last.seq, before_tail t r.bytes) ∷ []) read.0) some r.standing);
         }
 
-    pub torn_read : (read : M × Option CutTail) (tail : CutTail) → read.1 ≡ Some tail → AreClosedAndLastRead Gives mode queue version closed last stands_for stands_exactly read → AreReplayed Gives mode queue version sizes stands_for stands_exactly (read.0, Cut tail)
-    torn_read read tail some r = torn_read_so read.0 tail (subst (AreClosedAndLastRead Gives mode queue version closed last stands_for stands_exactly) (λ i. (read.0, some i)) r)
-
   -- there is none
-  pub first_read : (sizes : List FileSize) (machine : M) → sizes ≡ [] → stands_for machine [] → stands_exactly machine [] → AreReplayed Gives mode queue version sizes stands_for stands_exactly (machine, FirstFile)
-  first_read sizes machine none stands exact = record {
+  pub first_read : (sizes : List FileSize) (machine : M) (batches : Vec DamagedBatch Global) → sizes ≡ [] → batches.items ≡ [] → stands_for machine [] → stands_exactly machine []
+      → AreReplayed Gives mode queue version sizes stands_for stands_exactly (record { machine = machine; missing = FirstFile; damaged = batches })
+  first_read sizes machine batches none undamaged stands exact = record {
     files = [];
     files_read = subst (λ (ss : List FileSize). AreAllRead Gives queue ss []) (sym none) tt;
     missing = λ consecutive. first_missing queue version [] mode consecutive refl;
+    damaged = none_damaged queue version batches.items undamaged;
     standing = record {
       history = [];
       held = record { first = []; rest = []; first_held = refl; rest_held = refl; split = refl };
@@ -243,8 +227,8 @@ module _ {M : Type 0} (Gives : Giving) (mode : RecoveryMode) (queue : LogQueue) 
     };
   }
 
--- ---- two clauses of one result
+-- ---- three clauses of one result
 
-pub both_ok : {O U : Type 0} (r : Result O U) (A B C : O → Type 0) → ((x : O) → A x → B x → C x) → IfOk r A → IfOk r B → IfOk r C
-both_ok (Ok x) A B C both a b = both x a b
-both_ok (Err e) A B C both a b = tt
+pub three_ok : {O U : Type 0} (r : Result O U) (A B C D : O → Type 0) → ((x : O) → A x → B x → C x → D x) → IfOk r A → IfOk r B → IfOk r C → IfOk r D
+three_ok (Ok x) A B C D all a b c = all x a b c
+three_ok (Err e) A B C D all a b c = tt

@@ -1,19 +1,7 @@
 -- What stands in a part behind its readable prefix, as a part of its own.
-use Rattle.std.proofs.Common.{◌≡◌, ◌⊎◌, inl, inr, ℕ, ◌+◌, ◌-◌, Some, None, List, ◌++◌, length, map, drop, sym, ap, ◌∙◌, subst, arith, drop-drop}
-use Rattle.raft_base.specs.Corruption.{IsCorruption}
-use Rattle.raft_base.specs.declared.errors.Error.{Error}
-use Rattle.raft_base.specs.declared.pipe_log.FileBlockHandle.{FileBlockHandle}
-use Rattle.raft_base.specs.declared.pipe_log.FileId.{FileId}
-use Rattle.raft_records.specs.FilePart.{IsBatchAt, Part}
-use Rattle.raft_records.specs.Item.{Item}
-use Rattle.raft_records.specs.ItemBatch.{placed_item}
-use Rattle.raft_records.proofs.Names.{place_between}
-use Rattle.raft_replay.specs.Cuts.{rest_of}
-use Rattle.raft_engine_prefixes.specs.TornTails.{IsDamagedAt}
-use Rattle.raft_tail.specs.Tails.{IsBrokenOff, IsElsewhere, IsFirst, IsNextElsewhere, IsNextSound, IsNowhere, IsSignedFor, IsSoundAt, in_file}
-use Rattle.raft_engine.specs.FoundFiles.{BeginsInOther, IsDamageText, IsOfEngine, IsOtherText, elsewhere_text, followed_text, uncut_text}
-use Rattle.raft_opening.specs.SizedFiles.{IsRestOf}
-use Rattle.raft_engine.proofs.FoundLemmas.{elsewhere_stands, nothing_stands, sound_stands}
+use Rattle.raft_opening.proofs.Common.{◌≡◌, ◌⊎◌, inl, inr, ℕ, ◌+◌, ◌-◌, Some, None, List, ◌++◌, length, map, drop, sym, ap, ◌∙◌, subst, arith, drop-drop, IsCorruption, Error, FileBlockHandle, FileId, IsBatchAt, Part, Item, placed_item, place_between, rest_of, IsDamagedAt}
+use Rattle.raft_opening.proofs.Common.{IsBrokenOff, IsElsewhere, IsFirst, IsNextElsewhere, IsNextSound, IsNowhere, IsSignedFor, IsSoundAt, in_file, BeginsInOther, IsDamageText, IsOfEngine, IsOtherText, elsewhere_text, followed_text, uncut_text, IsRestOf, elsewhere_stands}
+use Rattle.raft_opening.proofs.Common.{nothing_stands, sound_stands}
 
 module _ (whole : Part) (at : ℕ) where
   place_from : (j len : ℕ) → place_between (rest_of whole at) j len ≡ place_between whole (at + j) len

@@ -1,40 +1,11 @@
 -- Found files by their sizes, and what reads give of them.
-use Rattle.std.proofs.Common.{◌≡◌, ◌⊎◌, inl, inr, ℕ, suc, ◌+◌, ◌<◌, Option, Some, None, List, [], ◌∷◌, ◌++◌, length, map, take, drop, get_or, refl, sym, ap, ◌∙◌, subst, arith, append_assoc, append-nil, drop-drop, length-append, length-drop}
-use Rattle.std.proofs.lemmas.List.{drop_at, drop_more, length-take-le, map-append, nil_from_length}
-use Rattle.raft_base.specs.declared.errors.Error.{Error}
-use Rattle.raft_base.specs.declared.pipe_log.FileId.{FileId}
-use Rattle.raft_base.specs.declared.pipe_log.LogFileContext.{LogFileContext}
-use Rattle.raft_base.specs.declared.pipe_log.LogQueue.{LogQueue}
-use Rattle.raft_base.specs.declared.pipe_log.Version.{Version}
-use Rattle.raft_records.specs.FilePart.{Part, part_of}
-use Rattle.raft_files.specs.Asks.{NumberedBytes}
-use Rattle.raft_files.specs.Disk.{cut_last}
-use Rattle.raft_files.proofs.LastLemmas.{last_of}
+use Rattle.raft_opening.proofs.Common.{◌≡◌, ◌⊎◌, inl, inr, ℕ, suc, ◌+◌, ◌<◌, Option, Some, None, List, [], ◌∷◌, ◌++◌, length, map, take, drop, get_or, refl, sym, ap, ◌∙◌, subst, arith, append_assoc, append-nil, drop-drop, length-append, length-drop, drop_at, drop_more}
+use Rattle.raft_opening.proofs.Common.{length-take-le, map-append, nil_from_length, Error, FileId, LogFileContext, LogQueue, Version, Part, part_of, NumberedBytes, cut_last, last_of, IsKnownOf, IsPrefix, IsRestRead, AreGivenFrom, AreRead, IsReadFault, IsUnread, joined, IoError}
+use Rattle.raft_opening.proofs.Common.{file_of, FileSize, bytes_of_sizes, bytes_of_files, IsUnreadableAt, AreConsecutive, numbers, StopsAt, IsTailOf, AreApartAs, BeginsInOther, IsApartAs, IsFoundFault, IsOfEngine, IsOtherText, IsRefusalText, IsRefusedAt, StandTogether, IsLastOf}
+use Rattle.raft_opening.proofs.Common.{IsMissingOf, left_by, AreOf, IsUnsoundAs, AreKnownOf, AreLeft, AreNumbersApartAs, AreSized, GiveOnly, GivesOnly, IsKnownLast, IsPartFault, IsReadRefusal, IsRestOf, IsTailAccepted, kept_by, numbers_of, size_of, Missing, Nothing, FirstFile}
+use Rattle.raft_opening.proofs.Common.{Cut, QueueFiles, CutTail, RecoveryMode, AreReadUpTo, stand_together, begins_as, not_other, one_last, tolerated, whole_not_other, block_fault, is_tail, last_missing, missing_fault, tail_told}
 use Rattle.raft_prefix.specs.Blocks as prefix_blocks
-use Rattle.raft_prefix.specs.Prefixes.{IsKnownOf, IsPrefix, IsRestRead}
-use Rattle.raft_reading.specs.FilesRead.{AreGivenFrom, AreRead, IsReadFault, IsUnread, joined}
-use Rattle.raft_reading.specs.IoErrors.{IoError}
-use Rattle.raft_reading.specs.QueueRead.{file_of}
-use Rattle.raft_reading.specs.declared.queue_files.FileSize.{FileSize}
-use Rattle.raft_recover.specs.FileRecovery.{bytes_of_sizes}
-use Rattle.raft_recover.specs.Files.{bytes_of_files}
-use Rattle.raft_replay.specs.Stops.{IsUnreadableAt}
-use Rattle.raft_engine_prefixes.specs.Done.{AreConsecutive, numbers}
-use Rattle.raft_engine_prefixes.specs.TornTails.{StopsAt}
-use Rattle.raft_engine.specs.CutTails.{IsTailOf}
-use Rattle.raft_engine.specs.FoundFiles.{AreApartAs, BeginsInOther, IsApartAs, IsFoundFault, IsOfEngine, IsOtherText, IsRefusalText, IsRefusedAt, StandTogether}
-use Rattle.raft_engine.specs.FoundQueues.{IsLastOf, IsMissingOf, left_by}
-use Rattle.raft_engine.specs.QueueFilesOf.{AreOf}
-use Rattle.raft_engine.specs.SoundBlocks.{IsUnsoundAs}
-use Rattle.raft_opening.specs.SizedFiles.{AreKnownOf, AreLeft, AreNumbersApartAs, AreSized, GiveOnly, GivesOnly, IsKnownLast, IsPartFault, IsReadRefusal, IsRestOf, IsTailAccepted, kept_by, numbers_of, size_of}
-use Rattle.raft_engine.specs.declared.missing.Missing.{Missing}
-use Rattle.raft_engine.specs.declared.missing.Missing.TheVariants.{Nothing, FirstFile, Cut}
-use Rattle.raft_engine.specs.declared.queue_files.QueueFiles.{QueueFiles}
-use Rattle.raft_engine.specs.declared.recovered.CutTail.{CutTail}
-use Rattle.raft_engine.specs.declared.recovery_mode.RecoveryMode.{RecoveryMode}
-use Rattle.raft_engine.proofs.FileNumbers.{AreReadUpTo, read_more, stand_together}
-use Rattle.raft_engine.proofs.FoundLemmas.{begins_as, not_other, one_last, tolerated, whole_not_other}
-use Rattle.raft_engine.proofs.FoundQueueLemmas.{block_fault, is_tail, last_missing, missing_fault, tail_told}
+use Rattle.raft_engine.proofs.FileNumbers.{read_more}
 
 -- ---- the bytes of a file
 

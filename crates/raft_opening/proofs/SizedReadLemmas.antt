@@ -1,49 +1,10 @@
 -- The replay of found files by their sizes: what contexts have read of them, or why they can't.
-use Rattle.std.proofs.Common.{◌≡◌, ◌≢◌, ◌⊎◌, inl, inr, ℕ, ◌<◌, ◌≤◌, ◌^◌, List, [], ◌∷◌, ◌++◌, length, map, take, drop, refl, sym, ap, ◌∙◌, subst, arith, append-nil, length-append, take-append-drop}
-use Rattle.std.proofs.lemmas.List.{length-map, length-drop, map-append, take-append-le, take_at}
-use Rattle.raft_base.specs.Errors.{IsInvalidArgument}
-use Rattle.raft_base.specs.declared.errors.Error.{Error}
+use Rattle.raft_opening.proofs.Common.{◌≡◌, ◌≢◌, ◌⊎◌, inl, inr, ℕ, ◌<◌, ◌≤◌, ◌^◌, List, [], ◌∷◌, ◌++◌, length, map, take, drop, refl, sym, ap, ◌∙◌, subst, arith, append-nil, length-append, take-append-drop, length-map, length-drop, map-append, take-append-le, take_at}
+use Rattle.raft_opening.proofs.Common.{IsInvalidArgument, Error, FileId, LogQueue, Append, Rewrite, Version, part_of, HasRead, HasReadExactly, RecoverContext, NumberedBytes, cut_last, Event, Apart, IsSmall, Sound, IsFileStop, StopsInRead, IoError, AreAllRead, IsAllRead}
+use Rattle.raft_opening.proofs.Common.{IsQueueReplayed, IsQueueStop, file_of, FileSize, bytes_of_sizes, FilesHold, bytes_of_files, whole_file, EachHolds, HoldsFrom, GoneOn, IsNothing, IsStoodFor, StopsIn, stands_sound, AreGroupsInRows, IsSummaryOf, IsMissingOf, IsReadyQueue}
+use Rattle.raft_opening.proofs.Common.{left_by, AreOutOfRows, AreOf, AreReadBy, AreReadyFiles, HaveBothRead, HaveBothReadExactly, rows_shown, IsStandingFor, GiveOnly, GivesOnly, IsReadRefusal, IsSizedQueue, kept_by, size_of, missing_asks, AreManyAs, AreUnreadableAs}
+use Rattle.raft_opening.proofs.Common.{IsReadingFault, IsRecoveryFault, IsTooLongAs, MayRecover, Refusal, StopsInFiles, Both, GroupRows, Missing, Nothing, FirstFile, Cut, QueueFiles, RecoveryMode, SizedQueue, files_of_queue}
 use Rattle.raft_base.specs.declared.errors.Error.TheVariants as errors
-use Rattle.raft_base.specs.declared.pipe_log.FileId.{FileId}
-use Rattle.raft_base.specs.declared.pipe_log.LogQueue.{LogQueue}
-use Rattle.raft_base.specs.declared.pipe_log.LogQueue.TheVariants.{Append, Rewrite}
-use Rattle.raft_base.specs.declared.pipe_log.Version.{Version}
-use Rattle.raft_records.specs.FilePart.{part_of}
-use Rattle.raft_contexts.specs.RecoverContext.{HasRead, HasReadExactly, RecoverContext}
-use Rattle.raft_files.specs.Asks.{NumberedBytes}
-use Rattle.raft_files.specs.Disk.{cut_last}
-use Rattle.raft_history.specs.Batches.{Event}
-use Rattle.raft_history.specs.Histories.{Apart, IsSmall, Sound}
-use Rattle.raft_reading.specs.FilesRead.{IsFileStop, StopsInRead}
-use Rattle.raft_reading.specs.IoErrors.{IoError}
-use Rattle.raft_reading.specs.QueueRead.{AreAllRead, IsAllRead, IsQueueReplayed, IsQueueStop, file_of}
-use Rattle.raft_reading.specs.declared.queue_files.FileSize.{FileSize}
-use Rattle.raft_recover.specs.FileRecovery.{bytes_of_sizes}
-use Rattle.raft_recover.specs.Files.{FilesHold, bytes_of_files, whole_file}
-use Rattle.raft_replay.specs.Segments.{EachHolds, HoldsFrom}
-use Rattle.raft_replay.specs.Stops.{GoneOn, IsNothing, IsStoodFor, StopsIn}
-use Rattle.raft_replay.proofs.StopLemmas.{stands_sound}
-use Rattle.raft_engine_laws.specs.GroupsInRows.{AreGroupsInRows}
-use Rattle.raft_engine_laws.specs.RowSummaries.{IsSummaryOf}
-use Rattle.raft_engine.specs.FoundQueues.{IsMissingOf, IsReadyQueue, left_by}
-use Rattle.raft_engine.specs.Markers.{AreOutOfRows}
-use Rattle.raft_engine.specs.QueueFilesOf.{AreOf}
-use Rattle.raft_engine.specs.ReadContexts.{AreReadBy}
-use Rattle.raft_engine.specs.ReadFound.{AreReadyFiles}
-use Rattle.raft_engine.specs.ReadQueues.{HaveBothRead, HaveBothReadExactly}
-use Rattle.raft_engine.specs.RowsShown.{rows_shown}
-use Rattle.raft_opening.specs.ReadOnce.{IsStandingFor}
-use Rattle.raft_opening.specs.SizedFiles.{GiveOnly, GivesOnly, IsReadRefusal, IsSizedQueue, kept_by, size_of}
-use Rattle.raft_engine.specs.OpeningAsks.{missing_asks}
-use Rattle.raft_engine.specs.Unopened.{AreManyAs, AreUnreadableAs, IsReadingFault, IsRecoveryFault, IsTooLongAs, MayRecover, Refusal, StopsInFiles}
-use Rattle.raft_engine.specs.declared.both.Both.{Both}
-use Rattle.raft_engine.specs.declared.group_rows.GroupRows.{GroupRows}
-use Rattle.raft_engine.specs.declared.missing.Missing.{Missing}
-use Rattle.raft_engine.specs.declared.missing.Missing.TheVariants.{Nothing, FirstFile, Cut}
-use Rattle.raft_engine.specs.declared.queue_files.QueueFiles.{QueueFiles}
-use Rattle.raft_engine.specs.declared.recovery_mode.RecoveryMode.{RecoveryMode}
-use Rattle.raft_opening.specs.declared.sized_files.SizedQueue.{SizedQueue}
-use Rattle.raft_engine.proofs.RecoveredLemmas.{files_of_queue}
 use Rattle.raft_opening.proofs.SizedLemmas.{bytes_sized, read_front, unread_refusal}
 
 -- ---- files that are read up to a byte of theirs

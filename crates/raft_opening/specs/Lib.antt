@@ -1,2 +1,4 @@
 pub mod SizedFiles
+pub mod FolderPaths
+pub mod NamedBatches
 pub mod ReadOnce

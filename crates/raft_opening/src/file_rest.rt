@@ -12,7 +12,8 @@ use raft_engine::found::{check_beginning, followed, of_elsewhere, uncut};
 use raft_records::FilePart;
 use raft_tail::{is_broken_off, next_sound, signed_elsewhere};
 
-/// Refuses a file for all that stands in it from the first byte on at which no batch can be read.
+/// Checks that `mode` allows `rest` to be cut off its file: all that stands there from the first byte on at which no batch can be
+/// read.
 ///
 /// # Errors
 ///
@@ -34,7 +35,7 @@ pub fn check_rest(mode: RecoveryMode, rest: &FilePart) -> Result<()>
     }
 }
 
-/// Refuses a file in which damage begins where its reading stops, and these bytes stand.
+/// Checks that `rest`, which stands in a file where its reading stops, isn't damage, but something that a crash can leave.
 ///
 /// # Errors
 ///

@@ -1,19 +1,26 @@
 //! An engine that is opened over a folder, whose files are read in pieces.
 
-ghost use Rattle.std.specs.Prelude.{List, IfOk};
-ghost use Rattle.raft_reading.specs.declared.queue_files.FileSize.{FileSize};
-ghost use Rattle.raft_opening.specs.ReadOnce.{IsOpenedOver, PathGives};
+ghost use Rattle.std.specs.Prelude.{map, IfOk};
+ghost use Rattle.raft_recover.specs.FileRecovery.{AreSizesOf};
+ghost use Rattle.raft_opening.specs.FolderPaths.{IsFolderOpened, path_shown};
 
 use crate::opening::open_in_pieces;
-use crate::path_source::PathSource;
-use raft_base::{Error, LogQueue, Result, Version};
+use crate::path_source::{NumberedPaths, PathSource};
+use raft_base::{Error, FileId, LogQueue, Result, Version};
 use raft_engine::{Opened, RecoveryMode};
 use raft_folder::{FolderFiles, FolderHost};
 use raft_reading::FileSize;
 use raft_recover::SharedFiles;
 use std::thread::Threads;
 
-/// Opens the engine of a folder by so many workers, as `Engine::open_telling` does, and reads its files in pieces: see
+/// The files of a queue in a folder: their paths, and how long they are.
+#[derive(Drop)]
+struct QueuePaths {
+    paths: NumberedPaths,
+    sizes: Vec<FileSize>,
+}
+
+/// Opens the engine of the folder at `path` by `workers` threads, as `Engine::open_telling` does, and reads its files in pieces: see
 /// [`open_in_pieces`]. A folder that isn't there yet is made.
 ///
 /// # Errors
@@ -26,18 +33,18 @@ pub fn open_folder<'a, R: FolderHost + SharedFiles + Threads>(
     version: Version,
     workers: usize,
 ) -> Result<Opened<FolderFiles<'a, R>>>
-    ensures { IfOk result (λ opened. (append : List FileSize) × (rewrite : List FileSize)
-        × IsOpenedOver (PathGives (R.gives rt.now)) mode version append rewrite opened.engine opened.recovered) }
+    ensures { IfOk result (λ opened. IsFolderOpened (R.gives rt.now) mode version opened.engine opened.recovered
+        opened.damaged.items) }
 {
     let files = FolderFiles::open_unread(rt, path)?;
-    let append = sizes_of(rt, &files, LogQueue::Append)?;
-    let rewrite = sizes_of(rt, &files, LogQueue::Rewrite)?;
+    let append = paths_in(rt, &files, LogQueue::Append)?;
+    let rewrite = paths_in(rt, &files, LogQueue::Rewrite)?;
     let source = PathSource {
         disk: rt,
-        append: files.paths(LogQueue::Append)?,
-        rewrite: files.paths(LogQueue::Rewrite)?,
+        append: append.paths,
+        rewrite: rewrite.paths,
     };
-    let (append, rewrite) = (append.as_slice(), rewrite.as_slice());
+    let (append, rewrite) = (append.sizes.as_slice(), rewrite.sizes.as_slice());
     let alloc = rt.alloc();
     match open_in_pieces(
         rt, alloc, mode, version, files, &source, append, rewrite, workers,
@@ -47,20 +54,25 @@ pub fn open_folder<'a, R: FolderHost + SharedFiles + Threads>(
     }
 }
 
-/// Returns the numbers and the lengths of a queue's files in a folder.
+/// Returns the paths and the lengths of a queue's files in a folder.
 ///
 /// # Errors
 ///
 /// Those of the folder.
-fn sizes_of<R: FolderHost>(
+fn paths_in<R: FolderHost>(
     rt: &R,
     files: &FolderFiles<'_, R>,
     queue: LogQueue,
-) -> Result<Vec<FileSize>> {
-    let mut sizes = Vec::new(rt.alloc());
+) -> Result<QueuePaths>
+    ensures { IfOk result (λ found. AreSizesOf (map path_shown found.paths.items) found.sizes.items) }
+{
+    let alloc = rt.alloc();
+    let mut paths = Vec::new(alloc);
+    let mut sizes = Vec::new(alloc);
     for file in files.list(queue)? {
         let (seq, len) = (file.seq, file.len);
+        paths.push((seq, files.path_of(FileId::new(queue, seq))?))?;
         sizes.push(FileSize { seq, len })?;
     }
-    Ok(sizes)
+    Ok(QueuePaths { paths, sizes })
 }

@@ -3,16 +3,26 @@
 ghost use Rattle.std.specs.Prelude.{◌≡◌, List, [], IfOk};
 ghost use Rattle.raft_opening.specs.ReadOnce.{AreClosedAndLastRead, IsLastReplayed};
 
+use crate::damaged::named_batches;
 use crate::file_rest::check_rest;
 use raft_base::{Factory, FileId, LogFileContext, LogQueue, Result, Version};
-use raft_engine::{CutTail, RecoveryMode};
+use raft_engine::{CutTail, DamagedBatch, RecoveryMode};
 use raft_history::ReplayMachine;
 use raft_prefix::{Prefix, ReplayedPrefix, read_tail, replay_prefix};
 use raft_reading::{FileSize, ReadFiles};
 use std::alloc::Global;
 
+/// What was read of a queue's last file.
+#[derive(Drop)]
+pub struct LastRead {
+    /// What stands behind its readable prefix.
+    pub tail: Option<CutTail>,
+    /// The batches of its readable prefix, first to last, whose entries are damaged; none in a rewrite file.
+    pub damaged: Vec<DamagedBatch>,
+}
+
 /// Replays a file of `len` bytes up to where no batch can be read, and returns the tail that stands there, if a mode doesn't refuse
-/// it. In a rewrite file the entries of each batch are checked.
+/// it, and which batches have damaged entries. In a rewrite file such a batch is refused.
 ///
 /// # Errors
 ///
@@ -24,27 +34,34 @@ pub fn replay_last<M: ReplayMachine, S: ReadFiles>(
     mode: RecoveryMode,
     file: &LogFileContext,
     len: u64,
-) -> Result<Option<CutTail>>
+) -> Result<LastRead>
     ensures { IfOk result (IsLastReplayed (S.gives source.now file.now.id) mode file.now len M.stands_for M.stands_exactly
         machine.old machine.new) }
 {
     let read = replay_prefix(machine, alloc, source, file, len)?;
     let ReplayedPrefix { prefix, behind } = read;
-    let Prefix { len: at, stopped } = prefix;
+    let Prefix {
+        len: at,
+        stopped,
+        damaged,
+    } = prefix;
+    let damaged = named_batches(alloc, file.id, damaged.as_slice())?;
     let Some(error) = stopped else {
-        return Ok(None);
+        let tail = None;
+        return Ok(LastRead { tail, damaged });
     };
     let rest = read_tail(source, file, at, behind, len)?;
     check_rest(mode, &rest)?;
-    Ok(Some(CutTail {
+    let tail = Some(CutTail {
         file: file.id.seq,
         offset: at,
         len: len - at,
         error,
-    }))
+    });
+    Ok(LastRead { tail, damaged })
 }
 
-/// Replays the last file of a queue into a machine of its own, and returns both that and the tail.
+/// Replays the last file of `queue`, as [`replay_last`] does, into a machine that `factory` makes. Returns the machine and what was read.
 ///
 /// # Errors
 ///
@@ -57,12 +74,12 @@ pub fn read_last<M: ReplayMachine, F: Factory<M>, S: ReadFiles>(
     queue: LogQueue,
     version: Version,
     last: FileSize,
-) -> Result<(M, Option<CutTail>)>
+) -> Result<(M, LastRead)>
     requires { (m : M) → F.gives factory.now m → M.stands_exactly m [] }
     ensures { IfOk result (AreClosedAndLastRead (S.gives source.now) mode queue version [] last M.stands_for M.stands_exactly) }
 {
     let mut machine = factory.new_target(alloc)?;
     let file = LogFileContext::new(FileId::new(queue, last.seq), version);
-    let tail = replay_last(&mut machine, alloc, source, mode, &file, last.len)?;
-    Ok((machine, tail))
+    let read = replay_last(&mut machine, alloc, source, mode, &file, last.len)?;
+    Ok((machine, read))
 }

@@ -1,6 +1,8 @@
 //! An engine that is opened over files which are read in pieces.
 #![tactic(auto)]
 
+#[doc(hidden)]
+pub mod damaged;
 mod file_rest;
 pub mod folder;
 mod last_file;

@@ -5,7 +5,7 @@ ghost use Rattle.raft_opening.specs.ReadOnce.{AreUnreadAs, IsHalfOpenedOver, IsO
 
 use crate::piece_reading::read_in_pieces;
 use raft_base::Version;
-use raft_engine::reading::Reading;
+use raft_engine::reading::ReadFiles as FilesRead;
 use raft_engine::{Engine, Opened, RecoveryMode, Unopened};
 use raft_files::{Asked, Found, NotesFound};
 use raft_reading::{FileSize, ReadFiles};
@@ -20,21 +20,20 @@ struct FoundByReading<'a, S: ReadFiles> {
     version: Version,
     append: &'a [FileSize],
     rewrite: &'a [FileSize],
-    reading: &'a Reading,
+    read: &'a FilesRead,
 }
 
 impl<S: ReadFiles> Found for FoundByReading<'_, S> {
     ghost use Rattle.raft_opening.specs.ReadOnce.{IsReadingOver};
 
     ghost are_found = { λ found. IsReadingOver (S.gives found.source.now) found.mode found.version found.append.now
-        found.rewrite.now found.reading.now };
+        found.rewrite.now found.read.now };
 }
 
 /// Opens the files that a crash of the machine left, as [`Engine::open_telling`] does, by the numbers and lengths of those of each
 /// queue, oldest first. Their bytes are read by the workers, through `source`, piece by piece, each byte once, and let go once they
 /// are replayed: so besides the tables no more is in memory than a piece of 4 MiB, or a longer batch, for each worker, and what
-/// stands in a queue's last file behind its readable prefix. What was found is what the reads gave. The entries of the last append
-/// file aren't checked: `damaged` is empty, whatever they are.
+/// stands in a queue's last file behind its readable prefix. What was found is what the reads gave.
 ///
 /// # Errors
 ///
@@ -58,14 +57,14 @@ pub fn open_in_pieces<R: Threads + Sync, F: NotesFound, S: ReadFiles>(
 ) -> std::result::Result<Opened<F>, Unopened<F>>
     requires { F.asked files ≡ [] }
     ensures ok { IfOk result (λ opened. IsOpenedOver (S.gives source.now) mode version append.now rewrite.now opened.engine
-        opened.recovered) }
+        opened.recovered opened.damaged.items) }
     ensures err { IfErr result (λ unopened. ((F.asked unopened.files ≡ [])
         × AreUnreadAs (S.gives source.now) (S.may_fail source.now) mode version workers append.now rewrite.now unopened.error)
         ⊎ IsHalfOpenedOver (S.gives source.now) F.may_fail mode version append.now rewrite.now (F.asked unopened.files)
         unopened.error) }
 {
     match read_in_pieces(rt, alloc, source, mode, version, append, rewrite, workers) {
-        Ok(reading) => open_read(mode, version, files, source, append, rewrite, reading),
+        Ok(read) => open_read(mode, version, files, source, append, rewrite, read),
         Err(error) => Err(Unopened { files, error }),
     }
 }
@@ -82,12 +81,12 @@ fn open_read<F: NotesFound, S: ReadFiles>(
     source: &S,
     append: &[FileSize],
     rewrite: &[FileSize],
-    reading: Reading,
+    read: FilesRead,
 ) -> std::result::Result<Opened<F>, Unopened<F>>
     requires asked { F.asked files ≡ [] }
-    requires read { IsReadingOf (S.gives source.now) mode version append.now rewrite.now reading }
+    requires read { IsReadingOf (S.gives source.now) mode version append.now rewrite.now read }
     ensures ok { IfOk result (λ opened. IsOpenedOver (S.gives source.now) mode version append.now rewrite.now opened.engine
-        opened.recovered) }
+        opened.recovered opened.damaged.items) }
     ensures err { IfErr result (λ unopened. IsHalfOpenedOver (S.gives source.now) F.may_fail mode version append.now
         rewrite.now (F.asked unopened.files) unopened.error) }
 {
@@ -97,10 +96,9 @@ fn open_read<F: NotesFound, S: ReadFiles>(
         version,
         append,
         rewrite,
-        reading: &reading,
+        read: &read,
     });
     let mut files = files;
     files.note_found(found);
-    let damaged = Vec::new(reading.append.allocator());
-    Engine::of_reading(version, files, reading, damaged)
+    Engine::of_reading(version, files, read.reading, read.damaged)
 }

@@ -15,7 +15,7 @@ use raft_contexts::{MemTableRecoverContext, MemTableRecoverContextFactory};
 use raft_engine::RecoveryMode;
 use raft_engine::both::{Both, BothFactory};
 use raft_engine::group_rows::{GroupRows, GroupRowsFactory, OUT_OF_ROW};
-use raft_engine::reading::{Reading, Ready};
+use raft_engine::reading::{ReadFiles as FilesRead, Ready};
 use raft_reading::{FileSize, ReadFiles};
 use raft_recover::files_hold_few_records;
 use raft_recover::recovery::part_of_workers;
@@ -25,10 +25,10 @@ use std::thread::{Threads, join};
 /// Why files are refused of which one reading was refused, and the next one wasn't.
 const CHANGED: &str = "the files changed while they were read, or a read failed";
 
-/// Reads found files piece by piece, each byte once, by so many workers, and recovers the tables of those that are there once what
+/// Reads found files piece by piece, each byte once, by `workers` threads, and recovers the tables of those that are there once what
 /// is missing was asked. A piece is let go once its batches are replayed: so besides the tables no more is in memory than a piece
-/// of 4 MiB, or a longer batch, for each worker, and what stands in a queue's last file behind its readable prefix. What is
-/// promised is promised of the bytes that the reads gave.
+/// of 4 MiB, or a longer batch, for each worker, and what stands in a queue's last file behind its readable prefix. Of the last
+/// append file the batches are named whose entries are damaged. What is promised is promised of the bytes that the reads gave.
 ///
 /// # Errors
 ///
@@ -44,13 +44,13 @@ pub fn read_in_pieces<R: Threads + Sync, S: ReadFiles>(
     append: &[FileSize],
     rewrite: &[FileSize],
     workers: usize,
-) -> Result<Reading>
+) -> Result<FilesRead>
     ensures ok { IfOk result (IsReadingOf (S.gives source.now) mode version append.now rewrite.now) }
     ensures err { IfErr result (AreUnreadAs (S.gives source.now) (S.may_fail source.now) mode version workers append.now
         rewrite.now) }
 {
     match read_once(rt, alloc, source, mode, version, append, rewrite, workers) {
-        Ok(reading) => Ok(reading),
+        Ok(read) => Ok(read),
         Err(Error::Memory) => Err(Error::Memory),
         Err(_) => Err(refusal(rt, alloc, source, mode, version, append, rewrite, workers)),
     }
@@ -89,7 +89,7 @@ fn read_once<R: Threads + Sync, S: ReadFiles>(
     append: &[FileSize],
     rewrite: &[FileSize],
     workers: usize,
-) -> Result<Reading>
+) -> Result<FilesRead>
     ensures { IfOk result (IsReadingOf (S.gives source.now) mode version append.now rewrite.now) }
 {
     files_hold_few_records();
@@ -99,10 +99,12 @@ fn read_once<R: Threads + Sync, S: ReadFiles>(
     let QueueRead {
         machine: rewritten,
         sized: rewrite,
+        ..
     } = rewrite;
     let QueueRead {
         machine: appended,
         sized: append,
+        damaged,
     } = append;
     let (append_left, rewrite_left) = (append.left.as_slice(), rewrite.left.as_slice());
     check_few_bytes(append_left)?;
@@ -115,7 +117,8 @@ fn read_once<R: Threads + Sync, S: ReadFiles>(
         append: append.ready,
         rewrite: rewrite.ready,
     };
-    ready.with_contexts(alloc, appended, first)
+    let reading = ready.with_contexts(alloc, appended, first)?;
+    Ok(FilesRead { reading, damaged })
 }
 
 /// Reads the files of both queues: at once, by two workers or more, or one after the other by all workers, where those of the

@@ -5,12 +5,12 @@ ghost use Rattle.std.specs.Thread.{IsSync};
 ghost use Rattle.raft_reading.specs.QueueRead.{IsQueueReplayed};
 ghost use Rattle.raft_opening.specs.ReadOnce.{AreClosedAndLastRead, AreReplayed, IsQueueRead};
 
-use crate::last_file::read_last;
+use crate::last_file::{LastRead, read_last};
 use crate::sized_files::{SizedQueue, check_sizes, known_of, sizes_left};
 use raft_base::{Factory, LogQueue, Result, Version};
 use raft_engine::found_queue::ReadyQueue;
 use raft_engine::missing::Missing;
-use raft_engine::{CutTail, RecoveryMode};
+use raft_engine::{DamagedBatch, RecoveryMode};
 use raft_history::ReplayMachine;
 use raft_reading::{FileSize, ReadFiles, replay_files};
 use std::alloc::Global;
@@ -21,9 +21,20 @@ use std::thread::{Threads, join};
 pub struct QueueRead<M> {
     pub machine: M,
     pub sized: SizedQueue,
+    /// The batches of the last file whose entries are damaged; none of the rewrite queue.
+    pub damaged: Vec<DamagedBatch>,
 }
 
-/// Reads the files of a queue by so many workers.
+/// A machine that has replayed the batches of found files, what is missing of these, and which batches of the last one have damaged
+/// entries.
+#[derive(Drop)]
+pub struct QueueReplayed<M> {
+    pub machine: M,
+    pub missing: Missing,
+    pub damaged: Vec<DamagedBatch>,
+}
+
+/// Reads the files of `queue` that `sizes` names, by `workers` threads, and checks that `mode` accepts what stands in the last one.
 ///
 /// # Errors
 ///
@@ -47,15 +58,24 @@ pub fn read_queue<M: ReplayMachine, F: Factory<M>, S: ReadFiles, R: Threads + Sy
     let read = replay_queue(
         rt, alloc, factory, source, mode, queue, version, sizes, workers,
     )?;
-    let (machine, missing) = read;
+    let QueueReplayed {
+        machine,
+        missing,
+        damaged,
+    } = read;
     let left = sizes_left(alloc, sizes, &missing)?;
     let known = known_of(alloc, left.as_slice())?;
     let ready = ReadyQueue { missing, known };
     let sized = SizedQueue { ready, left };
-    Ok(QueueRead { machine, sized })
+    Ok(QueueRead {
+        machine,
+        sized,
+        damaged,
+    })
 }
 
-/// Replays the files of a queue, and returns with the machine what is missing of them.
+/// Replays the files of a queue, and returns with the machine what is missing of them, and which batches of the last one are
+/// damaged.
 ///
 /// # Errors
 ///
@@ -70,23 +90,36 @@ fn replay_queue<M: ReplayMachine, F: Factory<M>, S: ReadFiles, R: Threads + Sync
     version: Version,
     sizes: &[FileSize],
     workers: usize,
-) -> Result<(M, Missing)>
+) -> Result<QueueReplayed<M>>
     requires factory { (m : M) → F.gives factory.now m → M.stands_exactly m [] }
     requires workers { (0 < workers) × (workers ≤ 256) }
     ensures { IfOk result (AreReplayed (S.gives source.now) mode queue version sizes.now M.stands_for M.stands_exactly) }
 {
     let Some((last, closed)) = sizes.split_last() else {
         let machine = factory.new_target(alloc)?;
-        return Ok((machine, Missing::FirstFile));
+        let damaged = Vec::new(alloc);
+        return Ok(QueueReplayed {
+            machine,
+            missing: Missing::FirstFile,
+            damaged,
+        });
     };
     let last = *last;
     let read = replay_parts(
         rt, alloc, factory, source, mode, queue, version, closed, last, workers,
     )?;
-    let (machine, tail) = read;
+    let (machine, LastRead { tail, damaged }) = read;
     match tail {
-        None => Ok((machine, Missing::Nothing)),
-        Some(tail) => Ok((machine, Missing::Cut(tail))),
+        None => Ok(QueueReplayed {
+            machine,
+            missing: Missing::Nothing,
+            damaged,
+        }),
+        Some(tail) => Ok(QueueReplayed {
+            machine,
+            missing: Missing::Cut(tail),
+            damaged,
+        }),
     }
 }
 
@@ -106,7 +139,7 @@ fn replay_parts<M: ReplayMachine, F: Factory<M>, S: ReadFiles, R: Threads + Sync
     closed: &[FileSize],
     last: FileSize,
     workers: usize,
-) -> Result<(M, Option<CutTail>)>
+) -> Result<(M, LastRead)>
     requires factory { (m : M) → F.gives factory.now m → M.stands_exactly m [] }
     requires workers { (0 < workers) × (workers ≤ 256) }
     ensures { IfOk result (AreClosedAndLastRead (S.gives source.now) mode queue version closed.now last M.stands_for
@@ -119,9 +152,9 @@ fn replay_parts<M: ReplayMachine, F: Factory<M>, S: ReadFiles, R: Threads + Sync
     let both = replay_apart(
         rt, alloc, factory, source, mode, queue, version, closed, last, workers,
     )?;
-    let (mut machine, (newest, tail)) = both;
+    let (mut machine, (newest, read)) = both;
     machine.merge(newest, queue)?;
-    Ok((machine, tail))
+    Ok((machine, read))
 }
 
 /// Replays closed files and the last one of a queue into machines of their own: the last one by one worker, and meanwhile the
@@ -141,7 +174,7 @@ fn replay_apart<M: ReplayMachine, F: Factory<M>, S: ReadFiles, R: Threads + Sync
     closed: &[FileSize],
     last: FileSize,
     workers: usize,
-) -> Result<(M, (M, Option<CutTail>))>
+) -> Result<(M, (M, LastRead))>
     requires factory { (m : M) → F.gives factory.now m → M.stands_exactly m [] }
     requires workers { (0 < workers) × (workers ≤ 256) }
     ensures older { IfOk result (λ both. IsQueueReplayed (S.gives source.now) queue version closed.now M.stands_for
@@ -161,7 +194,7 @@ fn replay_apart<M: ReplayMachine, F: Factory<M>, S: ReadFiles, R: Threads + Sync
         ensures { IfOk result (IsQueueReplayed (S.gives source.entry.now) queue version closed.entry.now M.stands_for
             M.stands_exactly) }
     { replay_files(rt, alloc, factory, source, closed, queue, version, others) };
-    let read_newest = || -> Result<(M, Option<CutTail>)>
+    let read_newest = || -> Result<(M, LastRead)>
         requires { IsSync F.row × IsSync S.row × ((m : M) → F.gives factory.now m → M.stands_exactly m []) }
         ensures { IfOk result (AreClosedAndLastRead (S.gives source.entry.now) mode queue version [] last M.stands_for
             M.stands_exactly) }

@@ -78,7 +78,7 @@ pub fn check_sizes(alloc: Global, queue: LogQueue, sizes: &[FileSize]) -> Result
     Ok(())
 }
 
-/// Returns what is known of files; of the first one, where there is none.
+/// Returns what is known of the files that `sizes` names, or of the first file that is begun if there is none.
 ///
 /// # Errors
 ///
@@ -174,7 +174,11 @@ fn tail_of<S: ReadFiles>(
         ⊎ IsReadRefusal (S.gives source.now) (S.may_fail source.now) e) }
 {
     let prefix = read_prefix(alloc, source, file, len)?;
-    let Prefix { len: at, stopped } = prefix;
+    let Prefix {
+        len: at,
+        stopped,
+        ..
+    } = prefix;
     let Some(error) = stopped else {
         return Ok(None);
     };
@@ -188,11 +192,11 @@ fn tail_of<S: ReadFiles>(
     }))
 }
 
-/// Refuses files that have 2^63 bytes or more together.
+/// Checks that files have fewer than 2^63 bytes together.
 ///
 /// # Errors
 ///
-/// `Full`.
+/// `Full` if they have more.
 pub fn check_few_bytes(sizes: &[FileSize]) -> Result<()>
     ensures ok { OnOk result (bytes_of_sizes sizes.now < 2 ^ 63) }
     ensures fault { IfErr result (λ e. (2 ^ 63 ≤ bytes_of_sizes sizes.now) × (e ≡ Error.Full)) }

@@ -34,7 +34,7 @@ pub const LEAST_SHARE: usize = 1 << 20;
 /// The least number of files that aren't read.
 const FILE_LIMIT: usize = 1 << 62;
 
-/// Reads found files piece by piece, by so many workers, and recovers the tables of those that are there once what is missing was
+/// Reads found files piece by piece, by `workers` threads, and recovers the tables of those that are there once what is missing was
 /// asked. The last file of each queue is read first, up to where no batch can be read, and what stands there is looked at; then all
 /// files are replayed, each up to there.
 ///

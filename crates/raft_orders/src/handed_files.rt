@@ -45,8 +45,8 @@ impl Model for HandedFiles {
 }
 
 impl HandedFiles {
-    /// Makes files that are found when the machine starts, as they were noted: all of their bytes are on the disk, and nothing is to be
-    /// done to them yet.
+    /// Returns files that were found when the machine started, with what was noted of them in `found`: all of
+    /// their bytes are on the disk, and no order waits.
     pub fn found(alloc: Global, found: Asked) -> HandedFiles
         requires { all_to_do found.asks ≡ [] }
         ensures asks { result.asks ≡ found.asks }
@@ -60,21 +60,22 @@ impl HandedFiles {
         }
     }
 
-    /// Returns the oldest order that waits.
+    /// Returns the oldest order that waits, or `None` if there is none.
     pub fn first_order(&self) -> Option<&Order>
         ensures { option_map (λ o. ask_of o.now) result ≡ next_to_do self.now.asks self.now.taken }
     {
         self.waiting.first()
     }
 
-    /// Returns how many orders were taken: the number of the oldest one that waits.
+    /// Returns how many orders were taken: that is the number of the oldest one that waits.
     pub fn taken(&self) -> u64
         ensures { result ≡ self.now.taken }
     {
         self.waiting.taken()
     }
 
-    /// Takes the oldest order that waits, if there is one. It has the number of orders that were taken before.
+    /// Removes the oldest order that waits and returns it with its number, the number of orders that were
+    /// taken before. Returns `None` if there is none.
     pub fn take_order(&mut self) -> Option<NumberedOrder>
         ensures some { IfSome result (IsOrder self.old.asks self.old.taken) }
         ensures none { IfNone result (next_to_do self.old.asks self.old.taken ≡ None) }
@@ -85,11 +86,11 @@ impl HandedFiles {
         self.waiting.take()
     }
 
-    /// Keeps a copy of the bytes that stand at a place, for reads.
+    /// Keeps a copy of `bytes`, which are in `file` at `offset`, for reads.
     ///
     /// # Errors
     ///
-    /// `Memory`.
+    /// `Memory` alone.
     pub fn lend(&mut self, file: FileId, offset: u64, bytes: &[u8]) -> Result<()>
         ensures same { self.new ≡ self.old }
         ensures memory { IfErr result (λ e. e ≡ Error.Memory) }
@@ -97,7 +98,7 @@ impl HandedFiles {
         self.lent.lend(self.alloc, file, offset, bytes)
     }
 
-    /// Lets go of all bytes that were lent.
+    /// Drops all bytes that were lent, so that a read returns `TryAgain`.
     pub fn clear_lent(&mut self)
         ensures { self.new ≡ self.old }
     {
@@ -110,11 +111,11 @@ impl EngineFiles for HandedFiles {
 
     ghost may_fail = { HandedFails };
 
-    /// Orders that bytes are put.
+    /// Orders that `bytes` are put behind those of the last file of `queue`. The order has a copy of them.
     ///
     /// # Errors
     ///
-    /// `Memory`; `Full` where there were 2^64 - 1 orders. Nothing is asked then.
+    /// `Memory`; `Full` after 2^64 - 1 orders. Nothing is asked then.
     fn append(&mut self, queue: LogQueue, bytes: &[u8]) -> Result<()>
         ensures ok { OnOk result (self.new.asks ≡ ask queue (Put bytes.now) ∷ self.old.asks) }
         ensures taken { self.new.taken ≡ self.old.taken }
@@ -127,11 +128,11 @@ impl EngineFiles for HandedFiles {
         Ok(())
     }
 
-    /// Orders that a file is begun.
+    /// Orders that a file numbered `seq` is begun behind the last one of `queue`.
     ///
     /// # Errors
     ///
-    /// `Memory`; `Full` where there were 2^64 - 1 orders. Nothing is asked then.
+    /// `Memory`; `Full` after 2^64 - 1 orders. Nothing is asked then.
     fn rotate(&mut self, queue: LogQueue, seq: FileSeq) -> Result<()>
         ensures ok { OnOk result (self.new.asks ≡ ask queue (Begin seq) ∷ self.old.asks) }
         ensures taken { self.new.taken ≡ self.old.taken }
@@ -144,11 +145,11 @@ impl EngineFiles for HandedFiles {
         Ok(())
     }
 
-    /// Orders a sync.
+    /// Orders a sync of `queue`.
     ///
     /// # Errors
     ///
-    /// `Memory`; `Full` where there were 2^64 - 1 orders. Nothing is asked then.
+    /// `Memory`; `Full` after 2^64 - 1 orders. Nothing is asked then.
     fn sync(&mut self, queue: LogQueue) -> Result<()>
         ensures ok { OnOk result (self.new.asks ≡ ask queue Sync ∷ self.old.asks) }
         ensures taken { self.new.taken ≡ self.old.taken }
@@ -161,11 +162,11 @@ impl EngineFiles for HandedFiles {
         Ok(())
     }
 
-    /// Orders that the oldest file is deleted.
+    /// Orders that the oldest file of `queue` is deleted.
     ///
     /// # Errors
     ///
-    /// `Memory`; `Full` where there were 2^64 - 1 orders. Nothing is asked then.
+    /// `Memory`; `Full` after 2^64 - 1 orders. Nothing is asked then.
     fn delete_oldest(&mut self, queue: LogQueue) -> Result<()>
         ensures ok { OnOk result (self.new.asks ≡ ask queue Delete ∷ self.old.asks) }
         ensures taken { self.new.taken ≡ self.old.taken }
@@ -178,11 +179,11 @@ impl EngineFiles for HandedFiles {
         Ok(())
     }
 
-    /// Orders that the last file is cut.
+    /// Orders that the last file of `queue` is cut to `len` bytes.
     ///
     /// # Errors
     ///
-    /// `Memory`; `Full` where there were 2^64 - 1 orders. Nothing is asked then.
+    /// `Memory`; `Full` after 2^64 - 1 orders. Nothing is asked then.
     fn truncate(&mut self, queue: LogQueue, len: u64) -> Result<()>
         ensures ok { OnOk result (self.new.asks ≡ ask queue (Cut len) ∷ self.old.asks) }
         ensures taken { self.new.taken ≡ self.old.taken }
@@ -195,11 +196,11 @@ impl EngineFiles for HandedFiles {
         Ok(())
     }
 
-    /// Returns a copy of the bytes that were lent for a place.
+    /// Returns a copy of the bytes that were lent for `place`. The read is noted.
     ///
     /// # Errors
     ///
-    /// `TryAgain` where none were lent, or another number of them; `Memory`.
+    /// `TryAgain` if none were lent, or another number of them; `Memory`. Nothing is noted then.
     fn read(&mut self, place: FileBlockHandle) -> Result<Vec<u8>>
         ensures ok { IfOk result (λ bytes. self.new.asks ≡ ask place.id.queue (Read place bytes.items) ∷ self.old.asks) }
         ensures len { IfOk result (λ bytes. length bytes.items ≡ place.len) }

@@ -15,7 +15,7 @@ pub struct LentBlocks {
 }
 
 impl LentBlocks {
-    /// Makes one without bytes.
+    /// Returns a store to which no bytes were lent yet.
     pub fn new(alloc: Global) -> LentBlocks
         ensures { IsEmpty result.blocks }
     {
@@ -24,11 +24,12 @@ impl LentBlocks {
         }
     }
 
-    /// Keeps a copy of the bytes that stand at a place.
+    /// Keeps a copy of `bytes`, which are in `file` at `offset`, in place of those that were lent for that
+    /// offset before.
     ///
     /// # Errors
     ///
-    /// `Memory`.
+    /// `Memory` alone.
     pub fn lend(&mut self, alloc: Global, file: FileId, offset: u64, bytes: &[u8]) -> Result<()>
         ensures memory { IfErr result (λ e. e ≡ Error.Memory) }
     {
@@ -37,11 +38,11 @@ impl LentBlocks {
         Ok(())
     }
 
-    /// Returns a copy of the bytes at a place.
+    /// Returns a copy of the bytes that were lent for `place`.
     ///
     /// # Errors
     ///
-    /// `TryAgain` where none were lent, or another number of them; `Memory`.
+    /// `TryAgain` if none were lent for it, or another number of them; `Memory`.
     pub fn read(&self, alloc: Global, place: FileBlockHandle) -> Result<Vec<u8>>
         ensures len { IfOk result (λ bytes. length bytes.items ≡ place.len) }
         ensures fault { IfErr result IsUnread }
@@ -54,7 +55,7 @@ impl LentBlocks {
         Err(Error::TryAgain(String::new(alloc)))
     }
 
-    /// Lets go of all bytes.
+    /// Drops all lent bytes, so that a read returns `TryAgain`.
     pub fn clear(&mut self)
         ensures { IsEmpty self.new.blocks }
     {

@@ -19,16 +19,16 @@ pub enum Task {
     Put(Vec<u8>),
     /// Begin a file with this number behind the last one, whose bytes are synced then.
     Begin(FileSeq),
-    /// Sync the queue: all that was done to it outlasts a crash then.
+    /// Sync the queue: all that was done to it survives a crash then.
     Sync,
     /// Delete the oldest file.
     Delete,
-    /// Cut the last file to so many bytes.
+    /// Cut the last file to this many bytes.
     Cut(u64),
 }
 
 impl Order {
-    /// Returns how many bytes are put; 0 where none are.
+    /// Returns how many bytes the order puts, or 0 if it is of another kind.
     pub fn bytes_len(&self) -> usize
         ensures { result ≡ length_put self.now.task }
     {

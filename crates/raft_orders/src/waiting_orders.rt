@@ -22,7 +22,7 @@ pub struct NumberedOrder {
 }
 
 impl WaitingOrders {
-    /// Makes a list without an order.
+    /// Returns a list of which no order was taken or waits.
     pub fn new(alloc: Global) -> WaitingOrders
         ensures orders { result.orders.items ≡ [] }
         ensures count { result.count ≡ 0 }
@@ -33,11 +33,11 @@ impl WaitingOrders {
         }
     }
 
-    /// Adds an order behind the others.
+    /// Adds `order` behind the others.
     ///
     /// # Errors
     ///
-    /// `Full` where there were 2^64 - 1 orders, `Memory`. The list is then as it was.
+    /// `Full` after 2^64 - 1 orders; `Memory`. The list is unchanged then, and the order is dropped.
     pub fn push(&mut self, order: Order) -> Result<()>
         ensures orders { OnOk result (self.new.orders.items ≡ self.old.orders.items ++ order ∷ []) }
         ensures count { OnOk result (self.new.count ≡ self.old.count + 1) }
@@ -54,14 +54,14 @@ impl WaitingOrders {
         Ok(())
     }
 
-    /// Returns the oldest order that waits.
+    /// Returns the oldest order that waits, or `None` if there is none.
     pub fn first(&self) -> Option<&Order>
         ensures { option_map (λ o. o.now) result ≡ slice_get self.now.orders.items 0 }
     {
         self.orders.front()
     }
 
-    /// Returns how many orders don't wait any more.
+    /// Returns how many orders were taken, that is how many there were without those that wait.
     pub fn taken(&self) -> u64
         requires { length self.now.orders.items ≤ self.now.count }
         ensures { result ≡ self.now.count - length self.now.orders.items }
@@ -69,7 +69,8 @@ impl WaitingOrders {
         self.count - self.orders.len() as u64
     }
 
-    /// Takes the oldest order out, if one waits.
+    /// Removes the oldest order that waits and returns it with its number, or returns `None` if there is
+    /// none.
     pub fn take(&mut self) -> Option<NumberedOrder>
         requires { length self.old.orders.items ≤ self.old.count }
         ensures number { IfSome result (λ o. o.number ≡ self.old.count - length self.old.orders.items) }

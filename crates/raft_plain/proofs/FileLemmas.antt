@@ -1,24 +1,7 @@
 -- Whole files of a queue as parts, and the lines of their tables.
-use Rattle.std.proofs.Common.{◌≡◌, ◌≢◌, ◌⊎◌, inl, inr, ℕ, List, [], ◌∷◌, ◌++◌, Option, Result, Ok, Err, IfErr, OnOk, Vec, refl, sym, ap, subst, ◌∙◌, map, length, arith, append_assoc, append-nil}
-use Rattle.std.proofs.lemmas.List.Elements.{All-map}
-use Rattle.std.specs.Global.{Global}
-use Rattle.std.specs.List.{All}
-use Rattle.raft_base.specs.declared.errors.Error.{Error}
+use Rattle.raft_plain.proofs.Common.{◌≡◌, ◌≢◌, ◌⊎◌, inl, inr, ℕ, List, [], ◌∷◌, ◌++◌, Option, Result, Ok, Err, IfErr, OnOk, Vec, refl, sym, ap, subst, ◌∙◌, map, length, arith, append_assoc, append-nil, All-map, Global, All, Error, LogQueue, Version, Part, IsIoError, Event}
+use Rattle.raft_plain.proofs.Common.{Accessor, FilesHold, NumberedBytes, whole_file, CannotFollow, IsNothing, PartsHold, file_shown, FilesCannotBeRead, IsPrintFailure, PrintsRecovered, IsRecovered, PrintsFrontOfTables, PrintsTables}
 use Rattle.raft_base.specs.declared.errors.Error.TheVariants as errors
-use Rattle.raft_base.specs.declared.pipe_log.LogQueue.{LogQueue}
-use Rattle.raft_base.specs.declared.pipe_log.Version.{Version}
-use Rattle.raft_records.specs.FilePart.{Part}
-use Rattle.raft_records.specs.Lines.{IsIoError}
-use Rattle.raft_history.specs.Batches.{Event}
-use Rattle.raft_accessor.specs.Accessor.{Accessor}
-use Rattle.raft_reading.specs.QueueRead.{FilesHold, NumberedBytes, whole_file}
-use Rattle.raft_replay.specs.Replays.{CannotFollow}
-use Rattle.raft_replay.specs.Stops.{IsNothing}
-use Rattle.raft_replay.proofs.Words.{PartsHold}
-use Rattle.raft_recover.specs.AskedRequests.{file_shown}
-use Rattle.raft_recover.specs.Files.{FilesCannotBeRead, IsPrintFailure, PrintsRecovered}
-use Rattle.raft_recover.specs.Recovery.{IsRecovered}
-use Rattle.raft_recover.specs.TableLines.{PrintsFrontOfTables, PrintsTables}
 
 module _ (queue : LogQueue) (version : Version) where
   -- the parts so far and those of the files that are left make up the whole

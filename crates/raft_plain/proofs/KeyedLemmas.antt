@@ -1,21 +1,8 @@
 -- The entries of a map under numbers, shown by what their keys and values stand for.
-use Rattle.std.proofs.Common.{◌≡◌, Bool, true, false, cond, not, ◌&&◌, List, [], ◌∷◌, ℕ, Option, Some, None, refl, sym, ap, subst, ◌∙◌, map, length}
-use Rattle.std.proofs.lemmas.Map.Keys.{sorted_head, sorted_tail}
-use Rattle.std.specs.BTreeMap.{insert_entry, is_at}
-use Rattle.std.specs.Cmp.{nat_cmp_total}
+use Rattle.raft_plain.proofs.Common.{◌≡◌, Bool, true, false, cond, not, ◌&&◌, List, [], ◌∷◌, ℕ, Option, Some, None, refl, sym, ap, subst, ◌∙◌, map, length, sorted_head, sorted_tail, insert_entry, is_at, nat_cmp_total, find, put, is_sorted, nat_cmp-IsAntisymmetric, below_all}
+use Rattle.raft_plain.proofs.Common.{by_order, where_key, AllByRecursion, IsStrictlySortedBy, keys_of, lookup, remove_entry, option_map, eq_by_cmp, is_eq, match_ordering, nat_cmp, Less, Equal, Greater, entries-remove, first_of_both, second_of_both, equal, below_all-equal}
+use Rattle.raft_plain.proofs.Common.{find-below, where_key-below, tied, eqb_self}
 use Rattle.std.specs.FinMap as finite
-use Rattle.std.specs.FinMap.{find, put, is_sorted, nat_cmp-IsAntisymmetric}
-use Rattle.std.specs.FinMap.Entries.{below_all, by_order, where_key}
-use Rattle.std.specs.List.{AllByRecursion}
-unfoldable use Rattle.std.specs.List.Sorted.{IsStrictlySortedBy}
-use Rattle.std.specs.Map.{keys_of, lookup, remove_entry}
-use Rattle.std.specs.Option.{option_map}
-use Rattle.std.specs.Ordering.{eq_by_cmp, is_eq, match_ordering, nat_cmp}
-use Rattle.std.specs.declared.cmp.Ordering.TheVariants.{Less, Equal, Greater}
-use Rattle.raft_table.proofs.KeyValueCounts.{entries-remove}
-use Rattle.raft_table.proofs.Shown.{first_of_both, second_of_both, equal, below_all-equal, find-below, where_key-below}
-use Rattle.raft_history.proofs.KnownLemmas.{tied}
-use Rattle.raft_history.proofs.StepListLemmas.{eqb_self}
 use lib.Dec.{T}
 
 both_hold : (a b : Bool) → T a → T b → T (a && b)

@@ -1,3 +1,4 @@
+mod Common
 pub mod FileLemmas
 pub mod GroupLemmas
 pub mod KeyedLemmas

@@ -1,17 +1,8 @@
 -- How many records of plain regions are live, and where the least file is.
-use Rattle.std.proofs.Common.{◌≡◌, ◌+◌, Bool, true, false, cond, List, [], ◌∷◌, ℕ, Option, Some, None, refl, ap, ◌∙◌, map, filter, length, arith}
+use Rattle.raft_plain.proofs.Common.{◌≡◌, ◌+◌, Bool, true, false, cond, List, [], ◌∷◌, ℕ, Option, Some, None, refl, ap, ◌∙◌, map, filter, length, arith, LogQueue, added, live-added, live_in_all, entries-map_of, pair_count, seqs_in, is_same, Table, live_of, Region, Stored}
+use Rattle.raft_plain.proofs.Common.{stored_shown, table_shown, tables_in}
 use Rattle.std.specs.FinMap as finite
-use Rattle.raft_base.specs.declared.pipe_log.LogQueue.{LogQueue}
-use Rattle.raft_accessor.proofs.TotalSums.{added, live-added}
-use Rattle.raft_accessor.specs.Accessor.{live_in_all}
-use Rattle.raft_table.proofs.KeyValueCounts.{entries-map_of}
-use Rattle.raft_table.specs.KeyValues.{pair_count, seqs_in}
 use Rattle.raft_table.specs.KeyValues as table
-use Rattle.raft_table.specs.Queues.{is_same}
-use Rattle.raft_table.specs.Table.{Table, live_of}
-use Rattle.raft_plain.specs.declared.region.Region.{Region}
-use Rattle.raft_plain.specs.declared.region.Stored.{Stored}
-use Rattle.raft_plain.specs.Plain.{stored_shown, table_shown, tables_in}
 use Rattle.raft_plain.proofs.KeyedLemmas.{entries-of, Rises}
 use Rattle.raft_plain.proofs.PairLemmas as pairs
 use Rattle.raft_plain.proofs.PairLemmas.{bytes_of, keys_in}

@@ -1,28 +1,10 @@
 -- The records of the append queue over those of the rewrite queue, region by region.
-use Rattle.std.proofs.Common.{◌≡◌, ◌⊎◌, inl, inr, Bool, true, false, cond, not, ◌||◌, List, [], ◌∷◌, ◌++◌, ℕ, Option, Some, None, refl, sym, ap, subst, ◌∙◌, append-nil}
-use Rattle.std.specs.Cmp.Lexicographic.{nat_list_cmp_total, slice_cmp}
+use Rattle.raft_plain.proofs.Common.{◌≡◌, ◌⊎◌, inl, inr, Bool, true, false, cond, not, ◌||◌, List, [], ◌∷◌, ◌++◌, ℕ, Option, Some, None, refl, sym, ap, subst, ◌∙◌, append-nil, nat_list_cmp_total, slice_cmp, option_map, eq_by_cmp, nat_cmp, is_some, EntryIndex, pairs_over-empty}
+use Rattle.raft_plain.proofs.Common.{union_assoc, union_empty, union_one, get-without, same_keys, within-whole, entries_within, KeySet, without, Keys, pairs_over, deleted_of, greatest_compaction, has_clean, kept_if, least_cut, overlaid_table, overlay, rewritten_within, Step, Run}
+use Rattle.raft_plain.proofs.Common.{Compact, Truncate, Put, Del, AtomicGroup, Clean, table_of, Table, empty_table, IsOther, by_region, get_gone, get_left, with_own, with_other, no_both, RegionStep, Tables, with_table, steps_on, Region, table_shown, tables_in}
 use Rattle.std.specs.FinMap as finite
 use Rattle.std.specs.FinSet as finset
-use Rattle.std.specs.Option.{option_map}
-use Rattle.std.specs.Ordering.{eq_by_cmp, nat_cmp}
-use Rattle.std.specs.Prelude.{is_some}
-use Rattle.raft_base.specs.declared.entry_index.EntryIndex.{EntryIndex}
-use Rattle.raft_table.proofs.KeyValueReads.{pairs_over-empty}
-use Rattle.raft_table.proofs.MarkExact.{union_assoc, union_empty, union_one}
-use Rattle.raft_table.proofs.MarkTables.{get-without, same_keys}
-use Rattle.raft_table.proofs.MarkWords.{within-whole}
-use Rattle.raft_table.specs.Marks.{entries_within}
-use Rattle.raft_table.specs.KeySets.{KeySet, without}
-use Rattle.raft_table.specs.KeyValues.{Keys, pairs_over}
 use Rattle.raft_table.specs.KeyValues as table
-use Rattle.raft_table.specs.Overlay.{deleted_of, greatest_compaction, has_clean, kept_if, least_cut, overlaid_table, overlay, rewritten_within}
-use Rattle.raft_table.specs.Steps.{Step, Run, Compact, Truncate, Put, Del, AtomicGroup, Clean, table_of}
-use Rattle.raft_table.specs.Table.{Table, empty_table}
-use Rattle.raft_history.proofs.MapLemmas.{IsOther, by_region, get_gone, get_left, with_own, with_other}
-use Rattle.raft_history.proofs.OptionLemmas.{no_both}
-use Rattle.raft_history.specs.RegionSteps.{RegionStep, Tables, with_table, steps_on}
-use Rattle.raft_plain.specs.declared.region.Region.{Region}
-use Rattle.raft_plain.specs.Plain.{table_shown, tables_in}
 use Rattle.raft_plain.proofs.KeyedLemmas.{Rises, head_gone, head_is, head_other, none-of}
 
 -- ---- one region

@@ -1,25 +1,9 @@
 -- The key values of a region, shown by their bytes.
-use Rattle.std.proofs.Common.{◌≡◌, Bool, true, false, cond, not, List, [], ◌∷◌, ℕ, None, refl, sym, ap, subst, ◌∙◌, map, filter}
-use Rattle.std.specs.BTreeMap.{insert_entry}
-use Rattle.std.specs.Cmp.{eq_by_cmp_equiv}
-use Rattle.std.specs.Cmp.Lexicographic.{nat_list_cmp_total, slice_cmp}
+use Rattle.raft_plain.proofs.Common.{◌≡◌, Bool, true, false, cond, not, List, [], ◌∷◌, ℕ, None, refl, sym, ap, subst, ◌∙◌, map, filter, insert_entry, eq_by_cmp_equiv, nat_list_cmp_total, slice_cmp, nat_cmp-IsAntisymmetric, slice_cmp-IsAntisymmetric, where_key, IsStrictlySortedBy}
+use Rattle.raft_plain.proofs.Common.{keys_of, eq_by_cmp, is_eq, is_ne, nat_cmp, Ordering, Less, Equal, Greater, entries-remove, entries-map_of, map_of-insert_entry, entries-empty, Keys, empty_table, Region, Stored, stored_shown, table_shown}
 use Rattle.std.specs.FinMap as finite
-use Rattle.std.specs.FinMap.{nat_cmp-IsAntisymmetric, slice_cmp-IsAntisymmetric}
-use Rattle.std.specs.FinMap.Entries.{where_key}
-unfoldable use Rattle.std.specs.List.Sorted.{IsStrictlySortedBy}
-use Rattle.std.specs.Map.{keys_of}
-use Rattle.std.specs.Ordering.{eq_by_cmp, is_eq, is_ne, nat_cmp}
 use Rattle.std.specs.declared.alloc.Global.{Global}
-use Rattle.std.specs.declared.cmp.Ordering.{Ordering}
-use Rattle.std.specs.declared.cmp.Ordering.TheVariants.{Less, Equal, Greater}
 use Rattle.std.specs.declared.vec.Vec.{Vec}
-use Rattle.raft_table.proofs.KeyValueCounts.{entries-remove, entries-map_of, map_of-insert_entry}
-use Rattle.raft_table.proofs.KeyValueReads.{entries-empty}
-use Rattle.raft_table.specs.KeyValues.{Keys}
-use Rattle.raft_table.specs.Table.{empty_table}
-use Rattle.raft_plain.specs.declared.region.Region.{Region}
-use Rattle.raft_plain.specs.declared.region.Stored.{Stored}
-use Rattle.raft_plain.specs.Plain.{stored_shown, table_shown}
 
 abbrev pub bytes_of : Vec ℕ Global → List ℕ
 bytes_of k = k.items

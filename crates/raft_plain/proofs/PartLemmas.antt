@@ -1,22 +1,7 @@
 -- Where the reading of a part stopped.
-use Rattle.std.proofs.Common.{List, [], ◌∷◌, ◌++◌, inl, inr, ◌⊎◌, refl, sym, ap, subst, ◌∙◌, ◌≡◌, ◌≢◌, ◌+◌, ◌<◌, ℕ, length, arith}
-use Rattle.raft_base.specs.declared.errors.Error.{Error}
+use Rattle.raft_plain.proofs.Common.{List, [], ◌∷◌, ◌++◌, inl, inr, ◌⊎◌, refl, sym, ap, subst, ◌∙◌, ◌≡◌, ◌≢◌, ◌+◌, ◌<◌, ℕ, length, arith, Error, LogQueue, Part, IsBatchAt, Item, batch_inside, Event, IsSmall, Sound, event, small_front, HasReplayed, history_in, GoneOn}
+use Rattle.raft_plain.proofs.Common.{IsUnreadableAt, CannotFollowAt, StopsIn, StopsAmong, IsNothing, IsPlaced, none_replayed, replayed_more, replayed_as, IsFront, longer_front, front_held, stops_after, PartHolds, PartsHold, Reading, HasRead, IsReadOf}
 use Rattle.raft_base.specs.declared.errors.Error.TheVariants as errors
-use Rattle.raft_base.specs.declared.pipe_log.LogQueue.{LogQueue}
-use Rattle.raft_records.specs.FilePart.{Part, IsBatchAt}
-use Rattle.raft_records.specs.Item.{Item}
-use Rattle.raft_records.proofs.PartLemmas.{batch_inside}
-use Rattle.raft_history.specs.Batches.{Event}
-use Rattle.raft_history.specs.Histories.{IsSmall, Sound}
-use Rattle.raft_history.specs.ReplayMachine.{event}
-use Rattle.raft_history.proofs.StretchOfHistory.{small_front}
-use Rattle.raft_replay.specs.Replays.{HasReplayed}
-use Rattle.raft_replay.specs.Stops.{history_in, GoneOn, IsUnreadableAt, CannotFollowAt, StopsIn, StopsAmong, IsNothing, IsPlaced}
-use Rattle.raft_replay.proofs.ReplayedLemmas.{none_replayed, replayed_more, replayed_as}
-use Rattle.raft_replay.proofs.StopLemmas.{IsFront, longer_front, front_held, stops_after}
-use Rattle.raft_replay.proofs.Words.{PartHolds, PartsHold}
-use Rattle.raft_plain.specs.declared.reading.Reading.{Reading}
-use Rattle.raft_plain.specs.Readings.{HasRead, IsReadOf}
 
 module _ (q : LogQueue) (part : Part) (old : Reading) where
   -- the batches in front of a byte were read

@@ -1,37 +1,9 @@
 -- A reading goes on with a batch, or can't.
-use Rattle.std.proofs.Common.{List, [], ◌∷◌, ◌++◌, Some, None, refl, sym, ap, subst, ◌∙◌, ◌≡◌, ◌≤◌, ◌<◌, ℕ, append-nil, arith, map}
-use Rattle.std.proofs.lemmas.List.Concat.{flat_map-append}
-use Rattle.std.specs.List.{AllByRecursion}
-use Rattle.std.specs.Option.{option_and_then}
-use Rattle.std.specs.Ordering.{nat_cmp}
+use Rattle.raft_plain.proofs.Common.{List, [], ◌∷◌, ◌++◌, Some, None, refl, sym, ap, subst, ◌∙◌, ◌≡◌, ◌≤◌, ◌<◌, ℕ, append-nil, arith, map, flat_map-append, AllByRecursion, option_and_then, nat_cmp, FileId, LogQueue, Append, AreDecodedIn, Item, after-append, Step, after}
+use Rattle.raft_plain.proofs.Common.{steps-one, no_both, items_in_file, reading_by_region, reading_refused, own-append, batches-append, cleaned-append, files-append, files-back, in_files-append, status-append, Event, BatchSteps, batches, marker_in, effects_behind, markers_of}
+use Rattle.raft_plain.proofs.Common.{open_stretch, steps_of, HaveStatus, IsSoundIn, Sound, cleaned_in, last_from, region_step_shown, RegionStep, Tables, cleaned_by, cleaned_by_steps, steps_of_items, steps_on, tables_after, event, group_in, groups_in, steps_by_batch, Stretches}
+use Rattle.raft_plain.proofs.Common.{AreOpenAfter, stretches_after, effect_after, tables_shown, table_shown, AreStepsOf, HasRead, stretch_shown, stretches_shown, Reading}
 use Rattle.std.specs.FinMap as finite
-use Rattle.raft_base.specs.declared.pipe_log.FileId.{FileId}
-use Rattle.raft_base.specs.declared.pipe_log.LogQueue.{LogQueue}
-use Rattle.raft_base.specs.declared.pipe_log.LogQueue.TheVariants.{Append}
-use Rattle.raft_records.specs.DecodedIn.{AreDecodedIn}
-use Rattle.raft_records.specs.Item.{Item}
-use Rattle.raft_table.proofs.MarkLaws.{after-append}
-use Rattle.raft_table.specs.Steps.{Step, after}
-use Rattle.raft_history.proofs.MoreLemmas.{steps-one}
-use Rattle.raft_history.proofs.OptionLemmas.{no_both}
-use Rattle.raft_history.proofs.ReadItemLemmas.{items_in_file}
-use Rattle.raft_history.proofs.ReadingLemmas.{reading_by_region, reading_refused}
-use Rattle.raft_history.proofs.StepListLemmas.{own-append}
-use Rattle.raft_history.proofs.SoundLemmas.{batches-append, cleaned-append, files-append, files-back, in_files-append, status-append}
-use Rattle.raft_history.specs.Batches.{Event, BatchSteps, batches, marker_in}
-unfoldable use Rattle.raft_history.specs.Effects.{effects_behind, markers_of, open_stretch}
-use Rattle.raft_history.specs.Effects.{steps_of}
-use Rattle.raft_history.specs.Histories.{HaveStatus, IsSoundIn, Sound, cleaned_in, last_from}
-use Rattle.raft_history.specs.RegionStepShown.{region_step_shown}
-use Rattle.raft_history.specs.RegionSteps.{RegionStep, Tables, cleaned_by, cleaned_by_steps, steps_of_items, steps_on, tables_after}
-use Rattle.raft_history.specs.ReplayMachine.{event}
-use Rattle.raft_history.specs.WaitingGroup.{group_in}
-use Rattle.raft_history.specs.WaitingGroups.{groups_in, steps_by_batch}
-use Rattle.raft_plain.specs.Groups.{Stretches, AreOpenAfter, stretches_after, effect_after}
-use Rattle.raft_plain.specs.Plain.{tables_shown, table_shown}
-use Rattle.raft_plain.specs.Readings.{AreStepsOf, HasRead}
-use Rattle.raft_plain.specs.Waits.{stretch_shown, stretches_shown}
-use Rattle.raft_plain.specs.declared.reading.Reading.{Reading}
 use Rattle.raft_plain.proofs.GroupLemmas.{stretches_go_on, effects_are_defined}
 use Rattle.raft_plain.proofs.KeyedLemmas.{none-of}
 

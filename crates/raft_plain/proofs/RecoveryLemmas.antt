@@ -1,31 +1,8 @@
 -- What recovery gives of plain readings.
-use Rattle.std.proofs.Common.{◌≡◌, Bool, true, false, cond, List, [], ◌∷◌, ℕ, Option, Some, None, refl, sym, ap, subst, ◌∙◌, map, arith}
-use Rattle.std.specs.BTreeMap.{BTreeMap, IsOrdered, is_at}
+use Rattle.raft_plain.proofs.Common.{◌≡◌, Bool, true, false, cond, List, [], ◌∷◌, ℕ, Option, Some, None, refl, sym, ap, subst, ◌∙◌, map, arith, BTreeMap, IsOrdered, is_at, lookup, option_map, nat_cmp, LogQueue, Append, Rewrite, live, overlaid_table, Step, after, Table, some_is}
+use Rattle.raft_plain.proofs.Common.{named-steps, Event, batches, is_named, steps_of, IsOneReading, cleaned_in, region_step_shown, Tables, cleaned_by_steps, live_in_all, AreBothRecovered, IsRecovered, Reading, Recovered, Region, AreOverlaid, recovered_shown, table_shown}
+use Rattle.raft_plain.proofs.Common.{tables_shown, HasRead, IsReadOf}
 use Rattle.std.specs.FinMap as finite
-use Rattle.std.specs.Map.{lookup}
-use Rattle.std.specs.Option.{option_map}
-use Rattle.std.specs.Ordering.{nat_cmp}
-use Rattle.raft_base.specs.declared.pipe_log.LogQueue.{LogQueue}
-use Rattle.raft_base.specs.declared.pipe_log.LogQueue.TheVariants.{Append, Rewrite}
-use Rattle.raft_table.specs.Counts.{live}
-use Rattle.raft_table.specs.Overlay.{overlaid_table}
-use Rattle.raft_table.specs.Steps.{Step, after}
-use Rattle.raft_table.specs.Table.{Table}
-use Rattle.raft_history.proofs.OptionLemmas.{some_is}
-use Rattle.raft_history.proofs.WithoutMarkers.{named-steps}
-use Rattle.raft_history.specs.Batches.{Event, batches}
-use Rattle.raft_history.specs.Effects.{is_named, steps_of}
-use Rattle.raft_history.specs.Histories.{IsOneReading, cleaned_in}
-use Rattle.raft_history.specs.RegionStepShown.{region_step_shown}
-use Rattle.raft_history.specs.RegionSteps.{Tables, cleaned_by_steps}
-use Rattle.raft_accessor.specs.Accessor.{live_in_all}
-use Rattle.raft_recover.specs.Recovery.{AreBothRecovered, IsRecovered}
-use Rattle.raft_plain.specs.declared.reading.Reading.{Reading}
-use Rattle.raft_plain.specs.declared.recovery.Recovered.{Recovered}
-use Rattle.raft_plain.specs.declared.region.Region.{Region}
-use Rattle.raft_plain.specs.Overlaid.{AreOverlaid, recovered_shown}
-use Rattle.raft_plain.specs.Plain.{table_shown, tables_shown}
-use Rattle.raft_plain.specs.Readings.{HasRead, IsReadOf}
 use Rattle.raft_plain.proofs.KeyedLemmas.{get-of}
 use Rattle.raft_plain.proofs.OverlayLemmas.{unnamed_stays}
 

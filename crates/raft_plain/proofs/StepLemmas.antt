@@ -1,18 +1,7 @@
 -- Steps on plain regions.
-use Rattle.std.proofs.Common.{List, [], ◌∷◌, Option, Some, None, refl, sym, ap, ◌∙◌, ◌≡◌, ℕ, suc, arith}
-use Rattle.std.specs.Prelude.{max}
+use Rattle.raft_plain.proofs.Common.{List, [], ◌∷◌, Option, Some, None, refl, sym, ap, ◌∙◌, ◌≡◌, ℕ, suc, arith, max, option_and_then, option_map, LogQueue, after_step, table_of, Table, some_is, RegionStep, Tables, tables_after, with_table, Region, table_shown, EntryIndex, end_of}
 use Rattle.std.specs.FinMap as finite
-use Rattle.std.specs.Option.{option_and_then, option_map}
-use Rattle.raft_base.specs.declared.pipe_log.LogQueue.{LogQueue}
-use Rattle.raft_table.specs.Steps.{after_step, table_of}
-use Rattle.raft_table.specs.Table.{Table}
-use Rattle.raft_history.proofs.OptionLemmas.{some_is}
-use Rattle.raft_history.specs.RegionSteps.{RegionStep, Tables, tables_after, with_table}
-use Rattle.raft_plain.specs.declared.region.Region.{Region}
-use Rattle.raft_plain.specs.Plain.{table_shown}
 use Rattle.raft_plain.proofs.WaitLemmas.{with_removed}
-use Rattle.raft_base.specs.declared.entry_index.EntryIndex.{EntryIndex}
-unfoldable use Rattle.raft_base.specs.Runs.{end_of}
 
 -- ---- the end of entries
 

@@ -1,18 +1,7 @@
 -- Regions by rising number, as text.
-use Rattle.std.proofs.Common.{◌≡◌, ◌≤◌, ◌<◌, List, [], ◌∷◌, ℕ, refl, sym, ap, subst, ◌∙◌, map, arith}
-use Rattle.std.proofs.lemmas.List.Elements.{All-from_recursion}
-use Rattle.std.proofs.lemmas.List.Sorted.{IsNonDecreasingBy-insert, IsNonDecreasingBy-short, IsPermutation-refl}
-use Rattle.std.proofs.lemmas.Map.Keys.{sorted_head, sorted_tail}
-use Rattle.std.specs.Cmp.{ranked}
+use Rattle.raft_plain.proofs.Common.{◌≡◌, ◌≤◌, ◌<◌, List, [], ◌∷◌, ℕ, refl, sym, ap, subst, ◌∙◌, map, arith, All-from_recursion, IsNonDecreasingBy-insert, IsNonDecreasingBy-short, IsPermutation-refl, sorted_head, sorted_tail, ranked, AllByRecursion, IsNonDecreasingBy}
+use Rattle.raft_plain.proofs.Common.{IsPermutation, keys_of, nat_cmp, Less, Table, Region, table_shown, tables_in}
 use Rattle.std.specs.FinMap as finite
-use Rattle.std.specs.List.{AllByRecursion}
-use Rattle.std.specs.List.Sorted.{IsNonDecreasingBy, IsPermutation}
-use Rattle.std.specs.Map.{keys_of}
-use Rattle.std.specs.Ordering.{nat_cmp}
-use Rattle.std.specs.declared.cmp.Ordering.TheVariants.{Less}
-use Rattle.raft_table.specs.Table.{Table}
-use Rattle.raft_plain.specs.declared.region.Region.{Region}
-use Rattle.raft_plain.specs.Plain.{table_shown, tables_in}
 use Rattle.raft_plain.proofs.KeyedLemmas.{Rises, entries-of}
 
 abbrev pub tables_of : List (ℕ × Region) → List Table

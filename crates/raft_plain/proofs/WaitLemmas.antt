@@ -1,19 +1,7 @@
 -- Stretches that wait, and regions, one taken out and put back.
-use Rattle.std.proofs.Common.{Bool, true, false, cond, Option, Some, None, refl, sym, ap, ◌∙◌, ◌≡◌, ℕ}
-use Rattle.std.specs.BTreeMap.{BTreeMap, IsOrdered, insert_entry, is_at}
-use Rattle.std.specs.Cmp.{nat_cmp_total}
+use Rattle.raft_plain.proofs.Common.{Bool, true, false, cond, Option, Some, None, refl, sym, ap, ◌∙◌, ◌≡◌, ℕ, BTreeMap, IsOrdered, insert_entry, is_at, nat_cmp_total, nat_cmp-IsAntisymmetric, lookup, remove_entry, option_map, eq_by_cmp, nat_cmp, Table, Tables, with_table}
+use Rattle.raft_plain.proofs.Common.{Stretch, Region, Stretches, table_shown, tables_shown, stretch_shown, stretches_shown}
 use Rattle.std.specs.FinMap as finite
-use Rattle.std.specs.FinMap.{nat_cmp-IsAntisymmetric}
-use Rattle.std.specs.Map.{lookup, remove_entry}
-use Rattle.std.specs.Option.{option_map}
-use Rattle.std.specs.Ordering.{eq_by_cmp, nat_cmp}
-use Rattle.raft_table.specs.Table.{Table}
-use Rattle.raft_history.specs.RegionSteps.{Tables, with_table}
-use Rattle.raft_plain.specs.declared.groups.Stretch.{Stretch}
-use Rattle.raft_plain.specs.declared.region.Region.{Region}
-use Rattle.raft_plain.specs.Groups.{Stretches}
-use Rattle.raft_plain.specs.Plain.{table_shown, tables_shown}
-use Rattle.raft_plain.specs.Waits.{stretch_shown, stretches_shown}
 use Rattle.raft_plain.proofs.KeyedLemmas.{found, put-of, gone-of}
 
 module _ {X : Type 0} where

@@ -11,13 +11,13 @@ use raft_history::RegionStep;
 use raft_records::LogItemBatch;
 use std::alloc::Global;
 
-/// Reads one batch more, which was written to this file: its steps take effect, or wait for their
-/// group's End.
+/// Reads one more batch, which was written to the file `file`. Returns `reading` with it: its steps take
+/// effect or, with a group marker, wait for the End of their group.
 ///
 /// # Errors
 ///
-/// `Corruption` where the file is below the last one, a group marker has an unknown status, or a run
-/// leaves a hole in the append queue; `Memory`.
+/// `Corruption` if the file is below the last one, a group marker has an unknown status, or a run leaves a
+/// hole in the append queue; `Memory`.
 pub(crate) fn with_batch(
     alloc: Global,
     queue: LogQueue,
@@ -49,11 +49,11 @@ pub(crate) fn with_batch(
     })
 }
 
-/// Returns the steps of a batch's items, in order.
+/// Returns the steps of the items of `batch`, in order. Items without a step, as group markers, are left out.
 ///
 /// # Errors
 ///
-/// Where there is no memory for them.
+/// `AllocError` if there is no memory for them.
 fn steps_of(alloc: Global, batch: LogItemBatch) -> AllocResult<Vec<RegionStep>>
     ensures { IfOk result (λ steps. map region_step_shown steps.items ≡ steps_of_items batch) }
 {
@@ -66,11 +66,11 @@ fn steps_of(alloc: Global, batch: LogItemBatch) -> AllocResult<Vec<RegionStep>>
     Ok(steps)
 }
 
-/// Does steps on their regions, one after another.
+/// Returns `regions` after `steps`, one after another.
 ///
 /// # Errors
 ///
-/// `Corruption` where a run leaves a hole in the append queue, `Memory`.
+/// `Corruption` if a run leaves a hole in the append queue; `Memory`.
 fn with_steps(
     alloc: Global,
     queue: LogQueue,
@@ -90,11 +90,11 @@ fn with_steps(
     Ok(regions)
 }
 
-/// Does a step on its region, which begins without records where there is none.
+/// Returns `regions` after one step. A region that isn't there begins without records.
 ///
 /// # Errors
 ///
-/// `Corruption` where a run leaves a hole in the append queue, `Memory`.
+/// `Corruption` if a run leaves a hole in the append queue; `Memory`.
 fn with_step(alloc: Global, queue: LogQueue, regions: Regions, step: &RegionStep) -> Result<Regions>
     requires { IsOrdered nat_cmp regions }
     ensures ordered { IfOk result (IsOrdered nat_cmp) }

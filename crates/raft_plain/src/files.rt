@@ -9,11 +9,11 @@ use raft_records::FilePart;
 use std::alloc::Global;
 use std::io::Write;
 
-/// Makes a part of each file of a queue, which has all its bytes.
+/// Returns a part for each of `files` of `queue`, with all its bytes, which aren't copied.
 ///
 /// # Errors
 ///
-/// `Memory`.
+/// `Memory` alone.
 pub fn file_parts(
     queue: LogQueue,
     version: Version,
@@ -30,12 +30,12 @@ pub fn file_parts(
     Ok(parts)
 }
 
-/// Prints the tables that the files of a queue give: the lines of [`print_plainly`].
+/// Prints the tables that `files` of `queue` give: the lines of [`print_plainly`].
 ///
 /// # Errors
 ///
-/// Those of [`recover_plainly`], with nothing written, and then `Io` where the writer fails: a prefix of the lines may
-/// stand then.
+/// Those of [`recover_plainly`]; nothing has been written then. `Io` if the writer fails; a part of the
+/// lines, from the first byte on, may have been written then.
 pub fn print_files_plainly<W: Write>(
     alloc: Global,
     queue: LogQueue,

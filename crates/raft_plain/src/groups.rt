@@ -26,11 +26,12 @@ pub struct Stretch {
 /// Of each group the stretch that its End would complete.
 pub type Stretches = BTreeMap<u64, Stretch>;
 
-/// Returns the group marker of a batch of the rewrite queue. The append queue ignores them.
+/// Returns the first group marker of a batch: the number of its group, and its status. Returns `None` without
+/// one, and always in the append queue, which ignores markers.
 ///
 /// # Errors
 ///
-/// `Corruption` where the status of one is unknown, `Memory`.
+/// `Corruption` if the status of a marker is unknown; `Memory`.
 pub(crate) fn marker_in(
     alloc: Global,
     queue: LogQueue,
@@ -48,11 +49,12 @@ pub(crate) fn marker_in(
     }
 }
 
-/// Returns the first group marker among items, each of which has to have a status.
+/// Returns the first group marker among `items`, or `None` if there is none. Each marker must have a known
+/// status.
 ///
 /// # Errors
 ///
-/// `Corruption` where the status of one is unknown, `Memory`.
+/// `Corruption` if the status of one is unknown; `Memory`.
 fn first_marker(alloc: Global, items: &[LogItem]) -> Result<Option<(u64, AtomicGroupStatus)>>
     ensures markers { OnOk result (HaveStatus Rewrite (map item_of items.now)) }
     ensures marker { IfOk result (λ marker. marker ≡ first_marker (map item_of items.now)) }
@@ -67,7 +69,13 @@ fn first_marker(alloc: Global, items: &[LogItem]) -> Result<Option<(u64, AtomicG
     Ok(marker)
 }
 
-/// Returns the stretches that wait after a batch with this marker, and the steps that take effect with it.
+/// Returns the stretches that wait after a batch with this `marker` and these `steps`, in the file numbered
+/// `seq`, and the steps that take effect with it: its own without a marker; those of the whole group with the
+/// End of a group that has begun; else none.
+///
+/// # Errors
+///
+/// `AllocError` if there is no memory for them.
 pub(crate) fn after_marker(
     alloc: Global,
     waiting: Stretches,
@@ -115,7 +123,8 @@ pub(crate) fn after_marker(
     }
 }
 
-/// Takes a group's stretch out of others.
+/// Takes the stretch of the group numbered `group` out of `waiting`. Returns it, or `None` if the group
+/// hasn't begun, and the others.
 fn take_stretch(mut waiting: Stretches, group: u64) -> (Option<Stretch>, Stretches)
     requires { IsOrdered nat_cmp waiting }
     ensures ordered { IsOrdered nat_cmp result.1 }
@@ -126,7 +135,12 @@ fn take_stretch(mut waiting: Stretches, group: u64) -> (Option<Stretch>, Stretch
     (own, waiting)
 }
 
-/// Returns the steps of a whole group, and behind them one for each that gives its region the atomic group.
+/// Returns `steps`, those of a whole group, and behind them one more for each, which gives its region the
+/// first and the last file of the group, `first_seq` and `last_seq`.
+///
+/// # Errors
+///
+/// `AllocError` if there is no memory for them.
 fn whole_steps(alloc: Global, steps: Steps, first_seq: u64, last_seq: u64) -> AllocResult<Steps>
     ensures { IfOk result (λ all. map region_step_shown all.items ≡ marked_steps
         (map region_step_shown steps.items) first_seq last_seq) }
@@ -144,7 +158,11 @@ fn whole_steps(alloc: Global, steps: Steps, first_seq: u64, last_seq: u64) -> Al
     join_steps(steps, marks)
 }
 
-/// Returns steps, and more behind them.
+/// Returns `steps`, and `more` behind them.
+///
+/// # Errors
+///
+/// `AllocError` if there is no memory for them.
 pub(crate) fn join_steps(mut steps: Steps, mut more: Steps) -> AllocResult<Steps>
     ensures { IfOk result (λ all. map region_step_shown all.items
         ≡ map region_step_shown steps.items ++ map region_step_shown more.items) }
@@ -153,7 +171,8 @@ pub(crate) fn join_steps(mut steps: Steps, mut more: Steps) -> AllocResult<Steps
     Ok(steps)
 }
 
-/// States that stretches go on with each batch as the definition's groups do, and what takes effect with it.
+/// States that what this program keeps of groups is what the definitions say: the stretches that wait after
+/// each batch, and the steps that take effect with it.
 #[tactic(auto, using(crate::proofs::GroupLemmas::stretches_go_on, crate::proofs::GroupLemmas::effects_are_defined))]
 pub fn stretches_are_those_of_groups()
     ensures stretches { StretchesGoOn }

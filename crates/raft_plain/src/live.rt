@@ -6,7 +6,7 @@ ghost use Rattle.raft_plain.specs.Common.{is_same, is_placed_in, entry_count, pa
 use crate::region::{Keys, Regions};
 use raft_base::{EntryIndex, LogQueue};
 
-/// Counts the entries and key values of all regions whose place or file is in a queue.
+/// Returns how many entries and key values of all regions have their place or file in `queue`.
 pub fn count_live(queue: LogQueue, regions: &Regions) -> u128
     ensures { result ≡ live_in_all queue (tables_shown regions.now) }
 {
@@ -18,7 +18,7 @@ pub fn count_live(queue: LogQueue, regions: &Regions) -> u128
     count
 }
 
-/// Counts the entries that have their place in a queue.
+/// Returns how many entries have their place in `queue`.
 #[tactic(auto, unfolding(raft_table::specs::TableEntries::placed_in))]
 fn count_entries(queue: LogQueue, entries: &[EntryIndex]) -> usize
     ensures { result ≡ entry_count queue entries.now }
@@ -32,7 +32,7 @@ fn count_entries(queue: LogQueue, entries: &[EntryIndex]) -> usize
     count
 }
 
-/// Tests whether an entry has a place in a queue.
+/// Tests whether `entry` has a place, and that is in `queue`.
 #[tactic(auto, unfolding(raft_table::specs::TableEntries::is_placed_in))]
 pub(crate) fn is_placed_in(queue: LogQueue, entry: &EntryIndex) -> bool
     ensures { result ≡ is_placed_in queue entry.now }
@@ -40,7 +40,7 @@ pub(crate) fn is_placed_in(queue: LogQueue, entry: &EntryIndex) -> bool
     entry.entries.is_some_and(|place| place.id.queue == queue)
 }
 
-/// Counts the keys whose value is in a file of a queue.
+/// Returns how many keys have a value in a file of `queue`.
 fn count_keys(queue: LogQueue, keys: &Keys) -> usize
     ensures { result ≡ pair_count queue (keys_shown keys.now) }
 {

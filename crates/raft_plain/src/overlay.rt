@@ -13,7 +13,12 @@ use raft_table::Step;
 use std::alloc::Global;
 use std::collections::BTreeMap;
 
-/// Puts the records of the append queue, which these steps made, over those of the rewrite queue.
+/// Puts the records of the append queue, which `steps` made, over those of the rewrite queue, region by
+/// region.
+///
+/// # Errors
+///
+/// `AllocError` if there is no memory for them.
 pub(crate) fn overlay_all(
     alloc: Global,
     mut appended: Regions,
@@ -38,7 +43,12 @@ pub(crate) fn overlay_all(
     Ok(both)
 }
 
-/// Puts the appended records of a region over its rewritten ones. Where the append queue cleaned it, its own stay alone.
+/// Puts the appended records of the region `id` over its rewritten ones, either of which may be absent. If
+/// the append queue cleaned the region, it has its appended records alone, or none.
+///
+/// # Errors
+///
+/// `AllocError` if there is no memory for them.
 fn overlay_region(
     alloc: Global,
     id: u64,
@@ -71,11 +81,11 @@ fn overlay_region(
     }
 }
 
-/// Returns the steps on a region, in order.
+/// Returns the steps on the region `id`, in order.
 ///
 /// # Errors
 ///
-/// Where there is no memory for them.
+/// `AllocError` if there is no memory for them.
 #[tactic(auto, unfolding(raft_history::specs::RegionSteps::steps_on))]
 fn steps_on<'a>(alloc: Global, id: u64, steps: &'a [RegionStep]) -> AllocResult<Vec<&'a Step>>
     ensures { IfOk result (λ own. map (λ s. step_shown s.now) own.items
@@ -90,8 +100,13 @@ fn steps_on<'a>(alloc: Global, id: u64, steps: &'a [RegionStep]) -> AllocResult<
     Ok(own)
 }
 
-/// Puts appended records over rewritten ones: the entries behind those that they join, the keys over those that aren't
-/// deleted.
+/// Puts the appended records of a region, `newer`, over its rewritten ones, `older`: the entries behind those
+/// that they join, and the key values over those that no step deletes. The region wasn't cleaned, and keeps
+/// the atomic group of `older`.
+///
+/// # Errors
+///
+/// `AllocError` if there is no memory for them.
 fn overlay(alloc: Global, steps: &[&Step], newer: Region, older: Region) -> AllocResult<Region>
     requires { has_clean (map (λ s. step_shown s.now) steps.now) ≡ false }
     ensures { IfOk result (λ both. (id : ℕ) → table_shown id both
@@ -108,8 +123,9 @@ fn overlay(alloc: Global, steps: &[&Step], newer: Region, older: Region) -> Allo
     })
 }
 
-/// Returns the rewritten entries that stay: from the greatest compaction on, and below the least of run starts and
-/// truncations, if there are any. None stay where the appended ones don't join them there.
+/// Returns those of the rewritten entries, `older`, that stay: from the greatest compaction on and below the
+/// least of run starts and truncations, if there are any. None stay if the appended entries, `newer`, don't
+/// join them there.
 fn rewritten_within(alloc: Global, steps: &[&Step], older: Entries, newer: &[EntryIndex]) -> Entries
     ensures { result.items ≡ rewritten_within (greatest_compaction (map (λ s. step_shown s.now) steps.now))
         (least_cut (map (λ s. step_shown s.now) steps.now)) newer.now older.items }
@@ -122,7 +138,7 @@ fn rewritten_within(alloc: Global, steps: &[&Step], older: Entries, newer: &[Ent
     entries_within(floor, cut, older)
 }
 
-/// Returns the entries from one index on and below another, if there is one.
+/// Returns the entries from index `floor` on and, if there is a `cut`, below it.
 fn entries_within(floor: u64, cut: Option<u64>, mut entries: Entries) -> Entries
     ensures { result.items ≡ entries_within floor cut entries.items }
 {
@@ -130,7 +146,7 @@ fn entries_within(floor: u64, cut: Option<u64>, mut entries: Entries) -> Entries
     entries
 }
 
-/// Tests whether an index is below the cut; without one each is.
+/// Tests whether `index` is below `cut`. True without a cut.
 fn is_under(cut: Option<u64>, index: u64) -> bool
     ensures { result ≡ is_under cut index }
 {
@@ -140,8 +156,8 @@ fn is_under(cut: Option<u64>, index: u64) -> bool
     }
 }
 
-/// Tests whether appended entries don't join the rewritten ones: they don't begin at the cut, or
-/// these end below it.
+/// Tests whether the appended entries `newer` don't join the rewritten ones, `older`: they don't begin at
+/// `cut`, or the rewritten ones end below it. False without a cut, and without appended entries.
 fn is_unjoined(cut: Option<u64>, older: &[EntryIndex], newer: &[EntryIndex]) -> bool
     ensures { result ≡ is_unjoined cut (end_of older.now) newer.now }
 {
@@ -151,7 +167,7 @@ fn is_unjoined(cut: Option<u64>, older: &[EntryIndex], newer: &[EntryIndex]) -> 
     }
 }
 
-/// Tests whether one of the steps cleans the region.
+/// Tests whether one of `steps` cleans the region.
 fn has_clean(steps: &[&Step]) -> bool
     ensures { result ≡ has_clean (map (λ s. step_shown s.now) steps.now) }
 {
@@ -163,7 +179,7 @@ fn has_clean(steps: &[&Step]) -> bool
     false
 }
 
-/// Returns the greatest index of a compaction among the steps, 0 without one.
+/// Returns the greatest index of a compaction among `steps`, or 0 without one.
 fn greatest_compaction(steps: &[&Step]) -> u64
     ensures { result ≡ greatest_compaction (map (λ s. step_shown s.now) steps.now) }
 {
@@ -174,7 +190,7 @@ fn greatest_compaction(steps: &[&Step]) -> u64
     greatest
 }
 
-/// Returns the index of a compaction, 0 for any other step.
+/// Returns the index below which `step` drops entries if it is a compaction, else 0.
 fn compaction_of(step: &Step) -> u64
     ensures { (steps : _) → max result (greatest_compaction steps)
         ≡ greatest_compaction (step_shown step.now ∷ steps) }
@@ -185,7 +201,8 @@ fn compaction_of(step: &Step) -> u64
     }
 }
 
-/// Returns the least index from which one of the steps takes older entries away, if one does.
+/// Returns the least index from which on one of `steps` drops older entries: of run starts and truncations.
+/// Returns `None` if there is neither.
 fn least_cut(steps: &[&Step]) -> Option<u64>
     ensures { result ≡ least_cut (map (λ s. step_shown s.now) steps.now) }
 {
@@ -196,7 +213,8 @@ fn least_cut(steps: &[&Step]) -> Option<u64>
     least
 }
 
-/// Returns the index below which a step leaves older entries, where it takes some away from there on.
+/// Returns the index from which on `step` drops older entries: where a run starts, or that of a truncation.
+/// Returns `None` for any other step.
 fn cut_of(step: &Step) -> Option<u64>
     ensures { (steps : _) → lesser result (least_cut steps) ≡ least_cut (step_shown step.now ∷ steps) }
 {
@@ -207,7 +225,7 @@ fn cut_of(step: &Step) -> Option<u64>
     }
 }
 
-/// Returns the lesser of two numbers, where both are there.
+/// Returns the lesser of the numbers `a` and `b`, the one that there is, or `None`.
 pub(crate) fn lesser(a: Option<u64>, b: Option<u64>) -> Option<u64>
     ensures { result ≡ lesser a b }
 {
@@ -217,7 +235,7 @@ pub(crate) fn lesser(a: Option<u64>, b: Option<u64>) -> Option<u64>
     }
 }
 
-/// Returns the key values whose keys no step deletes.
+/// Returns `keys` without those that a step deletes. No step cleans the region.
 fn without_deleted(mut keys: Keys, steps: &[&Step]) -> Keys
     requires { has_clean (map (λ s. step_shown s.now) steps.now) ≡ false }
     ensures { keys_shown result
@@ -229,7 +247,7 @@ fn without_deleted(mut keys: Keys, steps: &[&Step]) -> Keys
     keys
 }
 
-/// Returns the key values but for the key that a step deletes, if it deletes one.
+/// Returns `keys` without the one that `step` deletes, if it deletes one.
 fn without_deleted_by(keys: Keys, step: &Step) -> Keys
     ensures { (steps : _) → has_clean (step_shown step.now ∷ steps) ≡ false
         → without (deleted_of finset.empty steps) (keys_shown result)
@@ -241,11 +259,11 @@ fn without_deleted_by(keys: Keys, step: &Step) -> Keys
     }
 }
 
-/// Puts newer key values over these.
+/// Puts the key values of `newer` over those of `keys`.
 ///
 /// # Errors
 ///
-/// Where there is no memory for them.
+/// `AllocError` if there is no memory for them.
 fn with_pairs(mut keys: Keys, newer: Keys) -> AllocResult<Keys>
     ensures { IfOk result (λ all. keys_shown all ≡ pairs_over (keys_shown newer) (keys_shown keys)) }
 {

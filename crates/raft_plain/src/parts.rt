@@ -10,11 +10,11 @@ use raft_records::{FilePart, next_batch};
 use raft_replay::segment::corruption_at;
 use std::alloc::Global;
 
-/// Tests whether all parts are of a queue.
+/// Checks that all parts are of files of `queue`.
 ///
 /// # Errors
 ///
-/// `InvalidArgument` if one isn't; `Memory` for the text.
+/// `InvalidArgument` if one isn't; `Memory` if there is none for the text.
 pub(crate) fn check_parts(alloc: Global, queue: LogQueue, parts: &[FilePart]) -> Result<()>
     ensures ok { OnOk result (ArePartsOf queue parts.entry.now) }
     ensures err { OnErr result (¬ (ArePartsOf queue parts.entry.now)) }
@@ -26,19 +26,19 @@ pub(crate) fn check_parts(alloc: Global, queue: LogQueue, parts: &[FilePart]) ->
     Err(Error::invalid_argument(alloc, "a part of another queue"))
 }
 
-/// Tests whether all parts are of files of a queue.
+/// Tests whether all parts are of files of `queue`.
 fn are_of(queue: LogQueue, parts: &[FilePart]) -> bool
     ensures { IsTrue result ↔ ArePartsOf queue parts.now }
 {
     parts.iter().all(|part| part.id().queue == queue)
 }
 
-/// Reads the batches of parts of a queue's files, in order.
+/// Reads the batches of all `parts`, which are of files of `queue`, in order.
 ///
 /// # Errors
 ///
-/// `Memory`. Any other comes only where a part isn't a sequence of readable batches, or where the batches in order can't be read; a
-/// `Corruption` names file and offset of the batch that was refused.
+/// `Memory`. Any other comes only if a part isn't a sequence of readable batches, or the batches in order
+/// can't be read; a `Corruption` names the file and the offset of the batch that was refused.
 pub fn read_parts(alloc: Global, queue: LogQueue, parts: &[FilePart]) -> Result<Reading>
     requires { ArePartsOf queue parts.now }
     ensures ok { IfOk result (IsReadOf queue (EachHolds (λ part. HoldsFrom part 0) parts.entry.now)) }
@@ -53,7 +53,7 @@ pub fn read_parts(alloc: Global, queue: LogQueue, parts: &[FilePart]) -> Result<
     Ok(reading)
 }
 
-/// Reads the batches of a part, behind those that were read.
+/// Reads the batches of `part` behind those that `reading` has read.
 ///
 /// # Errors
 ///
@@ -89,8 +89,8 @@ fn with_part(
     }
 }
 
-/// Puts queue, file and offset of a batch in front of the text of a `Corruption`; other errors stay
-/// as they are. It is `Memory` where the text finds none.
+/// Puts the queue, the file and the offset of a batch before the text of a `Corruption`, as `append file 3,
+/// offset 1024: `. Other errors stay as they are. Returns `Memory` if there is none for the text.
 fn with_place(alloc: Global, error: Error, id: FileId, offset: u64) -> Error
     ensures placed { IsPlaced id offset result }
     ensures memory { result ≢ Error.Memory → error ≢ Error.Memory }

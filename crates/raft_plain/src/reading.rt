@@ -30,7 +30,7 @@ impl Reading {
     ghost use Rattle.raft_base.specs.declared.pipe_log.LogQueue.{LogQueue};
     ghost use Rattle.raft_plain.specs.Readings.{HasRead};
 
-    /// Makes what no batch gives: no records, no steps, no group that waits.
+    /// Returns what no batch gives: no records, no steps, and no group that waits.
     pub fn new(alloc: Global) -> Reading
         ensures { (queue : LogQueue) → HasRead queue result [] }
     {

@@ -22,7 +22,7 @@ pub struct Recovered {
     pub rewrite: u128,
 }
 
-/// Recovers the parts of a queue's files: reads their batches in order.
+/// Recovers the records of all regions from parts of files of `queue`, by reading their batches in order.
 ///
 /// # Errors
 ///
@@ -43,7 +43,8 @@ pub fn recover_plainly(alloc: Global, queue: LogQueue, parts: &[FilePart]) -> Re
     Ok(with_counts(reading.regions, cleaned))
 }
 
-/// Recovers the parts of both queues: reads each in order, and puts the records of the append queue over the others.
+/// Recovers the records of all regions from `rewrite` and `append`, parts of files of both queues: reads each
+/// queue in order, and puts the records of the append queue over those of the rewrite queue.
 ///
 /// # Errors
 ///
@@ -75,7 +76,12 @@ pub fn recover_both_plainly(
     Ok(with_counts(regions, cleaned))
 }
 
-/// Returns the regions that the append queue cleaned, in order; none of the rewrite queue.
+/// Returns the regions that `steps` clean, in order. For the rewrite queue, whose cleans aren't told, there
+/// are none.
+///
+/// # Errors
+///
+/// `AllocError` if there is no memory for them.
 fn cleaned_regions(alloc: Global, queue: LogQueue, steps: &[RegionStep]) -> AllocResult<Vec<u64>>
     ensures { IfOk result (λ regions. regions.items
         ≡ cleaned_by_steps queue (map region_step_shown steps.now)) }
@@ -92,7 +98,7 @@ fn cleaned_regions(alloc: Global, queue: LogQueue, steps: &[RegionStep]) -> Allo
     Ok(cleaned)
 }
 
-/// Returns the regions and the cleaned ones, with the counts of live records.
+/// Returns the records of `regions` and the list `cleaned`, with the counts of live records in both queues.
 fn with_counts(regions: Regions, cleaned: Vec<u64>) -> Recovered
     ensures regions { result.regions ≡ regions }
     ensures cleaned { result.cleaned ≡ cleaned }

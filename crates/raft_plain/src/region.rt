@@ -34,11 +34,11 @@ pub struct Region {
 /// The records of each region that is there.
 pub type Regions = BTreeMap<u64, Region>;
 
-/// Does a step on a region; one that is cleaned is absent then.
+/// Returns `region` after a step that was read from `queue`, or `None` if the step cleans it.
 ///
 /// # Errors
 ///
-/// `Corruption` where a run leaves a hole in the append queue, `Memory`.
+/// `Corruption` if a run leaves a hole in the append queue; `Memory`.
 pub(crate) fn after_step(
     alloc: Global,
     queue: LogQueue,
@@ -87,7 +87,12 @@ pub(crate) fn after_step(
     }
 }
 
-/// Puts a run over entries. Behind a hole it is refused in the append queue, and all that stays in the rewrite queue.
+/// Returns `entries` with `run` in place of those from its first index on. A run behind a hole is refused in
+/// the append queue, and is all that is left in the rewrite queue. A run without entries changes nothing.
+///
+/// # Errors
+///
+/// `Corruption` for that hole in the append queue; `Memory`.
 fn with_run(alloc: Global, queue: LogQueue, entries: Entries, run: &Entries) -> Result<Entries>
     ensures ok { IfOk result (λ es. entries_after_replay queue entries.items run.now.items
         ≡ Some es.items) }
@@ -109,14 +114,14 @@ fn with_run(alloc: Global, queue: LogQueue, entries: Entries, run: &Entries) -> 
     Ok(kept)
 }
 
-/// Tests whether a run from `start` on leaves a hole behind the entries.
+/// Tests whether a run from index `start` on leaves a hole behind `entries`. False without entries.
 fn leaves_hole(entries: &[EntryIndex], start: u64) -> bool
     ensures { result ≡ leaves_hole entries.now start }
 {
     !entries.is_empty() && end_of(entries) < start as u128
 }
 
-/// Returns the greatest index plus one, 0 without entries.
+/// Returns the greatest index of `entries` plus one, or 0 without entries.
 pub(crate) fn end_of(entries: &[EntryIndex]) -> u128
     ensures { result ≡ end_of entries.now }
 {
@@ -127,7 +132,7 @@ pub(crate) fn end_of(entries: &[EntryIndex]) -> u128
     end
 }
 
-/// Returns the entries from an index on.
+/// Returns those of `entries` that are at or above `index`, in order.
 fn from(mut entries: Entries, index: u64) -> Entries
     ensures { result.items ≡ from index entries.items }
 {
@@ -135,7 +140,7 @@ fn from(mut entries: Entries, index: u64) -> Entries
     entries
 }
 
-/// Returns the entries below an index.
+/// Returns those of `entries` that are below `index`, in order.
 fn below(mut entries: Entries, index: u64) -> Entries
     ensures { result.items ≡ below index entries.items }
 {
@@ -143,11 +148,12 @@ fn below(mut entries: Entries, index: u64) -> Entries
     entries
 }
 
-/// Puts copies of a key and its value among the key values.
+/// Returns `keys` with a copy of `value`, which is in `file`, under a copy of `key`, in place of the value
+/// that it had.
 ///
 /// # Errors
 ///
-/// Where there is no memory for them.
+/// `AllocError` if there is no memory for them.
 fn with_pair(
     alloc: Global,
     mut keys: Keys,
@@ -164,7 +170,7 @@ fn with_pair(
     Ok(keys)
 }
 
-/// Returns the key values but for one key.
+/// Returns `keys` without `key` and its value.
 pub(crate) fn without_key(mut keys: Keys, key: &Vec<u8>) -> Keys
     ensures { keys_shown result ≡ finite.remove (keys_shown keys) key.now.items }
 {
@@ -172,7 +178,7 @@ pub(crate) fn without_key(mut keys: Keys, key: &Vec<u8>) -> Keys
     keys
 }
 
-/// Returns the region that is there, or one without records.
+/// Returns `region` if it is there, or else one without records.
 pub(crate) fn or_new(alloc: Global, region: Option<Region>) -> Region
     ensures { (id : ℕ) → table_shown id result
         ≡ table_of id (option_map (table_shown id) region) }
@@ -187,7 +193,11 @@ pub(crate) fn or_new(alloc: Global, region: Option<Region>) -> Region
     }
 }
 
-/// Puts a region in the place of its old one, or takes it away.
+/// Returns `regions` with `region` as the region `id`, or without that region if it is `None`.
+///
+/// # Errors
+///
+/// `AllocError` if there is no memory for it.
 pub(crate) fn with_region(
     mut regions: Regions,
     id: u64,
@@ -210,7 +220,7 @@ pub(crate) fn with_region(
     }
 }
 
-/// Takes a region out of the others, if it is there.
+/// Takes the region `id` out of `regions`. Returns it, or `None` if it isn't there, and the others.
 pub(crate) fn take_region(mut regions: Regions, id: u64) -> (Option<Region>, Regions)
     requires { IsOrdered nat_cmp regions }
     ensures ordered { IsOrdered nat_cmp result.1 }

@@ -14,12 +14,14 @@ use raft_records::write_whole;
 use std::alloc::Global;
 use std::io::Write;
 
-/// Prints a line for each region, by rising region, then the cleaned regions and the live counts.
+/// Prints a line for each region of `recovered`, by rising region, as `7 entries 10..12 keys 1 append 3
+/// rewrite -`, then the cleaned regions, as `cleaned 4 9`, and the live counts, as `live 3 0`. A `-` means
+/// that there is none.
 ///
 /// # Errors
 ///
-/// `Memory`, with nothing written, and `Io` where the writer fails: a prefix of the lines may stand then, and not all of
-/// them.
+/// `Memory`; nothing has been written then. `Io` if the writer fails; a part of the lines, from the first
+/// byte on, but not all, may have been written then.
 pub fn print_plainly<W: Write>(alloc: Global, recovered: &Recovered, writer: &mut W) -> Result<()>
     ensures ok { OnOk result (PrintsTables (recovered_shown recovered.now) (W.contents writer.old)
         (W.contents writer.new)) }
@@ -33,11 +35,11 @@ pub fn print_plainly<W: Write>(alloc: Global, recovered: &Recovered, writer: &mu
     write_whole(writer, text.as_bytes())
 }
 
-/// Returns the text that [`print_plainly`] prints.
+/// Returns the text that [`print_plainly`] prints for `recovered`.
 ///
 /// # Errors
 ///
-/// Where there is no memory for it.
+/// `AllocError` if there is no memory for it.
 fn recovered_text(alloc: Global, recovered: &Recovered) -> AllocResult<String>
     ensures { IfOk result (λ text. IsTextOfTables (recovered_shown recovered.now) (string_bytes text)) }
 {
@@ -48,11 +50,12 @@ fn recovered_text(alloc: Global, recovered: &Recovered) -> AllocResult<String>
     Ok(text)
 }
 
-/// Appends the line of the live counts: that of the append queue, then that of the rewrite queue.
+/// Appends the line of the live counts, `append` of the append queue and `rewrite` of the rewrite queue, as
+/// `live 3 0`.
 ///
 /// # Errors
 ///
-/// Where there is no memory for it. Some of the text may then be appended.
+/// `AllocError` if there is no memory for it. Some of the text may have been appended then.
 fn append_live(append: u128, rewrite: u128, text: &mut String) -> AllocResult<()>
     ensures { OnOk result (string_bytes text.new ≡ string_bytes text.old ++ (codes "live "
         ++ decimal append ++ codes " " ++ decimal rewrite ++ codes "\n")) }
@@ -60,11 +63,11 @@ fn append_live(append: u128, rewrite: u128, text: &mut String) -> AllocResult<()
     writeln!(text, "live {append} {rewrite}")
 }
 
-/// Appends a line for each region, by rising region.
+/// Appends a line for each of `regions`, by rising region.
 ///
 /// # Errors
 ///
-/// Where there is no memory for them. Some of the text may then be appended.
+/// `AllocError` if there is no memory for them. Some of the text may have been appended then.
 fn append_regions(regions: &Regions, text: &mut String) -> AllocResult<()>
     ensures ordered { IsOrdered nat_cmp regions.now }
     ensures lines { OnOk result (string_bytes text.new
@@ -76,11 +79,12 @@ fn append_regions(regions: &Regions, text: &mut String) -> AllocResult<()>
     Ok(())
 }
 
-/// Appends the line of a region: its entries and keys, and its least file in each queue.
+/// Appends the line of the region `id`: the range of its indexes, the number of its keys, and the lowest
+/// number of a file that it needs in each queue, as `7 entries 10..12 keys 1 append 3 rewrite -`.
 ///
 /// # Errors
 ///
-/// Where there is no memory for it. Some of the text may then be appended.
+/// `AllocError` if there is no memory for it. Some of the text may have been appended then.
 fn append_region(id: u64, region: &Region, text: &mut String) -> AllocResult<()>
     ensures { OnOk result (string_bytes text.new ≡ string_bytes text.old ++ table_line (table_shown id region.now)) }
 {
@@ -94,7 +98,7 @@ fn append_region(id: u64, region: &Region, text: &mut String) -> AllocResult<()>
     text.push('\n')
 }
 
-/// Returns how many keys have a value.
+/// Returns the number of keys that have a value in `keys`.
 fn key_count(keys: &Keys) -> usize
     ensures { result ≡ finite.len (keys_shown keys.now) }
 {
@@ -105,7 +109,7 @@ fn key_count(keys: &Keys) -> usize
 ///
 /// # Errors
 ///
-/// Where there is no memory for it. Some of the text may then be appended.
+/// `AllocError` if there is no memory for it. Some of the text may have been appended then.
 fn append_range(entries: &[EntryIndex], text: &mut String) -> AllocResult<()>
     ensures { OnOk result (string_bytes text.new ≡ string_bytes text.old ++ range_text entries.now) }
 {
@@ -115,11 +119,11 @@ fn append_range(entries: &[EntryIndex], text: &mut String) -> AllocResult<()>
     }
 }
 
-/// Appends a file number, or `-` where there is none.
+/// Appends the file number `seq`, or `-` if there is none.
 ///
 /// # Errors
 ///
-/// Where there is no memory for it. Some of the text may then be appended.
+/// `AllocError` if there is no memory for it. Some of the text may have been appended then.
 fn append_seq(seq: Option<FileSeq>, text: &mut String) -> AllocResult<()>
     ensures { OnOk result (string_bytes text.new ≡ string_bytes text.old ++ seq_text seq) }
 {
@@ -129,11 +133,11 @@ fn append_seq(seq: Option<FileSeq>, text: &mut String) -> AllocResult<()>
     }
 }
 
-/// Appends the line of the cleaned regions, in order, or with `-` where there are none.
+/// Appends the line of the cleaned regions, in order, as `cleaned 4 9`, or `cleaned -` if there are none.
 ///
 /// # Errors
 ///
-/// Where there is no memory for it. Some of the text may then be appended.
+/// `AllocError` if there is no memory for it. Some of the text may have been appended then.
 fn append_cleaned(cleaned: &[u64], text: &mut String) -> AllocResult<()>
     ensures { OnOk result (string_bytes text.new ≡ string_bytes text.old ++ cleaned_line cleaned.now) }
 {
@@ -147,7 +151,8 @@ fn append_cleaned(cleaned: &[u64], text: &mut String) -> AllocResult<()>
     text.push('\n')
 }
 
-/// Lowers a file number that is at or below the last one of an atomic group to at most the group's first.
+/// Lowers the file number `seq` to at most the first one of an atomic group if it is at or below the group's
+/// last one. Returns `None` if `seq` is `None`.
 fn at_most_group_seq(group: Option<(FileSeq, FileSeq)>, seq: Option<FileSeq>) -> Option<FileSeq>
     ensures { result ≡ at_most_group_seq group seq }
 {
@@ -157,7 +162,8 @@ fn at_most_group_seq(group: Option<(FileSeq, FileSeq)>, seq: Option<FileSeq>) ->
     }
 }
 
-/// Returns the lesser of the file numbers of a queue's first entry and of its key values.
+/// Returns the lower one of two file numbers in `queue`: that of the region's first entry there, and the
+/// lowest one of its key values. Returns `None` if it has no record there.
 fn least_seq(queue: LogQueue, region: &Region) -> Option<FileSeq>
     ensures { result ≡ least_seq queue (table_shown 0 region.now) }
 {
@@ -165,7 +171,7 @@ fn least_seq(queue: LogQueue, region: &Region) -> Option<FileSeq>
     lesser(entry_seq, least_key_seq(queue, &region.keys))
 }
 
-/// Returns the file number of the first entry that has its place in a queue, if one has.
+/// Returns the file number of the first entry that has its place in `queue`, or `None` if there is none.
 #[tactic(auto, unfolding(raft_table::specs::TableEntries::placed_in, raft_table::specs::TableEntries::is_placed_in))]
 fn first_entry_seq(queue: LogQueue, entries: &[EntryIndex]) -> Option<FileSeq>
     ensures { result ≡ first_entry_seq queue entries.now }
@@ -178,7 +184,7 @@ fn first_entry_seq(queue: LogQueue, entries: &[EntryIndex]) -> Option<FileSeq>
     None
 }
 
-/// Returns the lowest number of a queue's file in which a value is, if one is in any.
+/// Returns the lowest number of a file of `queue` that a value is in, or `None` if there is none.
 fn least_key_seq(queue: LogQueue, keys: &Keys) -> Option<FileSeq>
     ensures { result ≡ least (seqs_in queue (keys_shown keys.now)) }
 {

@@ -1,24 +1,8 @@
 -- The entry blocks of the batches of a part.
-use Rattle.std.proofs.Common.{◌≡◌, inl, inr, ℕ, ◌+◌, ◌-◌, ◌<◌, ◌≤◌, List, [], ◌∷◌, ◌++◌, length, take, drop, refl, sym, ap, ◌∙◌, subst, arith, append_assoc, length-append}
-use Rattle.std.proofs.lemmas.Bool.{cases_lt}
-use Rattle.std.proofs.lemmas.List.{append_cancel_left, drop-append-le, drop-take, drop_at, length-take-le, nil_from_length, take-append-drop, take-append-le, take-take, take_at}
-use Rattle.raft_base.specs.declared.compression_type.CompressionType.{CompressionType}
-use Rattle.raft_base.specs.Corruption.{IsCorruption}
-use Rattle.raft_base.specs.declared.errors.Error.{Error}
-use Rattle.raft_codec.specs.Reading.{HasNoFront, Reads}
-use Rattle.raft_records.specs.FilePart.{AreBatchesUpTo, IsBatchAt, Part, StandBetween}
-use Rattle.raft_records.specs.Header.{IsEntryBlockOf, IsHeader}
-use Rattle.raft_records.specs.Item.{Item}
-use Rattle.raft_records.specs.LogBatch.{entry_block, header_bytes}
-use Rattle.raft_records.proofs.BufferLemmas.{header_len}
-use Rattle.raft_records.proofs.FrameLemmas.{framed, header_one}
-use Rattle.raft_records.proofs.Names.{part_signature}
-use Rattle.raft_records.proofs.PartLemmas.{batch_inside}
-use Rattle.raft_replay.specs.Cuts.{bytes_before}
-use Rattle.raft_replay.specs.Stops.{IsUnreadableAt}
-use Rattle.raft_replay.specs.WrittenParts.{with_bytes}
-use Rattle.raft_replay.proofs.SegmentLemmas.{batch_none, batch_unique}
-use Rattle.raft_prefix.specs.Blocks.{AreBlocksSound, AreSoundTo, HasSoundBlock, IsUnsoundAs, damaged_entries_text}
+use Rattle.raft_prefix.proofs.Common.{◌≡◌, inl, inr, ℕ, ◌+◌, ◌-◌, ◌<◌, ◌≤◌, List, [], ◌∷◌, ◌++◌, length, take, drop, refl, sym, ap, ◌∙◌, subst, arith, append_assoc, length-append, cases_lt, append_cancel_left, drop-append-le, drop-take, drop_at, length-take-le, nil_from_length}
+use Rattle.raft_prefix.proofs.Common.{◌⊎◌, zero, suc, Contains, AllByRecursion, IsStrictlyIncreasing, Bool, true, false, Result, Ok, Err, IfOk, OnErr, is_ok, slice_index, false≢true, Contains-append_left, Contains-push, each-append, AreUnsoundIn, AreUnsoundTo, IsUnsoundAt}
+use Rattle.raft_prefix.proofs.Common.{take-append-drop, take-append-le, take-take, take_at, CompressionType, IsCorruption, Error, HasNoFront, Reads, AreBatchesUpTo, IsBatchAt, Part, StandBetween, IsEntryBlockOf, IsHeader, Item, entry_block, header_bytes, header_len, framed}
+use Rattle.raft_prefix.proofs.Common.{header_one, part_signature, batch_inside, bytes_before, IsUnreadableAt, with_bytes, batch_none, batch_unique, AreBlocksSound, AreSoundTo, HasSoundBlock, IsUnsoundAs, damaged_entries_text}
 
 -- ---- one batch
 
@@ -81,6 +65,16 @@ has_header part at next items b none =
     none f.header.front (drop 16 b.bytes ++ more) (16 + length b.between, f.compression, length b.bytes) f.header.spells
     (b.stands ∙ ap (λ (t : List ℕ). t ++ more) f.header.split ∙ append_assoc f.header.front (drop 16 b.bytes) more)
 
+-- what a result has, by whether it is one
+module _ {T E : Type 0} (P : T → Type 0) (Q : Type 0) where
+  pub read_ok : (r : Result T E) (is : Bool) → is ≡ is_ok r → is ≡ true → IfOk r P → (x : T) × P x
+  read_ok (Ok x) is e good h = (x, h)
+  read_ok (Err x) is e good h = absurd (false≢true (sym e ∙ good))
+
+  pub not_read : (r : Result T E) (is : Bool) → is ≡ is_ok r → is ≡ false → OnErr r Q → Q
+  not_read (Ok x) is e bad h = absurd (false≢true (sym bad ∙ e))
+  not_read (Err x) is e bad h = h
+
 -- ---- a batch among other bytes
 
 -- where the bytes up to a batch's end are the same, its bytes stand
@@ -142,35 +136,100 @@ none_past p from m i (y ∷ ys) (x ∷ xs) s none t =
     let same : t.0 ≡ s.0 = (batch_unique p from x y t.0 s.0 t.1 s.1).1 in
     none_past p s.0 m i ys xs s.2 none (subst (λ (n : ℕ). StandBetween p n i xs) same t.2)
 
-module _ (p : Part) where
-  pub none_sound : AreSoundTo p 0
-  none_sound i next items up b le = let n = (batch_inside p i items next b).0 in absurd (omega (arith, n, le))
+-- numbers below one are below a greater one
+below_more : (n m : ℕ) (xs : List ℕ) → n ≤ m → AllByRecursion (λ at. at < n) xs → AllByRecursion (λ at. at < m) xs
+below_more n m [] le h = tt
+below_more n m (x ∷ xs) le h = (omega (arith, le, h.0), below_more n m xs le h.1)
 
-  -- one batch more
-  pub one_more_sound : (m next : ℕ) (items : List Item) → AreBatchesUpTo p m → IsBatchAt p m items next → ((others : List Item) (n : ℕ) (c : IsBatchAt p m others n) → HasSoundBlock c)
-      → AreSoundTo p m → AreSoundTo p next
-  one_more_sound m next items up b here before i n others up' c le = elim (cases_lt i m) [
-    | inl less ↦ before i n others up' c (stand_past p 0 i m n others up'.0 up.0 up'.1 c up.1 less)
-    | inr not_less ↦ elim (cases_lt m i) [
-      | inl more ↦
-          let past = stand_past p 0 m i next items up.0 up'.0 up.1 b up'.1 more in
-          let long = (batch_inside p i others n c).0 in
-          absurd (omega (arith, past, long, le))
-      | inr not_more ↦
-          let same : m ≡ i = omega (arith, not_less, not_more) in
-          subst (λ (j : ℕ). (d : IsBatchAt p j others n) → HasSoundBlock d) same (here others n) c
-    ]
+-- one more behind those that rise
+pushed_rising : (xs : List ℕ) (m : ℕ) → IsStrictlyIncreasing xs → AllByRecursion (λ at. at < m) xs → IsStrictlyIncreasing (xs ++ m ∷ [])
+pushed_rising [] m h below k less = absurd (omega (arith, less))
+pushed_rising (x ∷ []) m h below zero less = below.0
+pushed_rising (x ∷ []) m h below (suc k) less = absurd (omega (arith, less))
+pushed_rising (x ∷ y ∷ xs) m h below zero less = h 0 (omega arith)
+pushed_rising (x ∷ y ∷ xs) m h below (suc k) less =
+    let next : (j : ℕ) → suc j + 1 ≡ suc (j + 1) = λ j. omega arith in
+    subst (λ (n : ℕ). slice_index (x ∷ y ∷ xs ++ m ∷ []) (suc k) < slice_index (x ∷ y ∷ xs ++ m ∷ []) n) (sym (next k))
+    (pushed_rising (y ∷ xs) m (λ j within. subst (λ (n : ℕ). slice_index (x ∷ y ∷ xs) (suc j) < slice_index (x ∷ y ∷ xs) n) (next j) (h (suc j) (omega (arith, within)))) below.1 k (omega (arith, less)))
+
+module _ (p : Part) where
+  pub none_unsound : AreUnsoundTo p 0 []
+  none_unsound = record {
+    are = tt;
+    others = λ i next items up b le. let n = (batch_inside p i items next b).0 in absurd (omega (arith, n, le));
+    in_order = λ k less. absurd (omega (arith, less));
+    before = tt;
+  }
+
+  -- where none is unsound all are sound
+  pub all_sound : (m : ℕ) → AreUnsoundTo p m [] → AreSoundTo p m
+  all_sound m u i n items up b le = elim (u.others i n items up b le) [
+    | inl sound ↦ sound
+    | inr c ↦ absurd (let less = c.1 in omega (arith, less))
   ]
+
+  -- ---- one batch more
+
+  module _ (m next : ℕ) (items : List Item) (up : AreBatchesUpTo p m) (b : IsBatchAt p m items next) where
+    -- whichever ends there or before ends in front of it, or is it
+    which : (i n : ℕ) (others : List Item) → AreBatchesUpTo p i → IsBatchAt p i others n → n ≤ next → (n ≤ m) ⊎ (m ≡ i)
+    which i n others up' c le = elim (cases_lt i m) [
+      | inl less ↦ inl (stand_past p 0 i m n others up'.0 up.0 up'.1 c up.1 less)
+      | inr not_less ↦ elim (cases_lt m i) [
+        | inl more ↦
+            let past = stand_past p 0 m i next items up.0 up'.0 up.1 b up'.1 more in
+            let long = (batch_inside p i others n c).0 in
+            absurd (omega (arith, past, long, le))
+        | inr not_more ↦ inr (omega (arith, not_less, not_more))
+      ]
+    ]
+
+    rises : m ≤ next
+    rises = let n = (batch_inside p m items next b).0 in omega (arith, n)
+
+    pub one_more_sound : (begins : List ℕ) → ((others : List Item) (n : ℕ) (c : IsBatchAt p m others n) → HasSoundBlock c) → AreUnsoundTo p m begins → AreUnsoundTo p next begins
+    one_more_sound begins here u = record {
+      are = u.are;
+      others = λ i n others up' c le. elim (which i n others up' c le) [
+        | inl before ↦ u.others i n others up' c before
+        | inr same ↦ inl (subst (λ (j : ℕ). (d : IsBatchAt p j others n) → HasSoundBlock d) same (here others n) c)
+      ];
+      in_order = u.in_order;
+      before = below_more m next begins rises u.before;
+    }
+
+    pub one_more_unsound : (begins : List ℕ) → ¬ (HasSoundBlock b) → AreUnsoundTo p m begins → AreUnsoundTo p next (begins ++ m ∷ [])
+    one_more_unsound begins here u = record {
+      are = each-append (IsUnsoundAt p) begins (m ∷ []) u.are ((up, (items, next, b, here)), tt);
+      others = λ i n others up' c le. elim (which i n others up' c le) [
+        | inl before ↦ elim (u.others i n others up' c before) [
+          | inl sound ↦ inl sound
+          | inr among ↦ inr (Contains-append_left begins (m ∷ []) i among)
+        ]
+        | inr same ↦ inr (subst (Contains (begins ++ m ∷ [])) same (Contains-push begins m))
+      ];
+      in_order = pushed_rising begins m u.in_order u.before;
+      before = each-append (λ at. at < next) begins (m ∷ []) (below_more m next begins rises u.before) (let n = (batch_inside p m items next b).0 in omega (arith, n), tt);
+    }
 
   -- where reading stops these are all
-  pub all_sound : (m : ℕ) → AreBatchesUpTo p m → IsUnreadableAt p m → AreSoundTo p m → AreBlocksSound p
-  all_sound m stood none before i n others up c = elim (cases_lt i m) [
-    | inl less ↦ before i n others up c (stand_past p 0 i m n others up.0 stood.0 up.1 c stood.1 less)
-    | inr not_less ↦
-        let past = none_past p 0 m i stood.0 up.0 stood.1 none up.1 in
-        let same : m ≡ i = omega (arith, not_less, past) in
-        absurd (batch_none p i others n (subst (IsUnreadableAt p) same none) c)
-  ]
+  pub all_unsound : (m : ℕ) (begins : List ℕ) → m ≤ length p.bytes → AreBatchesUpTo p m → IsUnreadableAt p m → AreUnsoundTo p m begins → AreUnsoundIn p begins
+  all_unsound m begins inside stood none u = record {
+    are = u.are;
+    others = λ i n others up c le. elim (cases_lt i m) [
+      | inl less ↦ u.others i n others up c (stand_past p 0 i m n others up.0 stood.0 up.1 c stood.1 less)
+      | inr not_less ↦
+          let past = none_past p 0 m i stood.0 up.0 stood.1 none up.1 in
+          let same : m ≡ i = omega (arith, not_less, past) in
+          absurd (batch_none p i others n (subst (IsUnreadableAt p) same none) c)
+    ];
+    in_order = u.in_order;
+    before = below_more m (length p.bytes) begins inside u.before;
+  }
+
+  -- so all blocks are sound if none of these isn't
+  pub blocks_sound : AreUnsoundIn p [] → AreBlocksSound p
+  blocks_sound u i n items up b = all_sound (length p.bytes) u i n items up b (batch_inside p i items n b).1
 
   -- ---- a prefix of its bytes
 
@@ -187,29 +246,12 @@ module _ (p : Part) where
     abbrev in_whole : (i n : ℕ) (items : List Item) → IsBatchAt (bytes_before p m) i items n → IsBatchAt p i items n
     in_whole i n items b = moved_batch (bytes_before p m) p.bytes i n items b (same_bytes n (ends_before i n items b))
 
-    abbrev in_prefix : (i n : ℕ) (items : List Item) → n ≤ m → IsBatchAt p i items n → IsBatchAt (bytes_before p m) i items n
-    in_prefix i n items le b = moved_batch p (take m p.bytes) i n items b (sym (same_bytes n le))
-
     stand_in_whole : (from end : ℕ) (bs : List (List Item)) → StandBetween (bytes_before p m) from end bs → StandBetween p from end bs
     stand_in_whole from end [] s = s
     stand_in_whole from end (x ∷ bs) s = (s.0, in_whole from s.0 x s.1, stand_in_whole s.0 end bs s.2)
 
-    stand_in_prefix : (from end : ℕ) (bs : List (List Item)) → end ≤ m → StandBetween p from end bs → StandBetween (bytes_before p m) from end bs
-    stand_in_prefix from end [] le s = s
-    stand_in_prefix from end (x ∷ bs) le s =
-        let n = stand_on p s.0 end bs s.2 in
-        (s.0, in_prefix from s.0 x (omega (arith, n, le)) s.1, stand_in_prefix s.0 end bs le s.2)
-
     pub prefix_sound : AreSoundTo p m → AreBlocksSound (bytes_before p m)
     prefix_sound before i n items up b = before i n items (up.0, stand_in_whole 0 i up.0 up.1) (in_whole i n items b) (ends_before i n items b)
-
-    pub sound_to : AreBlocksSound (bytes_before p m) → AreSoundTo p m
-    sound_to before i n items up b le =
-        let k = (batch_inside p i items n b).0 in
-        before i n items (up.0, stand_in_prefix 0 i up.0 (omega (arith, k, le)) up.1) (in_prefix i n items le b)
-
-    pub part_of_sound : AreBlocksSound p → AreBlocksSound (bytes_before p m)
-    part_of_sound all = prefix_sound (λ i n items up b le. all i n items up b)
 
 -- the first batch whose block isn't sound
 pub first_unsound : (p : Part) (m next : ℕ) (items : List Item) → m ≤ length p.bytes → AreBatchesUpTo p m → (b : IsBatchAt p m items next) → ¬ (HasSoundBlock b) → AreSoundTo p m
@@ -243,13 +285,31 @@ module _ (p : Part) (more : List ℕ) where
   pub longer_up_to : (m : ℕ) → AreBatchesUpTo p m → AreBatchesUpTo (with_bytes p more) m
   longer_up_to m up = (up.0, stand_in_longer 0 m up.0 up.1)
 
-  longer_length : length p.bytes ≤ length (p.bytes ++ more)
-  longer_length = omega (arith, length-append p.bytes more)
+  abbrev in_shorter : (i n : ℕ) (items : List Item) → n ≤ length p.bytes → IsBatchAt (with_bytes p more) i items n → IsBatchAt p i items n
+  in_shorter i n items le b = moved_batch (with_bytes p more) p.bytes i n items b (sym (same_front n le))
 
-  pub longer_sound : (m : ℕ) → m ≤ length p.bytes → AreSoundTo p m → AreSoundTo (with_bytes p more) m
-  longer_sound m inside sound =
-      sound_to (with_bytes p more) m (let l = longer_length in omega (arith, inside, l))
-      (subst (λ (xs : List ℕ). AreBlocksSound (record p { bytes = xs })) (sym (same_front m inside)) (prefix_sound p m inside sound))
+  stand_in_shorter : (from end : ℕ) (bs : List (List Item)) → end ≤ length p.bytes → StandBetween (with_bytes p more) from end bs → StandBetween p from end bs
+  stand_in_shorter from end [] le s = s
+  stand_in_shorter from end (x ∷ bs) le s =
+      let n = stand_on (with_bytes p more) s.0 end bs s.2 in
+      (s.0, in_shorter from s.0 x (omega (arith, n, le)) s.1, stand_in_shorter s.0 end bs le s.2)
+
+  each_longer : (begins : List ℕ) → AllByRecursion (IsUnsoundAt p) begins → AllByRecursion (IsUnsoundAt (with_bytes p more)) begins
+  each_longer [] h = tt
+  each_longer (at ∷ begins) h =
+      let u = h.0 in
+      ((longer_up_to at u.0, (u.1.0, u.1.1, in_longer at u.1.1 u.1.0 u.1.2, u.1.3)), each_longer begins h.1)
+
+  pub longer_unsound_to : (m : ℕ) (begins : List ℕ) → m ≤ length p.bytes → AreUnsoundTo p m begins → AreUnsoundTo (with_bytes p more) m begins
+  longer_unsound_to m begins inside u = record {
+    are = each_longer begins u.are;
+    others = λ i n items up b le.
+        let within : n ≤ length p.bytes = omega (arith, le, inside) in
+        let long = (batch_inside (with_bytes p more) i items n b).0 in
+        u.others i n items (up.0, stand_in_shorter 0 i up.0 (omega (arith, long, within)) up.1) (in_shorter i n items within b) le;
+    in_order = u.in_order;
+    before = u.before;
+  }
 
   pub longer_unsound : (e : Error) → IsUnsoundAs p e → IsUnsoundAs (with_bytes p more) e
   longer_unsound e u =

@@ -1,2 +1,3 @@
+mod Common
 pub mod BlockLemmas
 pub mod PrefixLemmas

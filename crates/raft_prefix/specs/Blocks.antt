@@ -1,5 +1,7 @@
 -- The entry blocks of the batches of a part.
-use Rattle.std.specs.Prelude.{◌≡◌, ℕ, ◌≤◌, List, ◌++◌, codes}
+use Rattle.std.specs.Prelude.{◌≡◌, ◌⊎◌, ℕ, ◌<◌, ◌≤◌, List, ◌++◌, length, codes, Contains}
+use Rattle.std.specs.List.{AllByRecursion}
+use Rattle.std.specs.List.Sorted.{IsStrictlyIncreasing}
 use Rattle.raft_base.specs.Corruption.{IsCorruption}
 use Rattle.raft_base.specs.declared.errors.Error.{Error}
 use Rattle.raft_base.specs.declared.pipe_log.FileId.{FileId}
@@ -21,6 +23,21 @@ AreBlocksSound part = (at next : ℕ) (items : List Item) → AreBatchesUpTo par
 -- so it is of those that end at this byte or before
 abbrev pub AreSoundTo : Part → ℕ → Type 0
 AreSoundTo part end = (at next : ℕ) (items : List Item) → AreBatchesUpTo part at → (b : IsBatchAt part at items next) → next ≤ end → HasSoundBlock b
+
+-- so it isn't of the batch that begins at this byte of a part, which reading reaches
+abbrev pub IsUnsoundAt : Part → ℕ → Type 0
+IsUnsoundAt part at = AreBatchesUpTo part at × ((items : List Item) × (next : ℕ) × (b : IsBatchAt part at items next) × ¬ (HasSoundBlock b))
+
+-- of the batches of a part that end at this byte or before, so it isn't of just those that begin at these bytes, from first to last
+pub record AreUnsoundTo (part : Part) (end : ℕ) (begins : List ℕ) : Type 0 where
+  pub are : AllByRecursion (IsUnsoundAt part) begins
+  pub others : (at next : ℕ) (items : List Item) → AreBatchesUpTo part at → (b : IsBatchAt part at items next) → next ≤ end → HasSoundBlock b ⊎ Contains begins at
+  pub in_order : IsStrictlyIncreasing begins
+  pub before : AllByRecursion (λ at. at < end) begins
+
+-- of all batches of a part
+abbrev pub AreUnsoundIn : Part → List ℕ → Type 0
+AreUnsoundIn part begins = AreUnsoundTo part (length part.bytes) begins
 
 -- so it isn't of a batch of a part, but of all batches in front of it
 pub record HasUnsoundBlock (part : Part) : Type 0 where

@@ -8,7 +8,7 @@ use Rattle.raft_base.specs.declared.pipe_log.LogQueue.TheVariants.{Rewrite}
 use Rattle.raft_records.specs.FilePart.{Part, AreBatchesUpTo, IsNextFault, part_of}
 use Rattle.raft_replay.specs.Stops.{IsUnreadableAt}
 use Rattle.raft_reading.specs.FilesRead.{AreRead}
-use Rattle.raft_prefix.specs.Blocks.{IsPartSound, IsUnsoundAs}
+use Rattle.raft_prefix.specs.Blocks.{AreUnsoundIn, IsPartSound, IsUnsoundAs}
 use Rattle.raft_history.specs.Batches.{Event}
 use Rattle.raft_replay.specs.Replays.{HasReplayed}
 use Rattle.raft_replay.specs.Segments.{HoldsFrom}
@@ -33,6 +33,11 @@ pub record IsPrefix (part : Part) (at : ℕ) (stopped : Option Error) : Type 0 w
   pub stops : EndsOrStops part at stopped
   pub sound : IsPartSound part
 
+-- this is the readable prefix of a part, and just those of its batches have unsound entry blocks that begin where this says
+pub record IsPrefixOf (part : Part) (prefix : Prefix) : Type 0 where
+  pub is : IsPrefix part prefix.len prefix.stopped
+  pub damaged : AreUnsoundIn part prefix.damaged.items
+
 -- reads gave these first bytes of a file of this length, and whatever comes behind them this is so of all its bytes
 pub record IsKnownOf (Gives : ℕ → List ℕ → Type 0) (file : LogFileContext) (len : ℕ) (Is : Part → Type 0) : Type 0 where
   pub bytes : List ℕ
@@ -42,7 +47,7 @@ pub record IsKnownOf (Gives : ℕ → List ℕ → Type 0) (file : LogFileContex
 
 -- this is the readable prefix of a file of this length
 abbrev pub IsPrefixRead : (ℕ → List ℕ → Type 0) → LogFileContext → ℕ → Prefix → Type 0
-IsPrefixRead Gives file len prefix = IsKnownOf Gives file len (λ part. IsPrefix part prefix.len prefix.stopped)
+IsPrefixRead Gives file len prefix = IsKnownOf Gives file len (λ part. IsPrefixOf part prefix)
 
 -- the entries of a batch of a rewrite file of this length are damaged, and the refusal says so
 abbrev pub IsDamageRead : (ℕ → List ℕ → Type 0) → LogFileContext → ℕ → Error → Type 0
@@ -61,7 +66,7 @@ pub record IsPrefixReplayed {M : Type 0} (Gives : ℕ → List ℕ → Type 0) (
   pub ends : read.prefix.len ≡ length front
   pub inside : length front + length read.behind.items ≤ len
   pub given : AreRead Gives (front ++ read.behind.items)
-  pub is : (rest : List ℕ) → length front + length read.behind.items + length rest ≡ len → IsPrefix (part_of file 0 ((front ++ read.behind.items) ++ rest)) read.prefix.len read.prefix.stopped
+  pub is : (rest : List ℕ) → length front + length read.behind.items + length rest ≡ len → IsPrefixOf (part_of file 0 ((front ++ read.behind.items) ++ rest)) read.prefix
   pub replayed : HasReplayed (HoldsFrom (part_of file 0 front) 0) stands_for stands_exactly old new
 
 -- a read gave the other bytes of a file of this length, and with these, which stand in front of them, they are all from this byte on

@@ -1,12 +1,10 @@
 //! The entry blocks of batches.
 
-ghost use Rattle.std.specs.Prelude.{◌≡◌, ◌≢◌, ℕ, List, drop, IfErr, OnOk};
+ghost use Rattle.std.specs.Prelude.{◌≡◌, ◌≢◌, true, false, IfErr, OnOk};
 ghost use Rattle.raft_base.specs.Corruption.{IsCorruption};
 ghost use Rattle.raft_base.specs.declared.pipe_log.LogQueue.TheVariants.{Rewrite};
-ghost use Rattle.raft_records.specs.FilePart.{IsBatchAt, Part};
-ghost use Rattle.raft_records.specs.Item.{Item};
 ghost use Rattle.raft_prefix.specs.Blocks.{damaged_entries_text};
-ghost use Rattle.raft_prefix.specs.Pieces.{IsBatchIn, IsSoundIn, IsUnsoundIn};
+ghost use Rattle.raft_prefix.specs.Pieces.{IsBatchIn, IsGathered, IsSoundIn, IsUnsoundIn};
 
 use raft_base::{Error, FileId, LogQueue, Result};
 use raft_records::{LogBatch, lent_entry_block};
@@ -16,42 +14,53 @@ use std::alloc::Global;
 /// How many bytes the header of a batch has.
 const HEADER_LEN: usize = 16;
 
-/// Why a file is refused of which the entry block of a batch doesn't end in its checksum.
+/// Why the entries of a batch are refused of which the entry block doesn't end in its checksum.
 const DAMAGED_ENTRIES: &str = "the entries of this batch are damaged";
 
-/// Refuses the batch in front of bytes, which stand at `offset` of a rewrite file, if its entries are damaged. Of an append
-/// file nothing is checked.
+/// Returns the error for a batch with damaged entries that begins at `offset` of the file `id`: `Corruption`, whose text begins
+/// with file and offset, or `Memory` if there is none for the text.
+pub fn damage_at(alloc: Global, id: FileId, offset: u64) -> Error
+    ensures { IsCorruption (damaged_entries_text id offset) result }
+{
+    corruption_at(alloc, id, offset, DAMAGED_ENTRIES)
+}
+
+/// Pushes `offset` to `damaged` if the entries of the batch at the start of `bytes` are damaged. `offset` is where `bytes` begin
+/// in the append file `id`. In a rewrite file such a batch is an error.
 ///
 /// # Errors
 ///
-/// `Corruption`, which names the file and the offset; `Memory`.
-pub fn check_entries(alloc: Global, id: FileId, offset: u64, bytes: &[u8]) -> Result<()>
+/// `Corruption`, as [`damage_at`] has it, for a rewrite file; `Memory`. Nothing is pushed then.
+pub(crate) fn gather_damage(
+    alloc: Global,
+    id: FileId,
+    offset: u64,
+    bytes: &[u8],
+    damaged: &mut Vec<u64>,
+) -> Result<()>
     requires { IsBatchIn bytes.now }
-    ensures ok { OnOk result (id.queue ≡ Rewrite → IsSoundIn bytes.now) }
+    ensures ok { OnOk result (IsGathered id.queue offset bytes.now damaged.old.items damaged.new.items) }
     ensures refused { IfErr result (λ e. e ≢ Error.Memory → (id.queue ≡ Rewrite) × IsUnsoundIn bytes.now
         × IsCorruption (damaged_entries_text id offset) e) }
 {
+    if is_sound(alloc, bytes) {
+        return Ok(());
+    }
     match id.queue {
-        LogQueue::Append => Ok(()),
-        LogQueue::Rewrite => check_block(alloc, id, offset, bytes),
+        LogQueue::Append => Ok(damaged.push(offset)?),
+        LogQueue::Rewrite => Err(damage_at(alloc, id, offset)),
     }
 }
 
-/// Refuses the batch in front of bytes, if its entries are damaged.
-///
-/// # Errors
-///
-/// Those of [`check_entries`].
-fn check_block(alloc: Global, id: FileId, offset: u64, bytes: &[u8]) -> Result<()>
+/// Tests whether the entry block of the batch at the start of `bytes` ends in its checksum. One batch at least must stand there.
+fn is_sound(alloc: Global, bytes: &[u8]) -> bool
     requires { IsBatchIn bytes.now }
-    ensures ok { OnOk result (IsSoundIn bytes.now) }
-    ensures refused { IfErr result (λ e. e ≢ Error.Memory → IsUnsoundIn bytes.now
-        × IsCorruption (damaged_entries_text id offset) e) }
+    ensures sound { result ≡ true → IsSoundIn bytes.now }
+    ensures unsound { result ≡ false → IsUnsoundIn bytes.now }
 {
     let mut batch = bytes;
-    let (items_at, _, _) = LogBatch::decode_header(alloc, &mut batch)?;
-    let Ok(_) = lent_entry_block(alloc, batch, items_at - HEADER_LEN) else {
-        return Err(corruption_at(alloc, id, offset, DAMAGED_ENTRIES));
+    let Ok((items_at, _, _)) = LogBatch::decode_header(alloc, &mut batch) else {
+        return false;
     };
-    Ok(())
+    lent_entry_block(alloc, batch, items_at - HEADER_LEN).is_ok()
 }

@@ -4,11 +4,12 @@ ghost use Rattle.std.specs.Prelude.{◌≡◌, ◌≢◌, ◌⊎◌, ◌+◌, �
 ghost use Rattle.raft_reading.specs.Common.{IsReadFault, IsUnread};
 ghost use Rattle.raft_prefix.specs.Prefixes.{IsDamageRead, IsPrefixRead, IsPrefixReplayed, IsRestRead, IsTailRead};
 
-use crate::pieces::{bytes_wanted, let_go, read_behind};
+use crate::pieces::bytes_wanted;
 use crate::readable::{readable_in, replay_readable};
 use raft_base::{Error, LogFileContext, Result};
 use raft_history::ReplayMachine;
 use raft_reading::ReadFiles;
+use raft_reading::file_pieces::{let_go, read_behind};
 use raft_records::FilePart;
 use std::alloc::Global;
 
@@ -17,8 +18,10 @@ use std::alloc::Global;
 pub struct Prefix {
     /// How many bytes it has.
     pub len: u64,
-    /// Why no batch can be read behind it; nothing where the file ends there.
+    /// Why no batch can be read behind it; `None` if the file ends there.
     pub stopped: Option<Error>,
+    /// The offsets in the file of its batches with damaged entries, in order; none in a rewrite file.
+    pub damaged: Vec<u64>,
 }
 
 /// The readable prefix of a file that was replayed, and what was read of the file behind it.
@@ -28,15 +31,15 @@ pub struct ReplayedPrefix {
     pub behind: Vec<u8>,
 }
 
-/// Returns the readable prefix of a file of `len` bytes, which is read piece by piece up to where no batch can be read, no byte
-/// of it twice. A piece is let go once its batches are read: so the memory that this takes is that of a piece and of the longest
-/// batch. In a rewrite file the entries of each batch are checked against their checksum.
+/// Returns the readable prefix of `file`, which has `len` bytes. It is read from `source` piece by piece, up to the first batch
+/// that can't be read, and no byte twice. A piece is dropped once its batches are read: so this takes the memory of a piece and
+/// of the longest batch, and 8 bytes for each batch with damaged entries. The entries of each batch are checked against their
+/// checksum.
 ///
 /// # Errors
 ///
-/// `Corruption`, which names the file and the offset, where the entries of a batch of a rewrite file are damaged; `Io`, whose text
-/// begins with the queue, the file and the offset, where a read fails, or gives another number of bytes than it was asked for;
-/// `Memory`.
+/// `Corruption`, which names the file and the offset, at a batch of a rewrite file with damaged entries; `Io`, whose text begins
+/// with the queue, the file and the offset, where a read fails, or gives another number of bytes than it was asked for; `Memory`.
 pub fn read_prefix<S: ReadFiles>(
     alloc: Global,
     source: &S,
@@ -50,26 +53,34 @@ pub fn read_prefix<S: ReadFiles>(
         ⊎ IsDamageRead (S.gives source.now file.now.id) file.now len e) }
 {
     let mut piece = Vec::new(alloc);
+    let mut damaged = Vec::new(alloc);
     let mut at = 0;
     loop {
-        let (count, stopped) = readable_in(alloc, file, at, piece.as_slice())?;
+        let bytes = piece.as_slice();
+        let (count, stopped) = readable_in(alloc, file, at, bytes, &mut damaged)?;
         let_go(&mut piece, count);
         at += count as u64;
         let left = len - at - piece.len() as u64;
         let wanted = bytes_wanted(alloc, piece.as_slice(), left);
         if wanted == 0 {
-            return Ok(Prefix { len: at, stopped });
+            let len = at;
+            return Ok(Prefix {
+                len,
+                stopped,
+                damaged,
+            });
         }
         drop(stopped);
         read_behind(source, file.id, at, wanted, &mut piece)?;
     }
 }
 
-/// Replays the readable prefix of a file of `len` bytes, which is read as [`read_prefix`] reads it, no byte of it twice.
+/// Replays the readable prefix of `file`, which has `len` bytes and is read as [`read_prefix`] reads it. Returns the prefix with
+/// the bytes that were read of the file behind it.
 ///
 /// # Errors
 ///
-/// Those of [`read_prefix`] and of the machine.
+/// Those of [`read_prefix`] and of the machine. Some of the batches may have been replayed then.
 pub fn replay_prefix<M: ReplayMachine, S: ReadFiles>(
     machine: &mut M,
     alloc: Global,
@@ -81,26 +92,31 @@ pub fn replay_prefix<M: ReplayMachine, S: ReadFiles>(
         machine.old machine.new) }
 {
     let mut piece = Vec::new(alloc);
+    let mut damaged = Vec::new(alloc);
     let mut at = 0;
     loop {
-        let (passed, stopped) = replay_readable(machine, alloc, file, at, piece.as_slice())?;
+        let bytes = piece.as_slice();
+        let (passed, stopped) = replay_readable(machine, alloc, file, at, bytes, &mut damaged)?;
         let_go(&mut piece, passed);
         at += passed as u64;
         let left = len - at - piece.len() as u64;
         let more = bytes_wanted(alloc, piece.as_slice(), left);
         if more == 0 {
-            let prefix = Prefix { len: at, stopped };
-            return Ok(ReplayedPrefix {
-                prefix,
-                behind: piece,
-            });
+            let (len, behind) = (at, piece);
+            let prefix = Prefix {
+                len,
+                stopped,
+                damaged,
+            };
+            return Ok(ReplayedPrefix { prefix, behind });
         }
         drop(stopped);
         read_behind(source, file.id, at, more, &mut piece)?;
     }
 }
 
-/// Reads the other bytes of a file of `len` bytes of which `behind` stands from `at` on, and returns all from there on.
+/// Returns all bytes of `file` from `at` on, as a part. The file has `len` bytes; `behind` are those from `at` on that were read
+/// already, and only the others are read.
 ///
 /// # Errors
 ///
@@ -122,7 +138,7 @@ pub fn read_tail<S: ReadFiles>(
     FilePart::new(file.id, file.version, at, bytes)
 }
 
-/// Reads all bytes of a file of `len` bytes from `at` on, at once.
+/// Returns all bytes of `file`, which has `len` bytes, from `at` on, as a part. They are read at once.
 ///
 /// # Errors
 ///

@@ -1,4 +1,4 @@
-//! The batches in front of bytes that are lent.
+//! The readable batches at the start of bytes.
 
 ghost use Rattle.std.specs.Prelude.{◌≡◌, ◌≢◌, ◌+◌, ◌<◌, ◌^◌, length, take, drop, IfErr, IfOk, IfSome, MatchOption, OnOk};
 ghost use Rattle.raft_base.specs.Signature.{signature_of};
@@ -10,33 +10,36 @@ ghost use Rattle.raft_replay.specs.Replays.{HasReplayed};
 ghost use Rattle.raft_replay.specs.Segments.{HoldsFrom};
 ghost use Rattle.raft_prefix.specs.Pieces.{ArePassed, IsRefusedBehind};
 
-use crate::entry_blocks::check_entries;
+use crate::entry_blocks::gather_damage;
 use raft_base::{Error, LogFileContext, Result};
 use raft_history::ReplayMachine;
 use raft_records::ReadBatch;
 use std::alloc::Global;
 
-/// Returns how many bytes of those that are lent, which stand in a file from `offset` on, are batches, one after the other, and
-/// why the one behind them can't be read; no reason where the bytes end there. The entries of batches of a rewrite file are
-/// checked.
+/// Reads batch after batch from the start of `bytes`, which stand in `file` from `offset` on, up to the first that can't be read.
+/// Returns how many bytes the batches before it have, and why it can't be read; `None` if `bytes` end with a batch. If `bytes`
+/// are a piece of a file, the reason may be only that the batch goes on behind them.
+///
+/// In an append file the offset in the file of each batch with damaged entries is pushed to `damaged`.
 ///
 /// # Errors
 ///
-/// `Corruption` where the entries of a batch of a rewrite file are damaged; `Memory`.
+/// `Corruption` at the first batch of a rewrite file with damaged entries; `Memory`. Some offsets may have been pushed then.
 pub fn readable_in(
     alloc: Global,
     file: &LogFileContext,
     offset: u64,
     bytes: &[u8],
+    damaged: &mut Vec<u64>,
 ) -> Result<(usize, Option<Error>)>
     requires ends { offset + length bytes.now < 2 ^ 64 }
-    ensures passed { IfOk result (λ stop. ArePassed file.now offset bytes.now stop.0) }
+    ensures passed { IfOk result (λ stop. ArePassed file.now offset bytes.now damaged.old.items damaged.new.items stop.0) }
     ensures whole { IfOk result (λ stop. MatchOption stop.1 (stop.0 ≡ length bytes.now) (λ e. stop.0 < length bytes.now)) }
     ensures refused { IfOk result (λ stop. IfSome stop.1 (λ e. (e ≢ Error.Memory)
         × HasNoFront (λ xs. IsReadable xs (signature_of file.now)) (drop stop.0 bytes.now))) }
     ensures fault { IfOk result (λ stop. IfSome stop.1 (IsNextFault (signature_of file.now) (drop stop.0 bytes.now))) }
     ensures damaged { IfErr result (λ e. e ≢ Error.Memory → (file.now.id.queue ≡ Rewrite)
-        × IsRefusedBehind file.now offset bytes.now e) }
+        × IsRefusedBehind file.now offset bytes.now damaged.old.items e) }
 {
     let mut batch = ReadBatch::new(alloc, file.id);
     let mut at = 0;
@@ -44,7 +47,7 @@ pub fn readable_in(
         match batch.read_next(file, offset, bytes, at) {
             Ok(Some(next)) => {
                 let (_, own) = bytes.split_at(at);
-                check_entries(alloc, file.id, offset + at as u64, own)?;
+                gather_damage(alloc, file.id, offset + at as u64, own, damaged)?;
                 at = next;
             }
             Ok(None) => return Ok((at, None)),
@@ -56,23 +59,24 @@ pub fn readable_in(
     }
 }
 
-/// Replays the batches in front of bytes that are lent, which stand in a file from `offset` on, up to the first one that can't be
-/// read, and returns what [`readable_in`] does.
+/// Replays the batches at the start of `bytes`, which stand in `file` from `offset` on, up to the first one that can't be read,
+/// and returns what [`readable_in`] does.
 ///
 /// # Errors
 ///
-/// Those of [`readable_in`] and of the machine.
+/// Those of [`readable_in`] and of the machine. Some of the batches may have been replayed, and some offsets pushed, then.
 pub fn replay_readable<M: ReplayMachine>(
     machine: &mut M,
     alloc: Global,
     file: &LogFileContext,
     offset: u64,
     bytes: &[u8],
+    damaged: &mut Vec<u64>,
 ) -> Result<(usize, Option<Error>)>
     requires ends { offset + length bytes.now < 2 ^ 64 }
     ensures replayed { IfOk result (λ stop. HasReplayed (HoldsFrom (part_of file.now offset (take stop.0 bytes.now)) 0)
         M.stands_for M.stands_exactly machine.old machine.new) }
-    ensures passed { IfOk result (λ stop. ArePassed file.now offset bytes.now stop.0) }
+    ensures passed { IfOk result (λ stop. ArePassed file.now offset bytes.now damaged.old.items damaged.new.items stop.0) }
     ensures whole { IfOk result (λ stop. MatchOption stop.1 (stop.0 ≡ length bytes.now) (λ e. stop.0 < length bytes.now)) }
     ensures refused { IfOk result (λ stop. IfSome stop.1 (λ e. (e ≢ Error.Memory)
         × HasNoFront (λ xs. IsReadable xs (signature_of file.now)) (drop stop.0 bytes.now))) }
@@ -84,7 +88,7 @@ pub fn replay_readable<M: ReplayMachine>(
         match batch.read_next(file, offset, bytes, at) {
             Ok(Some(next)) => {
                 let (_, rest) = bytes.split_at(at);
-                check_entries(alloc, file.id, offset + at as u64, rest)?;
+                gather_damage(alloc, file.id, offset + at as u64, rest, damaged)?;
                 machine.replay_read(&batch, file.id)?;
                 at = next;
             }
@@ -97,11 +101,11 @@ pub fn replay_readable<M: ReplayMachine>(
     }
 }
 
-/// Returns `Memory` again, and no other refusal.
+/// Returns `Ok` for any error other than `Memory`.
 ///
 /// # Errors
 ///
-/// `Memory`.
+/// `Memory`, if `error` is that.
 fn unless_memory(error: &Error) -> Result<()>
     ensures ok { OnOk result (error.now ≢ Error.Memory) }
     ensures memory { IfErr result (λ e. e ≡ Error.Memory) }

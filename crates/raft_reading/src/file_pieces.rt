@@ -13,20 +13,20 @@ use std::alloc::Global;
 use std::io;
 use std::io::ErrorKind;
 
-/// How many bytes of a file are read at once; more only where a batch is longer.
+/// The number of bytes of a file that are read at once, 4 MiB; more only if a batch is longer.
 pub const PIECE: usize = 4 << 20;
 
-/// How many bytes a header has.
+/// The length of the header of a log batch, in bytes.
 const HEADER_LEN: usize = 16;
 
-/// Replays the batches of a file of `len` bytes, which is read piece by piece, no byte of it twice. A piece is let go
-/// once the batches that are whole in it are replayed: so the memory that this takes is that of a piece and of the
-/// longest batch.
+/// Replays the batches of the file of `file`, which has `len` bytes, into `machine`. It is read piece by
+/// piece, no byte of it twice. A piece is let go once the batches that are whole in it are replayed, so this
+/// takes memory for one piece and the longest batch.
 ///
 /// # Errors
 ///
-/// `Io`, whose text begins with the queue, the file and the offset, where a read fails, or gives another number of
-/// bytes than it was asked for, as where the file was changed meanwhile; `Memory`; and those of
+/// `Io`, whose text begins with the queue, the file and the offset, if a read fails, or gives another number
+/// of bytes than it was asked for, as when the file was changed meanwhile; `Memory`; and those of
 /// [`replay_bytes`](raft_replay::replay_bytes) for all bytes of the file.
 pub fn replay_file<M: ReplayMachine, S: ReadFiles>(
     machine: &mut M,
@@ -45,7 +45,7 @@ pub fn replay_file<M: ReplayMachine, S: ReadFiles>(
     replay_through(machine, source, file, len, &mut piece)
 }
 
-/// Does what [`replay_file`] does, with its errors, in the memory of a piece that is lent.
+/// Does what [`replay_file`] does, with its errors, in the memory of `piece`, which is emptied first.
 pub(crate) fn replay_through<M: ReplayMachine, S: ReadFiles>(
     machine: &mut M,
     source: &S,
@@ -73,8 +73,12 @@ pub(crate) fn replay_through<M: ReplayMachine, S: ReadFiles>(
     }
 }
 
-/// Replays the batches that are whole in the piece, which begins at `at` in the file, and lets them go. Returns where
-/// the piece then begins.
+/// Replays the batches that are whole in `piece`, whose first byte is at offset `at` of the file, and removes
+/// them from it. Returns the offset at which the rest of the piece begins.
+///
+/// # Errors
+///
+/// Those of [`replay_bytes`](raft_replay::replay_bytes).
 fn replay_whole<M: ReplayMachine>(
     machine: &mut M,
     alloc: Global,
@@ -96,7 +100,7 @@ fn replay_whole<M: ReplayMachine>(
     Ok(at + whole as u64)
 }
 
-/// Returns how many bytes the batches have that are whole in these bytes, by their headers.
+/// Returns the length in bytes of the batches that are whole at the start of `bytes`, by their headers alone.
 fn whole_batches(alloc: Global, bytes: &[u8]) -> usize
     ensures led { HeadersLead bytes.now result }
     ensures inside { result ≤ length bytes.now }
@@ -112,8 +116,9 @@ fn whole_batches(alloc: Global, bytes: &[u8]) -> usize
     }
 }
 
-/// Lets the first bytes go. The others are moved to the front.
-fn let_go(bytes: &mut Vec<u8>, count: usize)
+/// Removes the first `count` bytes, and moves the others to the start of the vector.
+#[doc(hidden)]
+pub fn let_go(bytes: &mut Vec<u8>, count: usize)
     requires { count ≤ length bytes.old.items }
     ensures { bytes.new.items ≡ drop count bytes.old.items }
 {
@@ -122,8 +127,9 @@ fn let_go(bytes: &mut Vec<u8>, count: usize)
     bytes.truncate(left);
 }
 
-/// Returns how many bytes to read behind these, of which no batch in front is whole, where the file has `left` more; 0
-/// where none of them can make it whole.
+/// Returns how many bytes to read behind `bytes`, at whose start no batch is whole, where the file has `left`
+/// more: enough for that batch, and a piece if there are as many. Returns 0 if no more bytes can make it
+/// whole: there is no header, or the file ends before the batch does.
 fn bytes_wanted(alloc: Global, bytes: &[u8], left: u64) -> usize
     requires { NoneIsWhole bytes.now }
     ensures some { result ≤ left }
@@ -142,8 +148,14 @@ fn bytes_wanted(alloc: Global, bytes: &[u8], left: u64) -> usize
     (missing.max(PIECE) as u64).min(left) as usize
 }
 
-/// Reads so many bytes of the file behind those of the piece, which begins at `at` in the file.
-fn read_behind<S: ReadFiles>(
+/// Reads `len` bytes of the file behind those of `piece`, whose first byte is at offset `at` of the file.
+///
+/// # Errors
+///
+/// `Io`, with the place of the read, if it fails, or gives another number of bytes; `Memory`. Some of the
+/// bytes may have been appended then.
+#[doc(hidden)]
+pub fn read_behind<S: ReadFiles>(
     source: &S,
     file: FileId,
     at: u64,
@@ -159,7 +171,7 @@ fn read_behind<S: ReadFiles>(
     let before = piece.len();
     let offset = at + before as u64;
     let alloc = *piece.allocator();
-    piece.reserve_exact(len)?;
+    piece.reserve_exact(len.saturating_add(1))?; // one more, so that who reads to the end finds it without growing the piece
     if let Err(error) = source.read(file, offset, len, piece) {
         return Err(failure_at(alloc, file, offset, error));
     }
@@ -171,7 +183,8 @@ fn read_behind<S: ReadFiles>(
     Ok(())
 }
 
-/// Returns the refusal of a read that failed, with its place in front of the reason.
+/// Returns the `Io` error for a read that failed: of the same kind, with `append file 3, offset 1024: `
+/// before its text. Returns `Memory` if there is none for the text.
 fn failure_at(alloc: Global, file: FileId, offset: u64, error: io::Error) -> Error
     ensures { IsIoOfKind (error_kind error) result }
 {

@@ -17,14 +17,16 @@ pub struct FileSize {
     pub len: u64,
 }
 
-/// Replays the files of a queue, in order, by 1 to 256 workers. Each replays neighboring files, of about the same
-/// number of bytes in all, into a machine of its own, as [`replay_file`](crate::replay_file) does; neighboring machines
-/// are merged. The result is that of one worker. A worker for which no thread can be started is replaced by the caller.
+/// Replays the files of a queue, in order, by 1 to 256 workers. Each replays neighboring files, of about
+/// the same number of bytes in all, into a machine of its own, as [`replay_file`](crate::replay_file) does;
+/// neighboring machines are merged. The result is that of one worker. The caller does the work of one for
+/// which no thread can be started. The machines that `factory` makes must stand for no batch.
 ///
 /// # Errors
 ///
-/// `Memory`, the factory's own, and those of [`replay_file`](crate::replay_file). Where workers are refused, in a
-/// reading or a merge, the files are read once more by one, up to the first refusal in order, which is returned.
+/// `Memory`, the factory's own, and those of [`replay_file`](crate::replay_file). If workers fail, in a
+/// reading or a merge, the files are read once more by one, up to the first refusal in order, which is
+/// returned.
 pub fn replay_files<M: ReplayMachine, F: Factory<M>, S: ReadFiles, R: Threads + Sync>(
     rt: &R,
     alloc: Global,
@@ -53,7 +55,12 @@ pub fn replay_files<M: ReplayMachine, F: Factory<M>, S: ReadFiles, R: Threads + 
     replay_in_turn(alloc, factory, source, files, queue, version)
 }
 
-/// Replays the files by so many workers, the first half of whom take the first files, and so on.
+/// Replays the files by `workers` workers: half of these replay the first files, the others the rest at the
+/// same time, and so on for each half.
+///
+/// # Errors
+///
+/// Those of [`replay_files`], but whichever comes first: the caller then reads once more, in order.
 fn replay_divided<M: ReplayMachine, F: Factory<M>, S: ReadFiles, R: Threads + Sync>(
     rt: &R,
     alloc: Global,
@@ -105,8 +112,8 @@ fn replay_divided<M: ReplayMachine, F: Factory<M>, S: ReadFiles, R: Threads + Sy
     Ok(machine)
 }
 
-/// Returns how many of the files, from the first on, have about so many of `whole` equal parts of all bytes: one at
-/// least, and not all of them.
+/// Returns how many of the files, from the first one on, have about `parts` of `whole` equal parts of all
+/// bytes: at least one, and not all of them. There are two files or more.
 fn count_of_part(files: &[FileSize], parts: usize, whole: usize) -> usize
     requires { (1 < length files.now) × (0 < whole) }
     ensures { (0 < result) × (result < length files.now) }
@@ -124,7 +131,7 @@ fn count_of_part(files: &[FileSize], parts: usize, whole: usize) -> usize
     count.clamp(1, files.len() - 1)
 }
 
-/// Returns how many bytes the files have, capped at 2^64 - 1.
+/// Returns how many bytes `files` have together, capped at 2^64 - 1.
 fn bytes_of(files: &[FileSize]) -> u64 {
     let mut bytes = 0u64;
     for file in files {
@@ -133,7 +140,7 @@ fn bytes_of(files: &[FileSize]) -> u64 {
     bytes
 }
 
-/// Replays the files one after another into one machine, which it returns.
+/// Replays `files` one after another into one machine, which it returns.
 ///
 /// # Errors
 ///

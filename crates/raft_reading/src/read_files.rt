@@ -18,11 +18,11 @@ pub trait ReadFiles: Sync {
     /// A read of this file at this offset may fail so: in any way, if nothing else is said.
     ghost may_fail: { Self → FileId → ℕ → IoError → Type 0 } = { λ _ _ _ _. Unit {0} };
 
-    /// Puts `len` bytes of the file, from `offset` on, behind those of `bytes`; fewer where the file ends before.
+    /// Appends `len` bytes of the file, from `offset` on, to `bytes`, or fewer if the file ends before.
     ///
     /// # Errors
     ///
-    /// Those of the file. Some of the bytes may have been put there then.
+    /// Those of the file. Some of the bytes may have been appended then.
     fn read(&self, file: FileId, offset: u64, len: usize, bytes: &mut Vec<u8>) -> io::Result<()>
         ensures ok { OnOk result (IsAppended (gives self.now file offset) bytes.old.items
             bytes.new.items) }

@@ -26,12 +26,12 @@ pub enum AtomicGroupStatus {
 }
 
 impl AtomicGroupStatus {
-    /// Returns the group whose group marker an item is, and its status; nothing of an item that is no group
-    /// marker.
+    /// Returns the group whose marker `item` is, and its status, or `None` if it isn't a group marker. The
+    /// region id of a marker is the number of its group.
     ///
     /// # Errors
     ///
-    /// `Corruption` where the byte of a group marker stands for no status, and `Memory` for its text.
+    /// `Corruption` if the byte of a marker stands for no status; `Memory` if there is none for its text.
     pub fn parse(alloc: Global, item: &LogItem) -> Result<Option<(u64, AtomicGroupStatus)>>
         ensures ok { IfOk result (IsGroupMarkerRead (item_of item.now)) }
         ensures fault { IfErr result (IsGroupMarkerFault (item_of item.now)) }
@@ -46,11 +46,11 @@ impl AtomicGroupStatus {
         Ok(Some((item.raft_group_id, status)))
     }
 
-    /// Returns the status that a byte stands for.
+    /// Returns the status that `byte` stands for: 0 for `Begin`, 1 for `Middle`, 2 for `End`.
     ///
     /// # Errors
     ///
-    /// `Corruption` for any other byte, and `Memory` for its text.
+    /// `Corruption` for any other byte; `Memory` if there is none for its text.
     fn from_u8(alloc: Global, byte: u8) -> Result<AtomicGroupStatus>
         ensures ok { IfOk result (λ status. byte ≡ status_byte status) }
         ensures fault { IfErr result (IsStatusFault byte) }
@@ -66,7 +66,8 @@ impl AtomicGroupStatus {
     }
 }
 
-/// Tests whether this key is kept for the group markers. Key values under it never reach a table.
+/// Tests whether `key` is the one that is kept for group markers, `5f 5f 01`. Key values under it never reach
+/// a table.
 #[tactic(auto, using(crate::proofs::GroupLemmas::reserved_by))]
 pub fn is_reserved(key: &[u8]) -> bool
     ensures meaning { IsTrue result ↔ (key.now ≡ reserved_key) }
@@ -75,8 +76,8 @@ pub fn is_reserved(key: &[u8]) -> bool
     key == ATOMIC_GROUP_KEY.as_slice()
 }
 
-/// Returns the byte of a group marker: the value of a `Put` under the reserved key, if that is one
-/// byte long.
+/// Returns the byte of a group marker, if `kv` is one: a put under the reserved key whose value is one byte
+/// long. Returns `None` for any other change.
 fn marker_byte(kv: &KeyValue) -> Option<u8>
     ensures { result ≡ marker_byte (pair (pair_of kv.now)) }
 {
@@ -107,25 +108,25 @@ impl Model for AtomicGroupBuilder {
 }
 
 impl AtomicGroupBuilder {
-    /// Returns a builder of the group `id`, which hasn't begun.
+    /// Returns a builder of the group numbered `id`, which hasn't begun.
     pub fn with_id(id: u64) -> AtomicGroupBuilder
         ensures { result ≡ record { id = id; state = None } }
     {
         AtomicGroupBuilder { id, status: None }
     }
 
-    /// Returns the status of the group marker that was added last, if any was.
+    /// Returns the status of the group marker that was added last, or `None` if none was.
     pub fn state(&self) -> Option<AtomicGroupStatus>
         ensures { result ≡ self.now.state }
     {
         self.status
     }
 
-    /// Begins the group with this batch.
+    /// Begins the group with `log_batch`: adds a marker to it, which is open. It must be the first call.
     ///
     /// # Errors
     ///
-    /// `Memory`. Builder and batch are then as they were.
+    /// `Memory` alone. Builder and batch are unchanged then.
     pub fn begin(&mut self, log_batch: &mut LogBatch) -> Result<()>
         requires open { log_batch.old.stage ≡ is_open }
         requires fresh { self.old.state ≡ None }
@@ -139,11 +140,12 @@ impl AtomicGroupBuilder {
         self.add_marker(AtomicGroupStatus::Begin, log_batch)
     }
 
-    /// Continues the group with this batch.
+    /// Continues the group with `log_batch`: adds a marker to it, which is open. The group must have begun,
+    /// and not ended.
     ///
     /// # Errors
     ///
-    /// `Memory`. Builder and batch are then as they were.
+    /// `Memory` alone. Builder and batch are unchanged then.
     pub fn add(&mut self, log_batch: &mut LogBatch) -> Result<()>
         requires open { log_batch.old.stage ≡ is_open }
         requires running { IsRunning self.old.state }
@@ -157,11 +159,12 @@ impl AtomicGroupBuilder {
         self.add_marker(AtomicGroupStatus::Middle, log_batch)
     }
 
-    /// Ends the group with this batch. The builder is then of no more use.
+    /// Ends the group with `log_batch`: adds a marker to it, which is open. The group must have begun, and
+    /// not ended. The builder can't be used any more.
     ///
     /// # Errors
     ///
-    /// `Memory`. Builder and batch are then as they were.
+    /// `Memory` alone. Builder and batch are unchanged then.
     pub fn end(&mut self, log_batch: &mut LogBatch) -> Result<()>
         requires open { log_batch.old.stage ≡ is_open }
         requires running { IsRunning self.old.state }
@@ -175,11 +178,12 @@ impl AtomicGroupBuilder {
         self.add_marker(AtomicGroupStatus::End, log_batch)
     }
 
-    /// Adds a group marker of this status to an open batch.
+    /// Adds a group marker with `status` to `log_batch`, which is open: a put of one byte under the reserved
+    /// key.
     ///
     /// # Errors
     ///
-    /// `Memory`. Builder and batch are then as they were.
+    /// `Memory` alone. Builder and batch are unchanged then.
     fn add_marker(&mut self, status: AtomicGroupStatus, log_batch: &mut LogBatch) -> Result<()>
         requires { log_batch.old.stage ≡ is_open }
         ensures ok { OnOk result (log_batch.new
@@ -198,8 +202,9 @@ impl AtomicGroupBuilder {
     }
 }
 
-/// States that what is added as a group marker is read as the group marker of its group with its status, and is
-/// never refused. What is read is a function of the item. `is_reserved` is true of the reserved key alone.
+/// States that what is added as a group marker is read as the marker of its group with its status, and never
+/// refused. What is read of an item depends on the item alone. `is_reserved` is true of the reserved key
+/// alone.
 #[tactic(auto, using(crate::proofs::GroupLemmas::marker_written, crate::proofs::GroupLemmas::marker_read, crate::proofs::GroupLemmas::marker_accepted, crate::proofs::GroupLemmas::marker_is, crate::proofs::GroupLemmas::reserved_test))]
 pub fn group_markers_are_read_again()
     ensures is_marker { (id : ℕ) (status : Status) →

@@ -8,15 +8,16 @@ use raft_checksum::crc32;
 use raft_codec::codec;
 use std::alloc::Global;
 
-/// How many bytes a checksum takes.
+/// The length of a checksum in bytes.
 pub(crate) const LOG_BATCH_CHECKSUM_LEN: usize = 4;
 
-/// Tests the checksum at the end of `bytes`, signed so, and returns what stands before it.
+/// Checks the checksum in the last four bytes of `bytes`, CRC-32 with the lowest byte first, and returns the
+/// bytes before it. With a `signature`, the checksum that is stored was combined with it by exclusive or.
 ///
 /// # Errors
 ///
-/// `Corruption` where the bytes are four or fewer or the checksum is another; `Memory` for its
-/// text.
+/// `Corruption` if there are four bytes or fewer, or the checksum is another; `Memory` if there is none for
+/// its text.
 #[tactic(auto, using(crate::proofs::SealLemmas::not_sealed, crate::proofs::SealLemmas::sealed_by, crate::proofs::SealLemmas::checksum_fault))]
 pub(crate) fn verify_checksum(alloc: Global, bytes: &[u8], signature: Option<u32>) -> Result<&[u8]>
     ensures ok { IfOk result (λ content. HasSeal signature bytes.now content.now) }
@@ -40,7 +41,7 @@ pub(crate) fn verify_checksum(alloc: Global, bytes: &[u8], signature: Option<u32
     Ok(content)
 }
 
-/// Returns the number that the four bytes of a checksum spell, the lowest first.
+/// Returns the number that `seal`, the four bytes of a checksum, stands for, the lowest byte first.
 #[tactic(auto, using(crate::proofs::SealLemmas::all_four))]
 fn checksum_of(seal: &[u8]) -> u32
     requires { length seal.now ≡ LOG_BATCH_CHECKSUM_LEN }
@@ -53,7 +54,8 @@ fn checksum_of(seal: &[u8]) -> u32
     }
 }
 
-/// Signs a checksum, or takes the signature off one that was signed.
+/// Signs `checksum` by an exclusive or with `signature`, or takes that signature off again: both are the
+/// same. Without a signature it returns `checksum`.
 pub(crate) fn sign(checksum: u32, signature: Option<u32>) -> u32
     ensures { result ≡ signed_crc signature checksum }
 {

@@ -27,7 +27,8 @@ pub enum Command {
 }
 
 impl Command {
-    /// Returns the approximate length of the command's bytes: one, and eight for an index.
+    /// Returns the approximate length of the command in bytes: one, and eight for an index. That is an upper
+    /// bound for indexes below 2^56.
     pub(crate) fn approximate_size(&self) -> usize
         ensures { result ≡ command_size self.now }
     {
@@ -37,11 +38,12 @@ impl Command {
         }
     }
 
-    /// Appends the command's bytes.
+    /// Appends the bytes of the command: `01` for a Clean, `02` or `03` and the index in base 128 for a
+    /// Compact or a Truncate.
     ///
     /// # Errors
     ///
-    /// `Memory`. The vector is then as it was.
+    /// `Memory` alone. `buf` is unchanged then.
     pub fn encode(&self, buf: &mut Vec<u8>) -> Result<()>
         ensures ok { OnOk result (buf.new.items ≡ buf.old.items ++ command_bytes self.now) }
         ensures err { OnErr result (buf.new.items ≡ buf.old.items) }
@@ -50,11 +52,11 @@ impl Command {
         Ok(self.write(buf)?)
     }
 
-    /// Appends the command's bytes.
+    /// Does what [`Command::encode`] does.
     ///
     /// # Errors
     ///
-    /// Where there is no memory for them. The vector is then as it was.
+    /// `AllocError` if there is no memory for the bytes. `buf` is unchanged then.
     pub(crate) fn write(&self, buf: &mut Vec<u8>) -> AllocResult<()>
         ensures ok { OnOk result (buf.new.items ≡ buf.old.items ++ command_bytes self.now) }
         ensures err { OnErr result (buf.new.items ≡ buf.old.items) }
@@ -66,12 +68,12 @@ impl Command {
         }
     }
 
-    /// Reads a command from the front, and takes no memory for it.
+    /// Reads a command from the start of `buf`, which is moved behind it. It allocates nothing for a command.
     ///
     /// # Errors
     ///
-    /// `Codec` where the bytes end early or a number is malformed; `Corruption` for an unknown command, and
-    /// `Memory` for its text. The slice is then as it was.
+    /// `Codec` if the bytes end early or a number is malformed; `Corruption` for an unknown command; `Memory`
+    /// if there is none for its text. `buf` is unchanged then.
     pub fn decode(alloc: Global, buf: &mut BytesSlice<'_>) -> Result<Command>
         ensures ok { IfOk result (Reads IsCommand buf.old.now buf.new.now) }
         ensures err { OnErr result (buf.new.now ≡ buf.old.now) }
@@ -83,7 +85,7 @@ impl Command {
         Ok(command)
     }
 
-    /// Reads a command from the front of `bytes`, and returns what follows it too.
+    /// Reads a command from the start of `bytes`, and returns it with the bytes behind it.
     ///
     /// # Errors
     ///
@@ -113,11 +115,11 @@ impl Command {
     }
 }
 
-/// Appends the byte of a kind of command, and its index.
+/// Appends `kind`, the type byte of a command, and `index` in base 128.
 ///
 /// # Errors
 ///
-/// Where there is no memory for them. The vector is then as it was.
+/// `AllocError` if there is no memory for them. `buf` is unchanged then.
 fn append_indexed(buf: &mut Vec<u8>, kind: u8, index: u64) -> AllocResult<()>
     ensures ok { OnOk result (buf.new.items ≡ buf.old.items ++ kind ∷ varint index) }
     ensures err { OnErr result (buf.new.items ≡ buf.old.items) }

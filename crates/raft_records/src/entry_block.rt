@@ -8,13 +8,14 @@ use crate::header::lent_entry_block;
 use raft_base::{EntryIndex, Error, FileBlockHandle, Result};
 use std::alloc::Global;
 
-/// Returns the entry bytes of the entry block at a place of the part, as they stand there; none where the place
-/// has no length. They are checked once for all their entries, whose bytes [`entry_bytes`] finds in them. No byte
-/// is copied.
+/// Returns the entry bytes of the entry block at `place` in the part: those of all entries of a batch,
+/// without their checksum, which is checked. [`entry_bytes`] finds those of one entry in them. There are none
+/// if the length of the place is 0. No byte is copied.
 ///
 /// # Errors
 ///
-/// `Corruption` where the place isn't in the part, or where the checksum is another; `Memory` for its text.
+/// `Corruption` if the place isn't in the part, or the checksum is another; `Memory` if there is none for its
+/// text.
 pub fn entries_block_in(part: &FilePart, place: FileBlockHandle) -> Result<&[u8]>
     ensures ok { IfOk result (λ entries. HasEntryBlock part.now place entries.now) }
     ensures refused { OnErr result ((entries : List ℕ) → HasEntryBlock part.now place entries → ⊥) }
@@ -30,7 +31,8 @@ pub fn entries_block_in(part: &FilePart, place: FileBlockHandle) -> Result<&[u8]
     }
 }
 
-/// Returns the bytes of a part from the start of a place on, if the place lies in the part.
+/// Returns the bytes of the part from the start of `place` to the end of the part, or `None` if the place
+/// doesn't lie in the part.
 fn bytes_from(part: &FilePart, place: FileBlockHandle) -> Option<&[u8]>
     ensures { MatchOption result (IsPlaceIn part.now place → ⊥)
         (λ bytes. IsPlaceIn part.now place
@@ -48,12 +50,13 @@ fn bytes_from(part: &FilePart, place: FileBlockHandle) -> Option<&[u8]>
     (place.len <= rest.len()).then_some(rest)
 }
 
-/// Returns the bytes of an entry in the entry bytes of its block, as [`entries_block_in`] lends them or
-/// [`LogBatch::decode_entries_block`](crate::LogBatch::decode_entries_block) reads them. No byte is copied.
+/// Returns the bytes of `entry` out of `entries`, the entry bytes of its block, as [`entries_block_in`] lends
+/// them or [`LogBatch::decode_entries_block`](crate::LogBatch::decode_entries_block) reads them. No byte is
+/// copied.
 ///
 /// # Errors
 ///
-/// `Corruption` where they would end past those of the block; `Memory` for its text.
+/// `Corruption` if the entry would end behind the entry bytes; `Memory` if there is none for its text.
 pub fn entry_bytes<'a>(alloc: Global, entries: &'a [u8], entry: &EntryIndex) -> Result<&'a [u8]>
     ensures ok { IfOk result (λ bytes. bytes.now
         ≡ take entry.now.entry_len (drop entry.now.entry_offset entries.now)) }

@@ -12,7 +12,8 @@ use raft_base::{
 use raft_codec::codec::{self, BytesSlice};
 use std::alloc::Global;
 
-/// Tests whether each entry's bytes begin where those of the one before it end, all below 2^32.
+/// Tests whether the bytes of each of `entries` begin where those of the one before it end, and all end below
+/// 2^32: only such entries can be written.
 fn runs_on(entries: &[EntryIndex]) -> bool
     ensures { IsTrue result ↔ RunOn entries.now }
 {
@@ -34,11 +35,11 @@ fn runs_on(entries: &[EntryIndex]) -> bool
 pub struct EntryIndexes(pub Vec<EntryIndex>);
 
 impl EntryIndexes {
-    /// Returns a list of the same entries.
+    /// Returns a copy of the entries.
     ///
     /// # Errors
     ///
-    /// `Memory`.
+    /// `Memory` alone.
     #[tactic(auto, using(crate::proofs::CloneLemmas::entries_clone))]
     pub fn clone(&self) -> Result<EntryIndexes>
         ensures ok { IfOk result (λ copy. copy.0.items ≡ self.now.0.items) }
@@ -47,8 +48,8 @@ impl EntryIndexes {
         Ok(<EntryIndexes as Clone>::clone(self)?)
     }
 
-    /// Returns the approximate length of the bytes of all entries, capped at `usize::MAX`: eight
-    /// for each of their numbers.
+    /// Returns the approximate length of the entries in bytes: eight for their count, for the first index,
+    /// and for where each entry ends. Capped at `usize::MAX`.
     pub(crate) fn approximate_size(&self) -> usize
         ensures { result ≡ at_most_usize (entries_size self.now.0.items) }
     {
@@ -57,7 +58,7 @@ impl EntryIndexes {
         tails.saturating_add(8 + first)
     }
 
-    /// Gives each entry this place and compression type.
+    /// Gives each entry the place `handle` and this compression type.
     pub(crate) fn place(&mut self, handle: FileBlockHandle, compression_type: CompressionType)
         ensures { self.new.0.items ≡
             map (λ (e : EntryIndex). record e {
@@ -71,7 +72,7 @@ impl EntryIndexes {
         }
     }
 
-    /// Raises the offset of each entry by so many bytes.
+    /// Adds `by` to the offset of each entry's bytes.
     pub(crate) fn raise_offsets(&mut self, by: u32)
         requires { CanRaise by self.old.0.items }
         ensures { self.new.0.items ≡ map (raised_entry by) self.old.0.items }
@@ -81,19 +82,21 @@ impl EntryIndexes {
         }
     }
 
-    /// Tests whether the entries are consecutive, and their bytes run on.
+    /// Tests whether the entries can be written: their indexes are consecutive, and their bytes run on.
     pub(crate) fn is_writable(&self) -> bool
         ensures { IsTrue result ↔ AreWritable self.now.0.items }
     {
         is_consecutive(self.0.as_slice()) && runs_on(self.0.as_slice())
     }
 
-    /// Appends the entries' bytes.
+    /// Appends the bytes of the entries: their count, the first index, and for each entry its *tail offset*,
+    /// that is where it ends in the entry bytes of the batch; all in base 128. For no entries it is the count
+    /// 0 alone.
     ///
     /// # Errors
     ///
-    /// `InvalidArgument` where the entries are not consecutive, an entry doesn't begin where the one
-    /// before it ended, or a tail offset is above 2^32 - 1; `Memory`. The vector is then as it was.
+    /// `InvalidArgument` if the indexes aren't consecutive, an entry doesn't begin where the one before it
+    /// ends, or a tail offset is above 2^32 - 1; `Memory`. `buf` is unchanged then.
     pub fn encode(&self, buf: &mut Vec<u8>) -> Result<()>
         ensures ok { OnOk result (buf.new.items ≡ buf.old.items ++ entries_bytes self.now.0.items) }
         ensures accepted { OnOk result (AreWritable self.now.0.items) }
@@ -109,11 +112,12 @@ impl EntryIndexes {
         append_whole!(buf, self.write(buf))
     }
 
-    /// Appends the bytes of writable entries.
+    /// Does what [`EntryIndexes::encode`] does for entries that can be written.
     ///
     /// # Errors
     ///
-    /// Where there is no memory for them. Some may then be appended.
+    /// `AllocError` if there is no memory for the bytes. Some may have been appended then; the caller takes
+    /// them off.
     pub(crate) fn write(&self, buf: &mut Vec<u8>) -> AllocResult<()>
         ensures ok { OnOk result (buf.new.items ≡ buf.old.items ++ entries_bytes self.now.0.items) }
         ensures err { OnErr result (Keeps buf.old.items buf.new.items) }
@@ -125,14 +129,15 @@ impl EntryIndexes {
         }
     }
 
-    /// Reads an item's entries, without a place, after items whose entries have `entries_size` bytes together.
-    /// `entries_size` becomes the end of their bytes.
+    /// Reads the entries of an item from the start of `buf`, which is moved behind them. They have no place.
+    /// The entries of the items before this one have `entries_size` bytes together; it is raised by the bytes
+    /// of these.
     ///
     /// # Errors
     ///
-    /// `Codec` where the bytes end early or a number is malformed; `Corruption` where an index would be
-    /// 2^64 - 1, or a tail offset falls or is above 2^32 - 1; `Memory`. `entries_size` and the slice are then
-    /// as they were.
+    /// `Codec` if the bytes end early or a number is malformed; `Corruption` if an index would be 2^64 - 1,
+    /// or a tail offset is below the one before it or above 2^32 - 1; `Memory`. `buf` and `entries_size` are
+    /// unchanged then.
     pub fn decode(
         alloc: Global,
         buf: &mut BytesSlice<'_>,
@@ -156,11 +161,12 @@ impl EntryIndexes {
     }
 }
 
-/// Appends the first index and the tail offset of each entry.
+/// Appends `first`, the first index, and the tail offset of each of `entries`, in base 128.
 ///
 /// # Errors
 ///
-/// Where there is no memory for them. Some may then be appended.
+/// `AllocError` if there is no memory for them. Some bytes may have been appended then; the caller takes them
+/// off.
 fn append_run(buf: &mut Vec<u8>, first: u64, entries: &[EntryIndex]) -> AllocResult<()>
     ensures ok { OnOk result (buf.new.items
         ≡ buf.old.items ++ (varint first ++ tails_bytes entries.now)) }
@@ -173,16 +179,16 @@ fn append_run(buf: &mut Vec<u8>, first: u64, entries: &[EntryIndex]) -> AllocRes
     Ok(())
 }
 
-/// Returns where the bytes of an entry end, counted from the start of the batch's entry bytes.
+/// Returns where the bytes of `entry` end, counted from the start of the entry bytes of its batch.
 pub(crate) fn tail_offset(entry: &EntryIndex) -> u64
     ensures { result ≡ tail_of entry.now }
 {
     u64::from(entry.entry_offset) + u64::from(entry.entry_len)
 }
 
-/// Reads a tail offset, and returns what follows it too. Nothing is returned where no number stands
-/// there, it takes more than four bytes or is below `offset`, or where an index may be 2^64 - 1:
-/// `bounded` is false.
+/// Reads a tail offset of at most four bytes from the start of `bytes`, and returns it with the bytes behind
+/// it. Returns `None` if there is no such number, if it is below `offset`, where the entry's bytes begin, or
+/// if `bounded` is false: an index may be 2^64 - 1. Then [`parse_tail`] reads it, or makes the error.
 #[inline(always)]
 #[tactic(auto, using(crate::proofs::EntryLemmas::tail_read, raft_codec::proofs::VarintLemmas::short_below, raft_codec::proofs::VarintLemmas::short_is_read))]
 pub(crate) fn short_tail(bytes: &[u8], offset: u32, bounded: bool) -> Option<(u32, &[u8])>
@@ -198,13 +204,13 @@ pub(crate) fn short_tail(bytes: &[u8], offset: u32, bounded: bool) -> Option<(u3
     }
 }
 
-/// Reads the tail offset of the entry `index`, whose bytes begin at `offset`, and returns what
-/// follows it too.
+/// Reads the tail offset of the entry `index`, whose bytes begin at `offset`, from the start of `bytes`.
+/// Returns it with the bytes behind it.
 ///
 /// # Errors
 ///
-/// `Codec` where the bytes end early or the number is malformed; `Corruption` where the index is
-/// 2^64 - 1, or the tail offset is below `offset` or above 2^32 - 1; `Memory` for its text.
+/// `Codec` if the bytes end early or the number is malformed; `Corruption` if the index is 2^64 - 1, or the
+/// tail offset is below `offset` or above 2^32 - 1; `Memory` if there is none for its text.
 #[inline(never)]
 #[tactic(auto, using(crate::proofs::EntryLemmas::tail_read))]
 pub(crate) fn parse_tail(

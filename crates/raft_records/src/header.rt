@@ -12,18 +12,19 @@ use raft_checksum::crc32;
 use raft_codec::codec;
 use std::alloc::Global;
 
-/// How many bytes a header takes.
+/// The length of the header of a log batch, in bytes.
 pub(crate) const LOG_BATCH_HEADER_LEN: usize = 16;
 
-/// The least length in bytes that a batch may not have.
+/// The length of a batch is below this, in bytes: a header has 56 bits for it.
 const LENGTH_LIMIT: u64 = 1 << 56;
 
-/// Returns the offset of the item batch, the compression type, the length of the batch, and what
-/// follows the header.
+/// Reads the header of a log batch from the start of `bytes`. Returns the offset of the item batch in the
+/// batch, the compression type and the length of the batch in bytes, and the bytes behind the header.
 ///
 /// # Errors
 ///
-/// `Corruption` where no header stands there, and `Memory` for its text.
+/// `Corruption` if there are fewer than 16 bytes, the compression type is unknown, or the offset is less than
+/// 16 or above the length; `Memory` if there is none for its text.
 #[tactic(auto, using(crate::proofs::HeaderLemmas::header_read, crate::proofs::HeaderLemmas::too_short_for_header))]
 pub(crate) fn parse_header(
     alloc: Global,
@@ -53,7 +54,8 @@ pub(crate) fn parse_header(
     Ok(((offset as usize, compression_type, len as usize), rest))
 }
 
-/// Reads a number of eight bytes, the highest first, and returns what follows it too.
+/// Reads a number of eight bytes, the highest first, from the start of `bytes`, and returns it with the bytes
+/// behind it. There are at least eight.
 fn parse_u64(bytes: &[u8]) -> (u64, &[u8])
     requires { 8 ≤ length bytes.now }
     ensures read { Reads (IsBig 8) bytes.now result.1.now result.0 }
@@ -66,8 +68,8 @@ fn parse_u64(bytes: &[u8]) -> (u64, &[u8])
     }
 }
 
-/// Writes a header over the first 16 bytes: of a batch of `len` bytes, uncompressed, whose item
-/// batch begins at `offset`.
+/// Writes a header over the first 16 bytes of `buf`: of a batch of `len` bytes, without compression, whose
+/// item batch begins at `offset`.
 fn write_header(buf: &mut [u8], offset: usize, len: usize)
     requires room { 16 ≤ length buf.old }
     requires fits { len < 2 ^ 56 }
@@ -78,11 +80,13 @@ fn write_header(buf: &mut [u8], offset: usize, len: usize)
     BigEndian::write_u64(&mut buf[8..], offset as u64);
 }
 
-/// Makes room for a header in front, unless there is some.
+/// Makes sure that `buf` begins with the 16 bytes of a header, which are filled in later. What is behind them
+/// stays.
 ///
 /// # Errors
 ///
-/// Where there is no memory for it. The vector may then be empty.
+/// `AllocError` if there is no memory for them. What was behind the first 16 bytes stays then; a shorter
+/// vector is empty.
 pub(crate) fn reserve_header(buf: &mut Vec<u8>) -> AllocResult<()>
     ensures ok { OnOk result (16 ≤ length buf.new.items) }
     ensures same { drop 16 buf.new.items ≡ drop 16 buf.old.items }
@@ -94,11 +98,12 @@ pub(crate) fn reserve_header(buf: &mut Vec<u8>) -> AllocResult<()>
     Ok(())
 }
 
-/// Appends the checksum of the entry bytes behind the room for the header, if there are any.
+/// Appends the checksum of the entry bytes, which begin behind the 16 bytes of the header. Without entry
+/// bytes there is no checksum.
 ///
 /// # Errors
 ///
-/// Where there is no memory for it. The vector is then as it was.
+/// `AllocError` if there is no memory for it. `buf` is unchanged then.
 fn close_entry_block(buf: &mut Vec<u8>) -> AllocResult<()>
     requires { 16 ≤ length buf.old.items }
     ensures ok { OnOk result
@@ -113,8 +118,8 @@ fn close_entry_block(buf: &mut Vec<u8>) -> AllocResult<()>
     buf.extend_from_slice(&seal)
 }
 
-/// Returns where the item batch begins in a batch with so many entry bytes: behind the header, and
-/// behind the checksum of the entry bytes, if there are any.
+/// Returns where the item batch begins in a batch with `entries_size` entry bytes: behind the header and, if
+/// there are entry bytes, behind their checksum.
 pub(crate) fn offset_behind(entries_size: u32) -> usize
     ensures { (entry_bytes : List ℕ) → length entry_bytes ≡ entries_size →
         result ≡ item_offset entry_bytes }
@@ -126,13 +131,13 @@ pub(crate) fn offset_behind(entries_size: u32) -> usize
     }
 }
 
-/// Returns the entry bytes of the entry block of `len` bytes at the front of `bytes`, whose
-/// checksum it tests; none where `len` is 0.
+/// Returns the entry bytes of the entry block of `len` bytes at the start of `bytes`, without their checksum,
+/// which it checks. There are none if `len` is 0.
 ///
 /// # Errors
 ///
-/// `Corruption` where there are fewer than `len` bytes, `len` is from 1 to 4, or the checksum is
-/// another; `Memory` for its text.
+/// `Corruption` if there are fewer than `len` bytes, `len` is from 1 to 4, or the checksum is another;
+/// `Memory` if there is none for its text.
 pub fn lent_entry_block(alloc: Global, bytes: &[u8], len: usize) -> Result<&[u8]>
     ensures ok { IfOk result (λ entries. IsEntryBlockOf len bytes.now entries.now) }
     ensures refused { OnErr result ((entries : List ℕ) → IsEntryBlockOf len bytes.now entries → ⊥) }
@@ -150,12 +155,13 @@ pub fn lent_entry_block(alloc: Global, bytes: &[u8], len: usize) -> Result<&[u8]
     verify_checksum(alloc, block, None)
 }
 
-/// Writes the bytes of a batch around the entry bytes that follow the header's sixteen.
+/// Makes the bytes of a batch in `buf`, around the entry bytes that are there behind the 16 bytes of the
+/// header: the header, the checksum of the entry bytes, and the item batch, whose own checksum is left 0.
 ///
 /// # Errors
 ///
-/// `Full` where they would be 2^56 or more, `Memory`. What stood there stands then, perhaps with
-/// some bytes behind it.
+/// `Full` if they would be 2^56 bytes or more; `Memory`. `buf` may have more bytes at its end then; the
+/// others are unchanged.
 #[tactic(auto, using(crate::proofs::BufferLemmas::closed_keeps, crate::proofs::BufferLemmas::behind_keeps))]
 pub(crate) fn encode_behind(buf: &mut Vec<u8>, item_batch: &mut LogItemBatch) -> Result<()>
     requires room { 16 ≤ length buf.old.items }
@@ -179,7 +185,8 @@ pub(crate) fn encode_behind(buf: &mut Vec<u8>, item_batch: &mut LogItemBatch) ->
     Ok(())
 }
 
-/// Signs the bytes of a batch for a file. A batch without items has none.
+/// Signs the bytes of a batch in `buf` for the file of `context`: sets the checksum of the item batch. A
+/// batch without items has no bytes.
 pub(crate) fn seal(item_batch: &LogItemBatch, buf: &mut Vec<u8>, context: &LogFileContext)
     requires { IsHeld encoded item_batch.now (entry_bytes_in item_batch.now buf.old.items)
         buf.old.items }
@@ -194,7 +201,7 @@ pub(crate) fn seal(item_batch: &LogItemBatch, buf: &mut Vec<u8>, context: &LogFi
     seal_behind(item_batch, buf.as_mut_slice(), offset, context);
 }
 
-/// Signs the item batch that begins at `offset` for a file.
+/// Sets the checksum of the item batch that begins at `offset` of `buf`, signed for the file of `context`.
 fn seal_behind(item_batch: &LogItemBatch, buf: &mut [u8], offset: usize, context: &LogFileContext)
     requires within { offset ≤ length buf.old }
     requires encoded { IsEncoded item_batch.now (drop offset buf.old) }

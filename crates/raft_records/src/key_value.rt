@@ -19,11 +19,11 @@ pub enum OpType {
 }
 
 impl OpType {
-    /// Returns the op type that a byte stands for.
+    /// Returns the op type that `byte` stands for: 1 for a put, 2 for a deletion.
     ///
     /// # Errors
     ///
-    /// `Corruption` for any other byte, and `Memory` for its text.
+    /// `Corruption` for any other byte; `Memory` if there is none for its text.
     pub fn from_u8(alloc: Global, byte: u8) -> Result<OpType>
         ensures ok { IfOk result (λ op_type. byte ≡ op_type_byte op_type) }
         ensures fault { IfErr result (IsOpTypeFault byte) }
@@ -35,7 +35,7 @@ impl OpType {
         }
     }
 
-    /// Returns the byte that stands for the op type.
+    /// Returns the byte that stands for the op type: 1 for a put, 2 for a deletion.
     pub fn to_u8(self) -> u8
         ensures { result ≡ op_type_byte self }
     {
@@ -55,7 +55,7 @@ pub struct KeyValue {
 }
 
 impl KeyValue {
-    /// Returns a change that has not been written to a file.
+    /// Returns a change of `key` that has not been written to a file.
     pub fn new(op_type: OpType, key: Vec<u8>, value: Option<Vec<u8>>) -> KeyValue
         ensures { result
             ≡ record { op_type = op_type; key = key; value = value; file_id = None } }
@@ -68,11 +68,11 @@ impl KeyValue {
         }
     }
 
-    /// Returns the same change.
+    /// Returns a copy of the change.
     ///
     /// # Errors
     ///
-    /// `Memory`.
+    /// `Memory` alone.
     #[tactic(auto, using(crate::proofs::CloneLemmas::pair_clone))]
     pub fn clone(&self) -> Result<KeyValue>
         ensures ok { IfOk result (λ copy. pair_of copy ≡ pair_of self.now) }
@@ -81,8 +81,8 @@ impl KeyValue {
         Ok(<KeyValue as Clone>::clone(self)?)
     }
 
-    /// Returns the approximate length of the change's bytes, capped at `usize::MAX`: key and value,
-    /// and 17.
+    /// Returns the approximate length of the change in bytes: those of key and value, and 17 for its numbers.
+    /// Capped at `usize::MAX`.
     pub(crate) fn approximate_size(&self) -> usize
         ensures { result ≡ at_most_usize (pair_size (pair_of self.now)) }
     {
@@ -94,7 +94,7 @@ impl KeyValue {
         key.saturating_add(value).saturating_add(1 + 8 + 8)
     }
 
-    /// Tests whether the change isn't a `Put` without a value.
+    /// Tests whether the change can be written: all can but a put without a value.
     pub(crate) fn is_writable(&self) -> bool
         ensures { IsTrue result ↔ IsWritablePair (pair_of self.now) }
     {
@@ -104,11 +104,12 @@ impl KeyValue {
         }
     }
 
-    /// Appends the change's bytes; the value of a `Del` is not written.
+    /// Appends the bytes of the change: the op type, the length of the key in base 128, the key and, for a
+    /// put, the length of the value and the value. A value of a deletion isn't written.
     ///
     /// # Errors
     ///
-    /// `InvalidArgument` for a `Put` without a value, `Memory`. The vector is then as it was.
+    /// `InvalidArgument` for a put without a value; `Memory`. `buf` is unchanged then.
     pub fn encode(&self, buf: &mut Vec<u8>) -> Result<()>
         ensures ok { OnOk result (buf.new.items ≡ buf.old.items ++ pair_bytes (pair_of self.now)) }
         ensures accepted { OnOk result (IsWritablePair (pair_of self.now)) }
@@ -121,11 +122,12 @@ impl KeyValue {
         append_whole!(buf, self.write(buf))
     }
 
-    /// Appends the bytes of a writable change.
+    /// Does what [`KeyValue::encode`] does for a change that can be written.
     ///
     /// # Errors
     ///
-    /// Where there is no memory for them. Some may then be appended.
+    /// `AllocError` if there is no memory for the bytes. Some may have been appended then; the caller takes
+    /// them off.
     pub(crate) fn write(&self, buf: &mut Vec<u8>) -> AllocResult<()>
         ensures ok { OnOk result (buf.new.items ≡ buf.old.items ++ pair_bytes (pair_of self.now)) }
         ensures err { OnErr result (Keeps buf.old.items buf.new.items) }
@@ -138,13 +140,12 @@ impl KeyValue {
         }
     }
 
-    /// Reads a change from the front, without a file.
+    /// Reads a change from the start of `buf`, which is moved behind it. The change has no file.
     ///
     /// # Errors
     ///
-    /// `Codec` where the bytes end early or a number is malformed; `Corruption` for an unknown type of
-    /// change, and where a key or a value is longer than what is left; `Memory`. The slice is then as
-    /// it was.
+    /// `Codec` if the bytes end early or a number is malformed; `Corruption` for an unknown op type, and if a
+    /// key or a value is longer than what is left; `Memory`. `buf` is unchanged then.
     #[tactic(auto, using(crate::proofs::ItemLemmas::no_room_for_pair))]
     pub fn decode(alloc: Global, buf: &mut BytesSlice<'_>) -> Result<KeyValue>
         ensures ok { IfOk result (λ kv. Reads IsKeyValue buf.old.now buf.new.now (pair_of kv)) }
@@ -158,12 +159,11 @@ impl KeyValue {
         Ok(kv)
     }
 
-    /// Returns a change with a key and a value of its own: a `Put`, or a `Del` where there is no
-    /// value.
+    /// Returns a change with copies of `key` and `value`: a put, or a deletion if there is no value.
     ///
     /// # Errors
     ///
-    /// `Memory`.
+    /// `Memory` alone.
     #[inline(always)]
     pub(crate) fn copied(
         alloc: Global,
@@ -187,12 +187,12 @@ impl KeyValue {
     }
 }
 
-/// Returns the key of the change at the front of `bytes`, its value if it is a put, and what
-/// follows it.
+/// Reads a change from the start of `bytes`. Returns its key, its value if it is a put, and the bytes behind
+/// it. Nothing is copied.
 ///
 /// # Errors
 ///
-/// Those of [`KeyValue::decode`].
+/// Those of [`KeyValue::decode`]; `Memory` only for the text of an error.
 #[tactic(auto, using(crate::proofs::ItemLemmas::put_read, crate::proofs::ItemLemmas::del_read))]
 pub(crate) fn parse_pair(alloc: Global, bytes: &[u8]) -> Result<(&[u8], Option<&[u8]>, &[u8])>
     ensures ok { IfOk result (λ read. Reads IsKeyValue bytes.now read.2.now
@@ -216,11 +216,12 @@ pub(crate) fn parse_pair(alloc: Global, bytes: &[u8]) -> Result<(&[u8], Option<&
     }
 }
 
-/// Appends the length of these bytes, and the bytes.
+/// Appends the length of `text` in base 128, and `text`.
 ///
 /// # Errors
 ///
-/// Where there is no memory for them. Some may then be appended.
+/// `AllocError` if there is no memory for them. Some bytes may have been appended then; the caller takes them
+/// off.
 fn append_byte_string(buf: &mut Vec<u8>, text: &[u8]) -> AllocResult<()>
     ensures ok { OnOk result (buf.new.items ≡ buf.old.items ++ byte_string text.now) }
     ensures err { OnErr result (Keeps buf.old.items buf.new.items) }
@@ -229,12 +230,13 @@ fn append_byte_string(buf: &mut Vec<u8>, text: &[u8]) -> AllocResult<()>
     buf.extend_from_slice(text)
 }
 
-/// Reads a length and as many bytes, which it returns with what follows them.
+/// Reads a length in base 128 and as many bytes from the start of `bytes`. Returns those, and the bytes
+/// behind them.
 ///
 /// # Errors
 ///
-/// `Codec` where the length ends early or is malformed; `Corruption` where fewer bytes are left,
-/// and `Memory` for its text.
+/// `Codec` if the length ends early or is malformed; `Corruption` if fewer bytes are left; `Memory` if there
+/// is none for its text.
 #[tactic(auto, using(crate::proofs::ItemLemmas::text_read))]
 fn parse_byte_string(alloc: Global, bytes: &[u8]) -> Result<(&[u8], &[u8])>
     ensures ok { IfOk result (λ read. Reads IsByteString bytes.now read.1.now read.0.now) }

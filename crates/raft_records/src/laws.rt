@@ -6,9 +6,10 @@ ghost use Rattle.raft_records.specs.Common.{entries, command, pair, AreInBytes, 
 ghost use Rattle.raft_records.specs.Common.{IsContentInRange, IsFramed, IsFramedWith, LogBatchIsSpelled, IsCommand, IsEntries, IsItem, IsKeyValue, Tile, IsWritablePair, command_bytes, entries_bytes, pair_bytes, ItemIsSpelled};
 ghost use Rattle.raft_records.specs.Common.{ItemBatchIsSpelled, uncompressed};
 
-/// States that what is written of an item is a spelling of it, and that no spelling of an item begins another;
-/// so it is read again, whatever follows it. What is written and signed of a batch is an item batch of its
-/// items. Bytes are an item batch of one list of items, with one rest.
+/// States that items are read as they were written. What is written of an item is a spelling of it, and no
+/// spelling of an item is the start of another, so it is read back whatever follows. What is written and
+/// signed of a batch of items is an item batch of them. Bytes are an item batch of one list of items only,
+/// with one rest.
 #[tactic(auto, using(crate::proofs::WrittenLemmas::item_spelled, crate::proofs::WrittenLemmas::batch_spelled))]
 pub fn items_are_read_again()
     ensures item { ItemIsSpelled }
@@ -20,9 +21,9 @@ pub fn items_are_read_again()
         (items ≡ items') × (rest ≡ rest') }
 {}
 
-/// States that what is written of an item's content is a spelling of it, and that no spelling begins another;
-/// so it is read again by itself: commands, key values without what bytes don't hold, and entries after any
-/// entry bytes.
+/// States that the content of an item is read as it was written, by itself: commands; key values, without
+/// what bytes don't hold; and entries, after any number of entry bytes. What is written of it is a spelling
+/// of it, and no spelling is the start of another.
 #[tactic(auto, using(crate::proofs::WrittenLemmas::command_spelled, crate::proofs::WrittenLemmas::entries_spelled))]
 pub fn contents_are_read_again()
     ensures command { (c : Command) → IsContentInRange (command c) → IsCommand (command_bytes c) c }
@@ -36,7 +37,7 @@ pub fn contents_are_read_again()
 {}
 
 /// States that bytes that are an item batch in one file of version 2 are none in another file of version 2,
-/// unless the low 32 bits of the files' numbers agree; and then they are the same one.
+/// unless the low 32 bits of the file numbers agree; then they are the same one.
 pub fn batches_belong_to_one_file()
     ensures other_file { (bytes rest rest' : List ℕ) (seq seq' : ℕ) (items items' : List Item) →
         IsItemBatch bytes (signature_in V2 seq) items rest →
@@ -46,11 +47,11 @@ pub fn batches_belong_to_one_file()
         IsItemBatch bytes (signature_in V2 seq') items rest }
 {}
 
-/// States that what is written and signed of a batch is a log batch of its items and entry bytes. Bytes are a
-/// log batch exactly where a header, an entry block and an item batch are read of them, and each of these is
-/// read in one way only. So they are a log batch of one list of items and of one string of entry bytes. Bytes are
-/// a readable batch exactly where a header is read of them, and an item batch from the offset that it gives to
-/// their end.
+/// States that log batches are read as they were written. What is written and signed of a batch is a log
+/// batch of its items and entry bytes. Bytes are a log batch exactly if they have a header, an entry block
+/// and an item batch, each of which can be read in one way only; so they are a log batch of one list of items
+/// and of one string of entry bytes. They are a readable batch exactly if they have a header, and an item
+/// batch from the offset in it to their end.
 #[tactic(auto, using(crate::proofs::FrameLemmas::log_batch_spelled, crate::proofs::FrameLemmas::one_entry_block))]
 pub fn log_batches_are_read_again()
     ensures written { LogBatchIsSpelled }
@@ -72,7 +73,7 @@ pub fn log_batches_are_read_again()
 {}
 
 /// States that a batch that was signed for one file of version 2 is refused for another file of version 2
-/// exactly if the low 32 bits of the files' numbers differ; where they agree it is the same batch.
+/// exactly if the low 32 bits of the file numbers differ; if they agree it is the same batch.
 pub fn log_batches_belong_to_one_file()
     ensures other_file { (bytes : List ℕ) (seq seq' : ℕ) (items items' : List Item) →
         IsReadable bytes (signature_in V2 seq) items
@@ -83,10 +84,11 @@ pub fn log_batches_belong_to_one_file()
         IsLogBatch bytes (signature_in V2 seq') items entry_bytes }
 {}
 
-/// States that the bytes of a written batch that has items, in a part of the file that they are signed for, at the
-/// offset of the place that they were written to, are never refused there: `next_batch` returns exactly the items
-/// that `finish_write` leaves, and where the bytes end. So the batch stands there. What else is asked holds of every
-/// batch whose bytes are made, as its `is_read_again` states.
+/// States that [`next_batch`](crate::next_batch) reads a written batch back. If a part of a file has the
+/// bytes of a batch with items that was signed for that file, at the offset of the place that it was written
+/// to, the batch isn't refused there: its items are exactly those that `finish_write` leaves, and the next
+/// batch is said to begin where its bytes end. What else is asked holds of every batch whose bytes were made,
+/// as [`LogBatch::is_read_again`](crate::LogBatch::is_read_again) states.
 #[tactic(auto, using(crate::proofs::PartLemmas::written_stands, crate::proofs::PartLemmas::written_next, crate::proofs::PartLemmas::written_accepted))]
 pub fn written_batches_are_next()
     ensures stands { WrittenBatchStands }
@@ -111,8 +113,8 @@ pub fn written_batches_are_next()
         (drop at part.bytes) → ⊥ }
 {}
 
-/// States that what is read of a written batch is what the batch holds once the write has given its items their
-/// places.
+/// States that what is read of a written batch is what the batch itself has once the write has given its
+/// items their places.
 #[tactic(auto, using(crate::proofs::RangeLemmas::items_read))]
 pub fn placed_items_are_read()
     ensures { (handle : FileBlockHandle) (compression : CompressionType) (items : List Item) →

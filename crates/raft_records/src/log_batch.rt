@@ -43,7 +43,7 @@ enum BufState {
 impl BufState {
     ghost use Rattle.raft_records.specs.LogBatchModel.{stage_of};
 
-    /// Tests whether both are open, both encoded or both sealed, for whichever files.
+    /// Tests whether this stage and `other` are both open, both encoded or both sealed, for whichever files.
     fn is_same_stage(self, other: BufState) -> bool
         ensures { IsTrue result ↔ (stage_number (stage_of self) ≡ stage_number (stage_of other)) }
     {
@@ -78,7 +78,7 @@ impl Model for LogBatch {
 }
 
 impl LogBatch {
-    /// Returns an open batch without items.
+    /// Returns an open batch without items. It allocates nothing yet.
     pub fn default(alloc: Global) -> LogBatch
         ensures { result ≡ empty_batch }
     {
@@ -93,7 +93,7 @@ impl LogBatch {
     ///
     /// # Errors
     ///
-    /// `Memory`, and only where `cap` is above 0.
+    /// `Memory` alone, and only if `cap` is above 0.
     pub fn with_capacity(alloc: Global, cap: usize) -> Result<LogBatch>
         ensures ok { IfOk result (λ batch. batch ≡ empty_batch) }
         ensures refused { OnErr result (0 < cap) }
@@ -111,30 +111,32 @@ impl LogBatch {
         *self.buf.allocator()
     }
 
-    /// Tests whether there are no items.
+    /// Tests whether the batch has no items.
     pub fn is_empty(&self) -> bool
         ensures { IsTrue result ↔ (self.now.items ≡ []) }
     {
         self.item_batch.iter().as_slice().is_empty()
     }
 
-    /// Tests whether items may still be added.
+    /// Tests whether items may still be added: until `finish_populate` makes the bytes, and again after
+    /// `drain`.
     pub fn is_open(&self) -> bool
         ensures { IsTrue result ↔ (self.now.stage ≡ is_open) }
     {
         matches!(self.state, BufState::Open)
     }
 
-    /// Tests whether the batch's bytes are signed for a file, or finished for one without signatures.
+    /// Tests whether the bytes of the batch are signed for a file, or finished for one without signatures, so
+    /// that they can be written.
     pub fn is_sealed(&self) -> bool
         ensures { IsTrue result ↔ IsSealedStage self.now.stage }
     {
         matches!(self.state, BufState::Sealed(_))
     }
 
-    /// Returns the approximate length of the batch's bytes, capped at `usize::MAX`: 0 without items, and their
-    /// length itself once they are made. It is at least their length where all region ids and indexes are below
-    /// 2^56, unless the batch is too long to be encoded.
+    /// Returns the approximate length of the batch in bytes, capped at `usize::MAX`: 0 without items, and
+    /// their exact length once they are made. It is at least their length if all region ids and indexes are
+    /// below 2^56, unless the batch is too long to be encoded.
     pub fn approximate_size(&self) -> usize
         ensures size { result
             ≡ approximate_length self.now.stage self.now.items self.now.entry_bytes }
@@ -155,14 +157,15 @@ impl LogBatch {
         }
     }
 
-    /// Returns the items, in order.
+    /// Returns the items in the order in which they were added.
     pub fn items(&self) -> &[LogItem]
         ensures { map item_of result.now ≡ self.now.items }
     {
         self.item_batch.as_slice()
     }
 
-    /// Returns the items in order, and leaves the batch open and empty.
+    /// Returns the items in order, and leaves the batch open and empty. It keeps at most 8 MiB for the bytes
+    /// of later items.
     pub fn drain(&mut self) -> vec::IntoIter<LogItem>
         ensures items { map item_of (into_iter_items result) ≡ self.old.items }
         ensures len { into_iter_len result ≡ length self.old.items }
@@ -174,11 +177,11 @@ impl LogBatch {
         self.item_batch.drain()
     }
 
-    /// Adds a command on a region's log to an open batch.
+    /// Adds a command on the log of `region` to an open batch.
     ///
     /// # Errors
     ///
-    /// `Memory`. The batch is then as it was.
+    /// `Memory` alone. The batch is unchanged then.
     pub fn add_command(&mut self, region: u64, command: Command) -> Result<()>
         requires { self.old.stage ≡ is_open }
         ensures ok { OnOk result (self.new ≡ with_item self.old (command_item region command)) }
@@ -188,12 +191,12 @@ impl LogBatch {
         self.item_batch.add_command(region, command)
     }
 
-    /// Makes the bytes of an open batch, to which nothing is added from then on, and returns how many they are:
-    /// none without items.
+    /// Makes the bytes of an open batch, to which nothing can be added from then on, and returns their
+    /// number: 0 without items.
     ///
     /// # Errors
     ///
-    /// `Full` where they would be 2^56 or more, `Memory`. The batch is then as it was.
+    /// `Full` if they would be 2^56 or more; `Memory`. The batch is unchanged then.
     pub fn finish_populate(&mut self) -> Result<usize>
         requires { self.old.stage ≡ is_open }
         ensures ok { OnOk result (self.new ≡ record self.old { stage = encoded }) }
@@ -221,8 +224,8 @@ impl LogBatch {
         Ok(self.buf.len())
     }
 
-    /// Signs the bytes of a batch that is no longer open for a file. It may be repeated for other
-    /// files, and takes no memory.
+    /// Signs the bytes of a batch that is no longer open for the file of `context`. It may be repeated for
+    /// other files, and allocates nothing.
     #[tactic(auto, using(crate::proofs::StageLemmas::held_unsigned, crate::proofs::StageLemmas::made_of))]
     pub fn prepare_write(&mut self, context: &LogFileContext)
         requires { self.old.stage ≢ is_open }
@@ -232,7 +235,7 @@ impl LogBatch {
         self.state = BufState::Sealed(context.get_signature());
     }
 
-    /// Returns the bytes of a sealed batch: none without items.
+    /// Returns the bytes of a sealed batch, as they are to be written. A batch without items has none.
     pub fn encoded_bytes(&self) -> &[u8]
         requires { IsSealedStage self.now.stage }
         ensures bytes { (signature : Option ℕ) → self.now.stage ≡ sealed signature →
@@ -245,10 +248,11 @@ impl LogBatch {
         self.buf.as_slice()
     }
 
-    /// States that what is written and signed of a batch is read again. The entries of its items tile its entry
-    /// bytes, which are 2^31 - 1 at most. Its items' numbers are in the ranges of their types. Bytes hold all
-    /// of its items but places and files. Its bytes are fewer than 2^56 once they are made, and, where it has
-    /// items, they are a log batch of these items and entry bytes. This is a law: it computes nothing.
+    /// States that what is written and signed of a batch is read again. The bytes of its entries lie one
+    /// after the other in its entry bytes, of which there are 2^31 - 1 at most. The numbers of its items are
+    /// in the ranges of their types. Its bytes hold everything of its items but places and files. They are
+    /// fewer than 2^56 once they are made and, if the batch has items, they are a log batch of these items
+    /// and entry bytes. This is a law: it computes nothing.
     #[tactic(auto, using(crate::proofs::StageLemmas::encoded_short))]
     pub fn is_read_again(&self)
         ensures tiled { IsBatchOf self.now.items self.now.entry_bytes }
@@ -265,12 +269,13 @@ impl LogBatch {
         log_batches_are_read_again();
     }
 
-    /// Reads the header of a log batch from the front: where its item batch begins, how its entry bytes are
-    /// compressed, and how many bytes the batch has. It takes no memory for this.
+    /// Reads the header of a log batch from the start of `buf`, which is moved behind it. Returns the offset
+    /// of the item batch, the compression of the entry bytes, and the length of the batch in bytes. It
+    /// allocates nothing for this.
     ///
     /// # Errors
     ///
-    /// `Corruption` where no header stands there, and `Memory` for its text. The slice is then as it was.
+    /// `Corruption` if there is no header; `Memory` if there is none for its text. `buf` is unchanged then.
     pub fn decode_header(
         alloc: Global,
         buf: &mut BytesSlice<'_>,
@@ -285,12 +290,12 @@ impl LogBatch {
         Ok(header)
     }
 
-    /// Returns the entry bytes in the entry block that stands in front of `buf`, of the length that its place
-    /// says; none where that is 0.
+    /// Returns a copy of the entry bytes of the entry block at the start of `buf`, whose length, with its
+    /// checksum, is that of `place`. There are none if that is 0.
     ///
     /// # Errors
     ///
-    /// `Corruption` where the buffer is too short or the checksum is another, `Memory`.
+    /// `Corruption` if the buffer is too short or the checksum is another; `Memory`.
     pub fn decode_entries_block(
         alloc: Global,
         buf: &[u8],
@@ -312,11 +317,11 @@ impl LogBatch {
         }
     }
 
-    /// Adds the removal of a region's key to an open batch.
+    /// Adds the deletion of `key` of `region` to an open batch.
     ///
     /// # Errors
     ///
-    /// `Memory`. The batch is then as it was.
+    /// `Memory` alone. The batch is unchanged then.
     pub fn delete(&mut self, region: u64, key: Vec<u8>) -> Result<()>
         requires { self.old.stage ≡ is_open }
         ensures ok { OnOk result (self.new
@@ -327,11 +332,11 @@ impl LogBatch {
         self.item_batch.delete(region, key)
     }
 
-    /// Adds a value of a region's key to an open batch.
+    /// Adds a put of `value` under `key` of `region` to an open batch.
     ///
     /// # Errors
     ///
-    /// `InvalidArgument` for the key of the group markers, `Memory`. The batch is then as it was.
+    /// `InvalidArgument` for the key of group markers; `Memory`. The batch is unchanged then.
     pub fn put(&mut self, region: u64, key: Vec<u8>, value: Vec<u8>) -> Result<()>
         requires { self.old.stage ≡ is_open }
         ensures ok { OnOk result (self.new
@@ -344,12 +349,12 @@ impl LogBatch {
         self.put_unchecked(region, key, value)
     }
 
-    /// Adds a message as the value of a region's key to an open batch.
+    /// Adds a put of the bytes of `message` under `key` of `region` to an open batch.
     ///
     /// # Errors
     ///
-    /// `InvalidArgument` for the key of the group markers, `Message` where the message refuses to write
-    /// itself, `Memory`. The batch is then as it was.
+    /// `InvalidArgument` for the key of group markers; `Message` if the message refuses to be written;
+    /// `Memory`. The batch is unchanged then.
     pub fn put_message<S: Message>(&mut self, region: u64, key: Vec<u8>, message: &S) -> Result<()>
         requires { self.old.stage ≡ is_open }
         ensures ok { OnOk result (self.new ≡ with_item self.old
@@ -362,11 +367,11 @@ impl LogBatch {
         self.item_batch.put_message(region, key, message)
     }
 
-    /// Adds a value of a region's key to an open batch, under the key of the group markers too.
+    /// Does what [`LogBatch::put`] does, also under the key of group markers.
     ///
     /// # Errors
     ///
-    /// `Memory`. The batch is then as it was.
+    /// `Memory` alone. The batch is unchanged then.
     pub(crate) fn put_unchecked(&mut self, region: u64, key: Vec<u8>, value: Vec<u8>) -> Result<()>
         requires { self.old.stage ≡ is_open }
         ensures ok { OnOk result (self.new
@@ -377,10 +382,10 @@ impl LogBatch {
         self.item_batch.put(region, key, value)
     }
 
-    /// Gives the items of a sealed batch their places. Every entry gets the place of the entry bytes with their
-    /// checksum, which begins 16 bytes after the batch's, and has length 0 where there are no entry bytes.
-    /// Every key value gets its file. It asks that the place of the batch begins at 2^64 - 17 at
-    /// most. The batch's bytes stay as they are, and it takes no memory.
+    /// Gives the items of a sealed batch their places, once its bytes were written to `handle`. Each entry
+    /// gets the place of the entry bytes with their checksum, which begins 16 bytes behind that of the batch,
+    /// and has the length 0 if there are no entry bytes. Each key value gets the file. The place of the batch
+    /// must begin at 2^64 - 17 at most. The bytes of the batch stay as they are, and it allocates nothing.
     pub fn finish_write(&mut self, handle: FileBlockHandle)
         requires sealed { IsSealedStage self.old.stage }
         requires offset { handle.offset ≤ 2 ^ 64 - 17 }
@@ -400,11 +405,11 @@ impl LogBatch {
         self.item_batch.place(entry_place, CompressionType::None);
     }
 
-    /// Returns a batch of the same items and entry bytes at the same stage.
+    /// Returns a copy of the batch, with the same items and entry bytes, at the same stage.
     ///
     /// # Errors
     ///
-    /// `Memory`.
+    /// `Memory` alone.
     pub fn clone(&self) -> Result<LogBatch>
         ensures ok { IfOk result (λ copy. copy ≡ self.now) }
         ensures memory { IfErr result (λ e. e ≡ Error.Memory) }
@@ -425,11 +430,11 @@ impl LogBatch {
     }
 }
 
-/// Refuses the key of the group markers.
+/// Checks that `key` isn't the one of group markers.
 ///
 /// # Errors
 ///
-/// `InvalidArgument`, or `Memory` for its text.
+/// `InvalidArgument` if it is; `Memory` if there is none for its text.
 fn refuse_reserved(key: &Vec<u8>) -> Result<()>
     ensures accepted { OnOk result (key.now.items ≢ reserved_key) }
     ensures fault { IfErr result (IsKeyRefusal key.now.items) }
@@ -450,10 +455,12 @@ impl ReactiveBytes for LogBatch {
     ghost bytes_in = { λ batch context.
         log_batch_bytes (signature_of context) batch.items batch.entry_bytes };
 
+    /// Tests whether the batch is no longer open, so that its bytes can be asked for.
     fn ready(&self) -> bool {
         !self.is_open()
     }
 
+    /// Signs the bytes of the batch for the file of `ctx`, and returns them.
     fn as_bytes(&mut self, ctx: &LogFileContext) -> &[u8] {
         self.prepare_write(ctx);
         self.encoded_bytes()
@@ -468,8 +475,8 @@ impl PartialEq for LogBatch {
 
     ghost laws = { partial_equiv_from_equiv same_batch_is_equivalence };
 
-    /// Tests whether both have the same items and entry bytes and are both open, both encoded or both sealed,
-    /// for whichever files.
+    /// Tests whether this batch and `other` have the same items and entry bytes and are both open, both
+    /// encoded or both sealed, for whichever files.
     fn eq(&self, other: &LogBatch) -> bool
         ensures tested { result ≡ same_batch self.now other.now }
         ensures exact { IsTrue result ↔ AreEqual self.now other.now }
@@ -489,7 +496,11 @@ impl Eq for LogBatch {
 impl Clone for LogBatch {
     ghost is_clone = { λ batch copy. copy ≡ batch };
 
-    /// Returns a batch of the same items and entry bytes at the same stage. There may be no memory for it.
+    /// Returns a copy of the batch, with the same items and entry bytes, at the same stage.
+    ///
+    /// # Errors
+    ///
+    /// `AllocError` if there is no memory for it.
     fn clone(&self) -> AllocResult<LogBatch> {
         Ok(LogBatch {
             item_batch: <LogItemBatch as Clone>::clone(&self.item_batch)?,

@@ -36,7 +36,7 @@ pub enum LogItemContent {
 }
 
 impl LogItem {
-    /// Returns an item of new entries of a region.
+    /// Returns an item with new entries of the region `raft_group_id`.
     pub fn new_entry_indexes(raft_group_id: u64, entry_indexes: Vec<EntryIndex>) -> LogItem
         ensures { item_of result ≡ entries_item raft_group_id entry_indexes.items }
     {
@@ -46,7 +46,7 @@ impl LogItem {
         }
     }
 
-    /// Returns an item of a command on a region's log.
+    /// Returns an item with a command on the log of the region `raft_group_id`.
     pub fn new_command(raft_group_id: u64, command: Command) -> LogItem
         ensures { item_of result ≡ command_item raft_group_id command }
     {
@@ -56,7 +56,8 @@ impl LogItem {
         }
     }
 
-    /// Returns an item of a change of a region's key.
+    /// Returns an item that changes `key` of the region `raft_group_id`, as `op_type` says: a put of `value`,
+    /// or a deletion. It has not been written to a file.
     pub fn new_kv(
         raft_group_id: u64,
         op_type: OpType,
@@ -72,11 +73,11 @@ impl LogItem {
         }
     }
 
-    /// Returns the same change of the same region.
+    /// Returns a copy of the item.
     ///
     /// # Errors
     ///
-    /// `Memory`.
+    /// `Memory` alone.
     #[tactic(auto, using(crate::proofs::CloneLemmas::item_clone))]
     pub fn clone(&self) -> Result<LogItem>
         ensures ok { IfOk result (λ copy. item_of copy ≡ item_of self.now) }
@@ -85,7 +86,8 @@ impl LogItem {
         Ok(<LogItem as Clone>::clone(self)?)
     }
 
-    /// Returns the approximate length of the item's bytes, capped at `usize::MAX`.
+    /// Returns the approximate length of the item in bytes, capped at `usize::MAX`: that of its content, and
+    /// nine.
     pub(crate) fn approximate_size(&self) -> usize
         ensures { result ≡ at_most_usize (item_size (item_of self.now)) }
     {
@@ -97,7 +99,8 @@ impl LogItem {
         content.saturating_add(8 + 1)
     }
 
-    /// Gives the entries this place and compression type, a key value the place's file.
+    /// Gives the entries of the item the place `handle` and this compression type, or its key value the file
+    /// of that place. A command has neither.
     pub(crate) fn place(&mut self, handle: FileBlockHandle, compression_type: CompressionType)
         ensures { item_of self.new ≡ placed_item handle compression_type (item_of self.old) }
     {
@@ -108,7 +111,7 @@ impl LogItem {
         }
     }
 
-    /// Raises the offsets of the entries by so many bytes.
+    /// Adds `by` to the offset of each entry's bytes, if the item has entries.
     pub(crate) fn raise_offsets(&mut self, by: u32)
         requires { CanRaiseContent by (content_of self.old.content) }
         ensures { item_of self.new ≡ raised_item by (item_of self.old) }
@@ -141,8 +144,8 @@ impl LogItem {
         }
     }
 
-    /// Tests whether the item can be written: entries are consecutive and their bytes run on, and a
-    /// `Put` has a value.
+    /// Tests whether the item can be written: the indexes of entries are consecutive and their bytes run on,
+    /// and a put has a value.
     fn is_writable(&self) -> bool
         ensures { IsTrue result ↔ IsWritable (item_of self.now) }
     {
@@ -153,12 +156,13 @@ impl LogItem {
         }
     }
 
-    /// Appends the item's bytes.
+    /// Appends the bytes of the item: the region id in base 128, a byte for the type of its content, and the
+    /// content.
     ///
     /// # Errors
     ///
-    /// `InvalidArgument` where its content can't be written (as [`EntryIndexes::encode`] and
-    /// [`KeyValue::encode`] say), `Memory`. The vector is then as it was.
+    /// `InvalidArgument` if its content can't be written (as [`EntryIndexes::encode`] and
+    /// [`KeyValue::encode`] say); `Memory`. `buf` is unchanged then.
     pub fn encode(&self, buf: &mut Vec<u8>) -> Result<()>
         ensures ok { OnOk result (buf.new.items ≡ buf.old.items ++ item_bytes (item_of self.now)) }
         ensures accepted { OnOk result (IsWritable (item_of self.now)) }
@@ -174,11 +178,12 @@ impl LogItem {
         append_whole!(buf, self.write(buf))
     }
 
-    /// Appends the bytes of a writable item.
+    /// Does what [`LogItem::encode`] does for an item that can be written.
     ///
     /// # Errors
     ///
-    /// Where there is no memory for them. Some may then be appended.
+    /// `AllocError` if there is no memory for the bytes. Some may have been appended then; the caller takes
+    /// them off.
     pub(crate) fn write(&self, buf: &mut Vec<u8>) -> AllocResult<()>
         ensures ok { OnOk result (buf.new.items ≡ buf.old.items ++ item_bytes (item_of self.now)) }
         ensures err { OnErr result (Keeps buf.old.items buf.new.items) }
@@ -187,14 +192,15 @@ impl LogItem {
         self.content.write(buf)
     }
 
-    /// Reads an item from the front, without places and file, after items whose entries have `entries_size` bytes
-    /// together. `entries_size` becomes the end of its entries' bytes.
+    /// Reads an item from the start of `buf`, which is moved behind it. Its entries have no place, and its
+    /// key value no file. The entries of the items before this one have `entries_size` bytes together; it is
+    /// raised by the bytes of these.
     ///
     /// # Errors
     ///
-    /// `Codec` where the bytes end early or a number is malformed; `Io` where they end before the item's type;
-    /// `Corruption` for an unknown type, and what its content's `decode` refuses so; `Memory`. `entries_size`
-    /// and the slice are then as they were.
+    /// `Codec` if the bytes end early or a number is malformed; `Io` if they end before the byte for the
+    /// type; `Corruption` for an unknown type, and for what the `decode` of its content refuses so; `Memory`.
+    /// `buf` and `entries_size` are unchanged then.
     pub fn decode(
         alloc: Global,
         buf: &mut BytesSlice<'_>,
@@ -224,11 +230,11 @@ impl LogItem {
 }
 
 impl LogItemContent {
-    /// Returns the same change.
+    /// Returns a copy of the content.
     ///
     /// # Errors
     ///
-    /// `Memory`.
+    /// `Memory` alone.
     #[tactic(auto, using(crate::proofs::CloneLemmas::content_clone))]
     pub fn clone(&self) -> Result<LogItemContent>
         ensures ok { IfOk result (λ copy. content_of copy ≡ content_of self.now) }
@@ -237,11 +243,12 @@ impl LogItemContent {
         Ok(<LogItemContent as Clone>::clone(self)?)
     }
 
-    /// Appends the type byte and the bytes of writable content.
+    /// Appends the byte for the type of the content, and the bytes of the content, which can be written.
     ///
     /// # Errors
     ///
-    /// Where there is no memory for them. Some may then be appended.
+    /// `AllocError` if there is no memory for the bytes. Some may have been appended then; the caller takes
+    /// them off.
     fn write(&self, buf: &mut Vec<u8>) -> AllocResult<()>
         ensures ok { OnOk result (buf.new.items
             ≡ buf.old.items ++ content_bytes (content_of self.now)) }
@@ -264,11 +271,12 @@ impl LogItemContent {
     }
 }
 
-/// Returns what was read as content with a key and a value of its own. A run has these entries.
+/// Returns what was read as the content of an item, with copies of its key and value. A run has `entries`,
+/// which were read with it.
 ///
 /// # Errors
 ///
-/// `Memory`.
+/// `Memory` alone, and only for a change of a key.
 fn made_content(
     alloc: Global,
     content: ReadContent<'_>,

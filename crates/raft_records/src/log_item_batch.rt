@@ -48,7 +48,7 @@ impl Model for LogItemBatch {
 }
 
 impl LogItemBatch {
-    /// Returns a batch without items.
+    /// Returns a batch without items. It allocates nothing yet.
     pub fn default(alloc: Global) -> LogItemBatch
         ensures { result ≡ [] }
     {
@@ -65,7 +65,7 @@ impl LogItemBatch {
     ///
     /// # Errors
     ///
-    /// `Memory`, and only where `cap` is above 0.
+    /// `Memory` alone, and only if `cap` is above 0.
     pub fn with_capacity(alloc: Global, cap: usize) -> Result<LogItemBatch>
         ensures ok { IfOk result (λ batch. batch ≡ []) }
         ensures refused { OnErr result (0 < cap) }
@@ -77,7 +77,7 @@ impl LogItemBatch {
         })
     }
 
-    /// Returns the items, in order.
+    /// Takes the items out of the batch, in the order in which they were added.
     pub fn into_items(self) -> Vec<LogItem>
         ensures { map item_of result.items ≡ self }
     {
@@ -92,16 +92,16 @@ impl LogItemBatch {
         self.items.iter()
     }
 
-    /// Returns the items, in order.
+    /// Returns the items in the order in which they were added.
     pub fn as_slice(&self) -> &[LogItem]
         ensures { map item_of result.now ≡ self.now }
     {
         self.items.as_slice()
     }
 
-    /// States that what is written and signed of a batch is read again. Its items fit together, their numbers
-    /// are in the ranges of their types, and bytes hold all of them but places and files. This is a law: it
-    /// computes nothing.
+    /// States that what is written and signed of a batch is read again. The bytes of its entries run on from
+    /// item to item, the numbers of its items are in the ranges of their types, and its bytes hold everything
+    /// of its items but places and files. This is a law: it computes nothing.
     pub fn is_read_again(&self)
         ensures fit { FitTogether 0 self.now }
         ensures in_range { AreInRange self.now }
@@ -114,23 +114,23 @@ impl LogItemBatch {
     }
 
     /// Returns the file in which `decode` gave the items their places, as long as none was added, moved or
-    /// placed since: the items may stand in it, so nobody needs to test them again. `None` says nothing of
-    /// the items. (No clause says when it comes, nor that a clone returns the same.)
+    /// placed since: they may be in a batch of that file, so nobody needs to test them again. `None` says
+    /// nothing of the items. (No clause says when it comes, nor that a clone returns the same.)
     pub fn decoded_in(&self) -> Option<FileId>
         ensures { IfSome result (λ file. AreDecodedIn file self.now) }
     {
         self.decoded_in
     }
 
-    /// Returns how many bytes the entries of all items have together.
+    /// Returns the number of bytes that the entries of all items have together.
     pub fn entries_size(&self) -> u32
         ensures { result ≡ entry_bytes_of self.now }
     {
         self.entries_size
     }
 
-    /// Returns the approximate length of the batch's bytes, capped at `usize::MAX`. It is at least their length
-    /// where all region ids and indexes are below 2^56, of bytes that a log batch can hold.
+    /// Returns the approximate length of the batch in bytes, capped at `usize::MAX`. It is at least their
+    /// exact length if all region ids and indexes are below 2^56, and a log batch can hold them.
     pub fn approximate_size(&self) -> usize
         ensures size { result ≡ at_most_usize (item_batch_size self.now) }
         ensures covers { HaveSmallNumbers self.now → length (item_batch_bytes self.now) < 2 ^ 56 →
@@ -139,7 +139,8 @@ impl LogItemBatch {
         self.item_size.saturating_add(8 + LOG_BATCH_CHECKSUM_LEN)
     }
 
-    /// Returns the first entry of the first item that has entries to list, if it has any.
+    /// Returns the first entry of the first item of entries, or `None` if there is no such item, or it is
+    /// empty.
     pub fn entry_index(&self) -> Option<EntryIndex>
         ensures { result ≡ first_entry self.now }
     {
@@ -151,13 +152,13 @@ impl LogItemBatch {
         None
     }
 
-    /// Adds entries of a region, whose bytes follow those of the batch: their offsets are set so. It asks
-    /// consecutive entries, and that the bytes of all entries stay below 2^32 (`entries_size` tells those of
-    /// the batch).
+    /// Adds entries of `region`, whose indexes are consecutive. Their bytes follow those of the batch, and
+    /// their offsets are set so. All entries must have fewer than 2^32 bytes together
+    /// ([`LogItemBatch::entries_size`] tells those of the batch).
     ///
     /// # Errors
     ///
-    /// `Memory`. The batch is then as it was.
+    /// `Memory` alone. The batch is unchanged then.
     pub fn add_entry_indexes(
         &mut self,
         region: u64,
@@ -176,11 +177,11 @@ impl LogItemBatch {
         Ok(self.add(LogItem::new_entry_indexes(region, entry_indexes), end)?)
     }
 
-    /// Adds entries of a region whose offsets are set already. `end` is where their bytes end.
+    /// Adds entries of `region` whose offsets are set already. `end` is where their bytes end.
     ///
     /// # Errors
     ///
-    /// Where there is no memory for them. The batch is then as it was.
+    /// `AllocError` if there is no memory for them. The batch is unchanged then.
     pub(crate) fn add_laid_entries(
         &mut self,
         region: u64,
@@ -195,11 +196,11 @@ impl LogItemBatch {
         self.add(LogItem::new_entry_indexes(region, entry_indexes), end)
     }
 
-    /// Adds a command on a region's log.
+    /// Adds a command on the log of `region`.
     ///
     /// # Errors
     ///
-    /// `Memory`. The batch is then as it was.
+    /// `Memory` alone. The batch is unchanged then.
     pub fn add_command(&mut self, region: u64, command: Command) -> Result<()>
         ensures ok { OnOk result (self.new ≡ self.old ++ command_item region command ∷ []) }
         ensures err { OnErr result (self.new ≡ self.old) }
@@ -209,11 +210,11 @@ impl LogItemBatch {
         Ok(self.add(LogItem::new_command(region, command), entries_size)?)
     }
 
-    /// Adds the removal of a region's key.
+    /// Adds the deletion of `key` of `region`.
     ///
     /// # Errors
     ///
-    /// `Memory`. The batch is then as it was.
+    /// `Memory` alone. The batch is unchanged then.
     pub fn delete(&mut self, region: u64, key: Vec<u8>) -> Result<()>
         ensures ok { OnOk result (self.new
             ≡ self.old ++ pair_item region Del key.items None ∷ []) }
@@ -225,11 +226,11 @@ impl LogItemBatch {
         Ok(self.add(item, entries_size)?)
     }
 
-    /// Adds a value of a region's key.
+    /// Adds a put of `value` under `key` of `region`.
     ///
     /// # Errors
     ///
-    /// `Memory`. The batch is then as it was.
+    /// `Memory` alone. The batch is unchanged then.
     pub fn put(&mut self, region: u64, key: Vec<u8>, value: Vec<u8>) -> Result<()>
         ensures ok { OnOk result (self.new ≡ self.old
             ++ pair_item region Put key.items (Some value.items) ∷ []) }
@@ -241,11 +242,11 @@ impl LogItemBatch {
         Ok(self.add(item, entries_size)?)
     }
 
-    /// Adds a message as the value of a region's key.
+    /// Adds a put of the bytes of `message` under `key` of `region`.
     ///
     /// # Errors
     ///
-    /// `Message` where the message refuses to write itself, `Memory`. The batch is then as it was.
+    /// `Message` if the message refuses to be written; `Memory`. The batch is unchanged then.
     pub fn put_message<S: Message>(&mut self, region: u64, key: Vec<u8>, message: &S) -> Result<()>
         ensures ok { OnOk result (self.new ≡ self.old
             ++ pair_item region Put key.items (Some (S.bytes_of message.now)) ∷ []) }
@@ -257,12 +258,13 @@ impl LogItemBatch {
         self.put(region, key, value)
     }
 
-    /// Moves the items of `rhs` after those of the batch. Their entries' bytes follow the batch's, so that
-    /// their offsets rise. It asks that the bytes of all entries stay below 2^32.
+    /// Moves the items of `rhs` behind those of this batch, and leaves `rhs` empty. The bytes of their
+    /// entries follow those of the batch, so their offsets rise. All entries must have fewer than 2^32 bytes
+    /// together.
     ///
     /// # Errors
     ///
-    /// `Memory`, and only where `rhs` has items. Both are then as they were.
+    /// `Memory` alone, and only if `rhs` has items. Both are unchanged then.
     pub fn merge(&mut self, rhs: &mut LogItemBatch) -> Result<()>
         requires { entry_bytes_of self.old + entry_bytes_of rhs.old < 2 ^ 32 }
         ensures ok { OnOk result (self.new
@@ -303,7 +305,8 @@ impl LogItemBatch {
         drained.into_items().into_iter()
     }
 
-    /// Gives all entries this place and compression type, all key values the place's file.
+    /// Gives all entries the place `handle` and this compression type, and all key values the file of that
+    /// place.
     pub(crate) fn place(&mut self, handle: FileBlockHandle, compression_type: CompressionType)
         ensures { self.new ≡ map (placed_item handle compression_type) self.old }
     {
@@ -311,11 +314,12 @@ impl LogItemBatch {
         place_items(&mut self.items, handle, compression_type);
     }
 
-    /// Appends the batch's bytes to the vector, four zero bytes in the place of the checksum.
+    /// Appends the bytes of the batch to `buf`, with four zero bytes for the checksum, which
+    /// [`LogItemBatch::prepare_write`] sets.
     ///
     /// # Errors
     ///
-    /// `Memory`. The vector is then as it was.
+    /// `Memory` alone. `buf` is unchanged then.
     pub fn encode(&mut self, buf: &mut Vec<u8>) -> Result<()>
         ensures ok { OnOk result (buf.new.items
             ≡ buf.old.items ++ (item_batch_bytes self.old ++ no_checksum)) }
@@ -333,8 +337,8 @@ impl LogItemBatch {
         Ok(())
     }
 
-    /// Writes the checksum, signed for `context`, into the last four of the bytes that `encode` wrote.
-    /// It may be repeated for other contexts.
+    /// Writes the checksum, signed for the file of `context`, over the last four of the bytes that
+    /// [`LogItemBatch::encode`] appended. It may be repeated for other files.
     pub fn prepare_write(&self, buf: &mut [u8], context: &LogFileContext)
         requires { IsEncoded self.now buf.old }
         ensures { buf.new ≡ item_batch_bytes self.now
@@ -348,17 +352,17 @@ impl LogItemBatch {
         LittleEndian::write_u32(&mut buf[end..], sign(checksum, context.get_signature()));
     }
 
-    /// Reads the item batch that the whole slice is, in the file of `context`. Every entry gets the place
-    /// `entries` and the compression type, every key value the file of `entries`. The slice then holds the
-    /// bytes between the last item and the checksum, which are free. Entries are consecutive, and a `Put` has a
+    /// Reads the item batch that all of `buf` is, in the file of `context`. Each entry gets the place
+    /// `entries` and the compression type, and each key value the file of that place. `buf` then is the bytes
+    /// between the last item and the checksum, which are free. Entries are consecutive, and a put has a
     /// value: nobody needs to test it again. The batch keeps the file of `entries`
     /// ([`LogItemBatch::decoded_in`]).
     ///
     /// # Errors
     ///
-    /// `Corruption` where the bytes are four or fewer or their checksum is another, and what
-    /// [`LogItem::decode`] returns of an item; `Codec` where the count of items is malformed; `Memory`. The
-    /// slice is then as it was.
+    /// `Corruption` if there are four bytes or fewer, or their checksum is another; the errors of
+    /// [`LogItem::decode`] for an item; `Codec` if the count of items is malformed; `Memory`. `buf` is
+    /// unchanged then.
     pub fn decode(
         alloc: Global,
         buf: &mut BytesSlice<'_>,
@@ -385,7 +389,7 @@ impl LogItemBatch {
         Ok(batch)
     }
 
-    /// Keeps that the items were decoded in this file.
+    /// Notes that the items were decoded in `file`, for [`LogItemBatch::decoded_in`].
     #[inline(always)]
     pub(crate) fn with_file(mut self, file: FileId) -> LogItemBatch
         requires { AreDecodedIn file self }
@@ -395,11 +399,11 @@ impl LogItemBatch {
         self
     }
 
-    /// Adds an item, behind which the entries of all items have `entries_size` bytes together.
+    /// Adds `item`. With it, the entries of all items have `entries_size` bytes together.
     ///
     /// # Errors
     ///
-    /// Where there is no memory for it. The batch is then as it was.
+    /// `AllocError` if there is no memory for it. The batch is unchanged then.
     #[inline(always)]
     pub(crate) fn add(&mut self, item: LogItem, entries_size: u32) -> AllocResult<()>
         requires fits { FitsBehind (entry_bytes_of self.old) (content_of item.content) }
@@ -419,11 +423,11 @@ impl LogItemBatch {
         Ok(())
     }
 
-    /// Returns a batch of the same items.
+    /// Returns a copy of the batch.
     ///
     /// # Errors
     ///
-    /// `Memory`.
+    /// `Memory` alone.
     pub fn clone(&self) -> Result<LogItemBatch>
         ensures ok { IfOk result (λ copy. copy ≡ self.now) }
         ensures memory { IfErr result (λ e. e ≡ Error.Memory) }
@@ -440,7 +444,7 @@ impl PartialEq for LogItemBatch {
 
     ghost laws = { partial_equiv_from_equiv same_items_is_equivalence };
 
-    /// Tests whether the items are the same, in order.
+    /// Tests whether this batch and `other` have the same items, in the same order.
     fn eq(&self, other: &LogItemBatch) -> bool
         ensures tested { result ≡ same_items self.now other.now }
         ensures exact { IsTrue result ↔ (self.now ≡ other.now) }
@@ -458,18 +462,23 @@ impl Eq for LogItemBatch {
 impl Clone for LogItemBatch {
     ghost is_clone = { λ batch copy. copy ≡ batch };
 
-    /// Returns a batch of the same items. There may be no memory for it.
+    /// Returns a copy of the batch.
+    ///
+    /// # Errors
+    ///
+    /// `AllocError` if there is no memory for it.
     fn clone(&self) -> AllocResult<LogItemBatch> {
         let items = self.items.clone()?;
         Ok(LogItemBatch { items, ..*self })
     }
 }
 
-/// Appends the bytes of an item batch, zeros in the place of the checksum.
+/// Appends the bytes of an item batch: the count of `items` in base 128, the items, and four zero bytes for
+/// the checksum.
 ///
 /// # Errors
 ///
-/// Where there is no memory for them. Some may then be appended.
+/// `AllocError` if there is no memory for them. Some may have been appended then; the caller takes them off.
 fn write_items(buf: &mut Vec<u8>, items: &[LogItem]) -> AllocResult<()>
     ensures ok { OnOk result
         (buf.new.items
@@ -484,7 +493,7 @@ fn write_items(buf: &mut Vec<u8>, items: &[LogItem]) -> AllocResult<()>
     Ok(())
 }
 
-/// Gives all entries this place and compression type, all key values the place's file.
+/// Gives all entries the place `handle` and this compression type, and all key values the file of that place.
 fn place_items(items: &mut Vec<LogItem>, handle: FileBlockHandle, compression_type: CompressionType)
     ensures { map item_of items.new.items
         ≡ map (placed_item handle compression_type) (map item_of items.old.items) }
@@ -494,7 +503,8 @@ fn place_items(items: &mut Vec<LogItem>, handle: FileBlockHandle, compression_ty
     }
 }
 
-/// Lays the entries' bytes one after the other from `start` on, and returns where they end.
+/// Sets the offsets of entries so that their bytes lie one after the other from `start` on, and returns where
+/// they end.
 fn set_offsets(entries: &mut Vec<EntryIndex>, start: u32) -> u32
     requires { start + entry_lengths entries.old.items < 2 ^ 32 }
     ensures offsets { entries.new.items ≡ with_offsets_from start entries.old.items }
@@ -508,7 +518,7 @@ fn set_offsets(entries: &mut Vec<EntryIndex>, start: u32) -> u32
     offset
 }
 
-/// Raises the offsets of the entries of all items by so many bytes.
+/// Adds `by` to the offset of the bytes of each entry of all items.
 fn raise_item_offsets(items: &mut Vec<LogItem>, by: u32)
     requires fit { FitTogether 0 (map item_of items.old.items) }
     requires room { by + entry_bytes_of (map item_of items.old.items) < 2 ^ 32 }

@@ -6,8 +6,12 @@ ghost use Rattle.raft_records.specs.Common.{varint};
 use raft_base::AllocResult;
 use raft_codec::codec;
 
-/// Appends a number in its shortest spelling, as `append_var_u64` does, without a call where it
-/// takes at most two bytes, as most do. On `Err` the vector is as it was.
+/// Appends `number` in base 128, in its shortest form (300 is `ac 02`), as [`codec::append_var_u64`] does,
+/// but without a call if it takes at most two bytes, as most numbers do.
+///
+/// # Errors
+///
+/// `AllocError` if there is no memory for it. `buf` is unchanged then.
 #[inline(always)]
 #[tactic(auto, using(raft_codec::proofs::VarintLemmas::two_septets))]
 pub(crate) fn append_number(buf: &mut Vec<u8>, number: u64) -> AllocResult<()>

@@ -13,13 +13,13 @@ use raft_base::{
 use std::alloc::Global;
 use std::io::{self, ErrorKind, Read, Write};
 
-/// Prints the item batch that the whole of `reader` is, in the file of `context`: a line for each item, and a
-/// last one with the number of items and of the bytes that are left unread after them.
+/// Prints the item batch that the whole of `reader` is, in the file of `context`, as [`batch_text`] does.
 ///
 /// # Errors
 ///
-/// What [`LogItemBatch::decode`] returns, or `Memory`, and then nothing is written. `Io` where the reader or
-/// the writer fails; after a failure of the writer a front of the lines may stand.
+/// Those of [`LogItemBatch::decode`], and `Memory`; nothing has been written then. `Io` if the reader or the
+/// writer fails; after a failure of the writer a part of the lines, from the first byte on, may have been
+/// written.
 pub fn print_batch<R: Read, W: Write>(
     alloc: Global,
     reader: &mut R,
@@ -45,11 +45,12 @@ pub fn print_batch<R: Read, W: Write>(
     write_whole(writer, text.as_bytes())
 }
 
-/// Writes all of these bytes, and goes on after a write that took a part or was interrupted.
+/// Writes all of `bytes`, and goes on after a write that took only a part of them or was interrupted.
 ///
 /// # Errors
 ///
-/// `Io` where the writer fails: a front of the bytes, and not all of them, was written then.
+/// `Io` if the writer fails or takes no more. A part of the bytes, from the first one on, but not all, has
+/// been written then.
 #[doc(hidden)]
 #[tactic(auto, using(crate::proofs::PrintLemmas::written_on))]
 pub fn write_whole<W: Write>(writer: &mut W, bytes: &[u8]) -> Result<()>
@@ -74,12 +75,12 @@ pub fn write_whole<W: Write>(writer: &mut W, bytes: &[u8]) -> Result<()>
     }
 }
 
-/// Writes what the writer takes at once, and returns how many of the bytes these are: none where
-/// the write was interrupted.
+/// Writes as many of `bytes`, from the first one on, as the writer takes at once, and returns their number: 0
+/// if the write was interrupted.
 ///
 /// # Errors
 ///
-/// `Io` where the writer fails or takes nothing.
+/// `Io` if the writer fails or takes nothing. Nothing was written then.
 fn write_some<W: Write>(writer: &mut W, bytes: &[u8]) -> Result<usize>
     ensures bound { IfOk result (λ count. count ≤ length bytes.now) }
     ensures ok { IfOk result
@@ -95,19 +96,21 @@ fn write_some<W: Write>(writer: &mut W, bytes: &[u8]) -> Result<usize>
     }
 }
 
-/// Returns the error for a writer that takes no more bytes.
+/// Returns the error for a writer that takes no more bytes: `Io` of the kind `WriteZero`.
 fn unwritten() -> Error
     ensures { IsIoError result }
 {
     Error::Io(io::Error::new(ErrorKind::WriteZero, "the writer takes no more"))
 }
 
-/// Returns the text of the item batch that the whole slice is, in the file of `context`: a line for each item,
-/// and a last one with the number of items and of the bytes that are left unread after them.
+/// Returns the text of the item batch that all of `bytes` are, in the file of `context`: a line for each
+/// item, and a last one with the number of items and of the bytes that are left unread behind them. Keys and
+/// values are in hexadecimal digits, or `-` if empty. Such lines are `7 entries 2 first 10 tail 3`, `7 put
+/// 707574 7075745f76`, `7 del 707574`, `7 compact 7` and `items 4 rest 0`.
 ///
 /// # Errors
 ///
-/// What [`LogItemBatch::decode`] returns, or `Memory`.
+/// Those of [`LogItemBatch::decode`], and `Memory`.
 pub fn batch_text(alloc: Global, bytes: &[u8], context: &LogFileContext) -> Result<String>
     ensures ok { IfOk result (λ text.
         IsTextOf bytes.now (signature_of context.now) (string_bytes text)) }
@@ -130,11 +133,11 @@ pub fn batch_text(alloc: Global, bytes: &[u8], context: &LogFileContext) -> Resu
     Ok(text)
 }
 
-/// Appends a line for each item.
+/// Appends a line for each of `items`, in order, as [`append_line`] has it.
 ///
 /// # Errors
 ///
-/// Where there is no memory for them. Some of the text may then be appended.
+/// `AllocError` if there is no memory for them. Some of the text may have been appended then.
 fn append_lines(alloc: Global, items: &[LogItem], text: &mut String) -> AllocResult<()>
     ensures { OnOk result (string_bytes text.new
         ≡ string_bytes text.old ++ flat_map line_of (map item_of items.now)) }
@@ -145,11 +148,11 @@ fn append_lines(alloc: Global, items: &[LogItem], text: &mut String) -> AllocRes
     Ok(())
 }
 
-/// Appends the line of an item: its region and its content.
+/// Appends the line of `item`: its region and its content, as in `7 compact 10`.
 ///
 /// # Errors
 ///
-/// Where there is no memory for it. Some of the text may then be appended.
+/// `AllocError` if there is no memory for it. Some of the text may have been appended then.
 fn append_line(alloc: Global, item: &LogItem, text: &mut String) -> AllocResult<()>
     ensures { OnOk result
         (string_bytes text.new ≡ string_bytes text.old ++ line_of (item_of item.now)) }
@@ -159,11 +162,12 @@ fn append_line(alloc: Global, item: &LogItem, text: &mut String) -> AllocResult<
     text.push('\n')
 }
 
-/// Appends what an item says, in words.
+/// Appends what an item says, its `content`: `entries ..`, `clean`, `compact INDEX`, `truncate INDEX`, `put
+/// KEY VALUE` or `del KEY`.
 ///
 /// # Errors
 ///
-/// Where there is no memory for it. Some of the text may then be appended.
+/// `AllocError` if there is no memory for it. Some of the text may have been appended then.
 fn append_content(alloc: Global, content: &LogItemContent, text: &mut String) -> AllocResult<()>
     ensures { OnOk result
         (string_bytes text.new ≡ string_bytes text.old ++ content_text (content_of content.now)) }
@@ -177,11 +181,12 @@ fn append_content(alloc: Global, content: &LogItemContent, text: &mut String) ->
     }
 }
 
-/// Appends how many entries there are, the first index, and where the bytes of the last one end.
+/// Appends the number of entries, the first index, and where the bytes of the last one end, as in `entries 2
+/// first 10 tail 3`; of none `entries 0`.
 ///
 /// # Errors
 ///
-/// Where there is no memory for it. Some of the text may then be appended.
+/// `AllocError` if there is no memory for it. Some of the text may have been appended then.
 #[tactic(auto, using(crate::proofs::PrintLemmas::text_by_ends))]
 fn append_entries(entries: &[EntryIndex], text: &mut String) -> AllocResult<()>
     ensures { OnOk result (string_bytes text.new
@@ -196,11 +201,11 @@ fn append_entries(entries: &[EntryIndex], text: &mut String) -> AllocResult<()>
     write!(text, "entries {count} first {index} tail {tail}")
 }
 
-/// Appends a change of a key: `put` with key and value, or `del` with the key.
+/// Appends `kv`, a change of a key: `put KEY VALUE` or `del KEY`, in hexadecimal digits.
 ///
 /// # Errors
 ///
-/// Where there is no memory for it. Some of the text may then be appended.
+/// `AllocError` if there is no memory for it. Some of the text may have been appended then.
 fn append_key_value(alloc: Global, kv: &KeyValue, text: &mut String) -> AllocResult<()>
     ensures { OnOk result (string_bytes text.new
         ≡ string_bytes text.old
@@ -223,11 +228,11 @@ fn append_key_value(alloc: Global, kv: &KeyValue, text: &mut String) -> AllocRes
     }
 }
 
-/// Appends bytes as hexadecimal digits, or `-` where there are none.
+/// Appends `bytes` as hexadecimal digits, or `-` if there are none.
 ///
 /// # Errors
 ///
-/// Where there is no memory for them.
+/// `AllocError` if there is no memory for them. Some of the text may have been appended then.
 fn append_bytes(alloc: Global, bytes: &[u8], text: &mut String) -> AllocResult<()>
     ensures { OnOk result (string_bytes text.new ≡ string_bytes text.old ++ bytes_text bytes.now) }
 {
@@ -238,11 +243,12 @@ fn append_bytes(alloc: Global, bytes: &[u8], text: &mut String) -> AllocResult<(
     text.push_str(digits.as_str())
 }
 
-/// Appends the last line: the number of items, and of the bytes that are left unread.
+/// Appends the last line: `items ITEMS rest REST`, with the number of items, and of the bytes that are left
+/// unread behind them.
 ///
 /// # Errors
 ///
-/// Where there is no memory for it. Some of the text may then be appended.
+/// `AllocError` if there is no memory for it. Some of the text may have been appended then.
 fn append_counts(items: usize, rest: usize, text: &mut String) -> AllocResult<()>
     ensures { OnOk result (string_bytes text.new
         ≡ string_bytes text.old ++ last_line items rest) }

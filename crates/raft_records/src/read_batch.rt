@@ -63,7 +63,7 @@ impl<'a> Model for ReadBatch<'a> {
 }
 
 impl<'a> ReadBatch<'a> {
-    /// Returns a batch without items, whose place is in this file.
+    /// Returns a batch without items, whose place is in the file `id`.
     pub fn new(alloc: Global, id: FileId) -> ReadBatch<'a>
         ensures { result ≡ [] }
     {
@@ -78,9 +78,10 @@ impl<'a> ReadBatch<'a> {
         }
     }
 
-    /// Reads the log batch that stands at `at` in these bytes, in place of what was held, and returns where the
-    /// next one begins; nothing at the end of the bytes. They are those of the file from `offset` on. Its items
-    /// are those of [`next_in`](crate::next_in). Without a batch no items are held.
+    /// Reads the log batch at position `at` of `bytes`, in place of the one that was held, and returns the
+    /// position of the next one, or `None` at the end of `bytes`. `bytes` are those of `file` from `offset`
+    /// on. The items are those that [`next_in`](crate::next_in) returns; without a batch there are none.
+    /// `at` must be at most the number of `bytes`, which must end below offset 2^64 of the file.
     ///
     /// # Errors
     ///
@@ -127,7 +128,7 @@ impl<'a> ReadBatch<'a> {
         Ok(Some(at + len))
     }
 
-    /// Drops all items.
+    /// Drops all items, and keeps their memory for the next batch.
     fn clear(&mut self)
         ensures { self.new ≡ [] }
     {
@@ -135,8 +136,9 @@ impl<'a> ReadBatch<'a> {
         self.spans.clear();
     }
 
-    /// Reads the item batch that the whole slice is, in place of what was held, and returns the
-    /// bytes between its last item and the checksum.
+    /// Reads `bytes`, one whole item batch with its checksum, in place of the batch that was held. `place`
+    /// is where the entry bytes of its log batch stand, and `context` the file with whose signature the
+    /// checksum is signed. Returns the bytes between the last item and the checksum.
     ///
     /// # Errors
     ///
@@ -171,8 +173,9 @@ impl<'a> ReadBatch<'a> {
         }
     }
 
-    /// Returns the place of the entry bytes, the items, and the spans of their runs, those of the first run
-    /// first. The entries and the changes of keys are as they may stand in the file of the place.
+    /// Returns the place of the entry bytes, the items, and offset and length of each entry of all runs,
+    /// those of the first run first. Entries are consecutive, and in the file of the place, as changes of
+    /// keys are: nobody needs to test it again.
     #[tactic(auto, using(crate::proofs::ReadBatchLemmas::shown_in_file))]
     pub fn parts(&self) -> (FileBlockHandle, &[ReadItem<'a>], &[(u32, u32)])
         ensures shown { items_shown result.0 result.1.now result.2.now ≡ self.now }
@@ -187,11 +190,11 @@ impl<'a> ReadBatch<'a> {
         *self.items.allocator()
     }
 
-    /// Returns a batch of the same items, with keys and values of its own.
+    /// Returns a batch of the same items, with copies of keys and values.
     ///
     /// # Errors
     ///
-    /// `Memory`.
+    /// `Memory` alone.
     pub fn to_batch(&self, alloc: Global) -> Result<LogItemBatch>
         ensures ok { IfOk result (λ batch. batch ≡ self.now) }
         ensures memory { IfErr result (λ e. e ≡ Error.Memory) }
@@ -208,7 +211,7 @@ impl<'a> ReadBatch<'a> {
     }
 }
 
-/// Returns where the bytes of these entries end; `start` where there are none.
+/// Returns where the bytes of the entries with these spans end, or `start` if there are none.
 fn end_of_spans(spans: &[(u32, u32)], start: u32) -> u32
     requires { (first : ℕ) × (place : FileBlockHandle) × Tile start
         (entries_of_block first place spans.now) }
@@ -222,7 +225,8 @@ fn end_of_spans(spans: &[(u32, u32)], start: u32) -> u32
 }
 
 impl ReadItem<'_> {
-    /// Returns how many spans the item takes from the front of those that are left in its batch.
+    /// Returns how many spans belong to the item: as many as it has entries, from the first one of those that
+    /// items before it have left.
     #[doc(hidden)]
     pub fn span_count(&self) -> usize
         ensures { result ≡ spans_taken self.now.content }
@@ -233,11 +237,12 @@ impl ReadItem<'_> {
         }
     }
 
-    /// Returns an item that says the same, with a key and a value of its own. A run has these spans.
+    /// Returns an item that says the same, with copies of key and value. The entries of a run have `spans` at
+    /// `place`.
     ///
     /// # Errors
     ///
-    /// `Memory`.
+    /// `Memory` alone.
     #[doc(hidden)]
     pub fn to_item(
         &self,
@@ -256,12 +261,12 @@ impl ReadItem<'_> {
     }
 }
 
-/// Returns what was read as content with a key and a value of its own. A run has these spans at
-/// this place.
+/// Returns what was read as the content of an item, with copies of key and value. The entries of a run have
+/// `spans` at `place`.
 ///
 /// # Errors
 ///
-/// `Memory`.
+/// `Memory` alone.
 fn own_content(
     alloc: Global,
     place: FileBlockHandle,
@@ -289,11 +294,11 @@ fn own_content(
     }
 }
 
-/// Returns the entries from the index `first` on that have these spans at this place.
+/// Returns the entries with `spans` at `place`, whose indexes rise from `first` on.
 ///
 /// # Errors
 ///
-/// `Memory`.
+/// `Memory` alone.
 fn entries_at(
     alloc: Global,
     first: u64,

@@ -98,7 +98,7 @@ fn is_read(alloc: Global, item: &LogItem, bytes: &[u8]) -> Result<bool> {
     Ok(read == *item && rest.is_empty())
 }
 
-/// Reads what stands in front of bytes after so many entry bytes, a content as that of region 7.
+/// Reads what stands at the start of bytes after so many entry bytes, a content as that of region 7.
 fn decode(alloc: Global, form: Form, buf: &mut &[u8], size: &mut u32) -> Result<LogItem> {
     let content = match form {
         Form::Item => return LogItem::decode(alloc, buf, size),
@@ -143,7 +143,7 @@ fn is_fault(read: Read, e: &Error) -> bool {
     }
 }
 
-/// Tests whether this is read in front of the bytes, and written as it was read, and cloned. What is refused stays.
+/// Tests whether this is read at the start of the bytes, and written as it was read, and cloned. What is refused stays.
 fn is_read_row(alloc: Global, row: &ReadRow) -> Result<bool> {
     let (form, bytes, read) = *row;
     let start = match form {

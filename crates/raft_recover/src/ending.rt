@@ -27,8 +27,8 @@ pub(crate) struct Program {
 }
 
 impl Program {
-    /// Prints the hint at the words that are understood, and returns the status 2. Where it can't
-    /// be printed the status is the same.
+    /// Prints the hint at the words that the program understands on `err`, and returns the status 2, also if
+    /// it can't be printed.
     pub(crate) fn misused<E: Write>(&self, err: &mut E) -> u8
         ensures { result ≡ 2 }
     {
@@ -36,8 +36,8 @@ impl Program {
         Status::Misused as u8
     }
 
-    /// Prints the word of a refusal, and returns the status 1. Where it can't be printed the status
-    /// is the same.
+    /// Prints `NAME: refused: WORD` on `err`, with the word for `error` ([`refusal`]), and returns the status
+    /// 1, also if it can't be printed.
     pub(crate) fn refused<E: Write>(&self, error: &Error, err: &mut E) -> u8
         ensures { result ≡ 1 }
     {
@@ -47,7 +47,8 @@ impl Program {
         Status::Refused as u8
     }
 
-    /// Prints why there are no words, and returns the status: 1 for want of memory, else 2.
+    /// Says on `err` why the words of a command line can't be had, and returns the status: 1 for want of
+    /// memory, which is told as a refusal; else 2, with the hint at the words.
     pub(crate) fn without_words<E: Write>(&self, error: &io::Error, err: &mut E) -> u8
         ensures memory { error_kind error.now ≡ ErrorKind.OutOfMemory → result ≡ 1 }
         ensures misused { error_kind error.now ≢ ErrorKind.OutOfMemory → result ≡ 2 }
@@ -59,7 +60,7 @@ impl Program {
     }
 }
 
-/// Returns the word of a refusal, as `corruption`, which programs print.
+/// Returns the word that programs print for `error`, such as `corruption`, `invalid-argument` or `memory`.
 #[doc(hidden)]
 pub fn refusal(error: &Error) -> &'static str
     ensures { result.now ≡ refusal_word error.now }

@@ -12,14 +12,14 @@ use std::alloc::Global;
 use std::io::Write;
 use std::thread::Threads;
 
-/// Recovers the tables of the files of a queue, as [`recover`](crate::recover) does of their bytes. 1 to 256 workers read
-/// them, each some neighboring files, piece by piece, so that no more than a piece and the longest batch of each worker
-/// are in memory.
+/// Recovers the tables of the files of a queue, as [`recover`](crate::recover) does of their bytes. 1 to 256
+/// workers read them, each some neighboring files, piece by piece, so that each has no more than a piece and
+/// the longest batch in memory.
 ///
 /// # Errors
 ///
-/// Those of [`replay_files`](raft_reading::replay_files), and `Failed` where the files name 2^63 entries, key values and
-/// deletions together, or more.
+/// Those of [`replay_files`](raft_reading::replay_files), and `Failed` if the files name 2^63 entries, key
+/// values and deletions together, or more.
 pub fn recover_files<R: Threads + Sync, S: ReadFiles>(
     rt: &R,
     alloc: Global,
@@ -41,12 +41,12 @@ pub fn recover_files<R: Threads + Sync, S: ReadFiles>(
     context.finish()
 }
 
-/// Prints the tables that the files of a queue give: the lines of [`print_recovered`].
+/// Prints the tables that `files` of `queue` give: the lines of [`print_recovered`].
 ///
 /// # Errors
 ///
-/// Those of [`recover_files`], with nothing written, and then `Io` where the writer fails: a prefix of the lines may
-/// stand then.
+/// Those of [`recover_files`]; nothing has been written then. `Io` if the writer fails; a part of the lines,
+/// from the first byte on, may have been written then.
 pub fn print_files<R: Threads + Sync, S: ReadFiles, W: Write>(
     rt: &R,
     alloc: Global,

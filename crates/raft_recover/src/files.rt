@@ -7,12 +7,12 @@ use raft_base::{Error, FileId, FileSeq, LogQueue, Result, Version};
 use raft_records::FilePart;
 use raft_replay::Segment;
 
-/// Makes a segment of each file of a queue, of one part, which has all its bytes. What is read of them is what is read
-/// of the files.
+/// Returns a segment for each of `files` of `queue`, of one part with all its bytes, which aren't copied.
+/// What is read of the segments is what is read of the files.
 ///
 /// # Errors
 ///
-/// `Memory`.
+/// `Memory` alone.
 pub fn file_segments(
     queue: LogQueue,
     version: Version,
@@ -35,8 +35,8 @@ pub fn file_segments(
     Ok(segments)
 }
 
-/// States that files of fewer than 2^63 bytes together hold a small history, since batches name no more entries, key
-/// values and deletions together than they have bytes. This is a law: it computes nothing.
+/// States that files of fewer than 2^63 bytes together have a small history, since batches don't name more
+/// entries, key values and deletions together than they have bytes. This is a law: it computes nothing.
 pub fn files_hold_few_records()
     ensures { (queue : LogQueue) (version : Version) (files : List NumberedBytes) (h : List Event)
         → FilesHold queue version files h → bytes_of_files files < 2 ^ 63 → IsSmall h }

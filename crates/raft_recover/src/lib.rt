@@ -37,6 +37,8 @@ pub use raft_replay::{
 pub use raft_shared::{SharedAccessor, Slot, shared_accessor, slot};
 pub use raft_table::{GlobalStats, MemTable, TableChange};
 pub use raft_tickets::{TicketSeat, Tickets, ticket_seat, tickets};
+#[doc(hidden)]
+pub use recovered::append_table;
 pub use recovered::print_recovered;
 #[doc(hidden)]
 pub use recovery::replay_both;

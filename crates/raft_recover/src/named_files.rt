@@ -27,6 +27,12 @@ impl<D: SharedFiles> ReadFiles for NamedFiles<'_, D> {
 
     ghost gives = { λ files. NamedGives (D.gives files.disk.now) (map path_shown files.paths.now) };
 
+    /// Appends `len` bytes of the file numbered `file.seq`, from `offset` on, to `bytes`, or fewer if the file ends before. The
+    /// queue of `file` isn't looked at.
+    ///
+    /// # Errors
+    ///
+    /// `NotFound` if no file has that number, and those of the file. Some of the bytes may have been appended then.
     fn read(&self, file: FileId, offset: u64, len: usize, bytes: &mut Vec<u8>) -> io::Result<()> {
         let Some(path) = path_of(self.paths, file.seq) else {
             return Err(io::Error::from(ErrorKind::NotFound));
@@ -35,7 +41,7 @@ impl<D: SharedFiles> ReadFiles for NamedFiles<'_, D> {
     }
 }
 
-/// Returns the path of the file with this number, of files whose numbers rise.
+/// Returns the path of the file numbered `seq`, or `None` if there is none. The numbers of `paths` rise.
 fn path_of<'a>(paths: &[(FileSeq, &'a str)], seq: FileSeq) -> Option<&'a str>
     ensures { IfSome result (λ path. IsNamed (map path_shown paths.now) seq path.now) }
 {
@@ -45,12 +51,12 @@ fn path_of<'a>(paths: &[(FileSeq, &'a str)], seq: FileSeq) -> Option<&'a str>
     }
 }
 
-/// Returns the number and the length of each file. `None` where a file has none, or the numbers don't rise: then a number
-/// may be that of two files.
+/// Returns the number and the length in bytes of each file that `paths` names. Returns `None` if one has no
+/// length, as a pipe, or the numbers don't rise, so that two files might have one number.
 ///
 /// # Errors
 ///
-/// `Io` where a file can't be read, `Memory`.
+/// `Io` if the length of a file can't be had; `Memory`.
 pub(crate) fn sizes_of<D: SharedFiles>(
     disk: &D,
     alloc: Global,
@@ -72,11 +78,11 @@ pub(crate) fn sizes_of<D: SharedFiles>(
     Ok(Some(sizes))
 }
 
-/// Prints the tables of files of these sizes, which workers read in pieces.
+/// Prints the tables of the files that `ask` names, whose lengths are `sizes`. Workers read them in pieces.
 ///
 /// # Errors
 ///
-/// `InvalidArgument` for another number of workers than 1 to 256, then those of [`print_files`].
+/// `InvalidArgument` for another number of workers than 1 to 256; then those of [`print_files`].
 pub(crate) fn print_named<S: SharedFiles + Threads, W: Write>(
     rt: &S,
     alloc: Global,

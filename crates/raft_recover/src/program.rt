@@ -30,9 +30,9 @@ recover prints the tables that log files give
 ",
 };
 
-/// Does what the words of a command line ask for, and returns the status to end with: 0 where it is
-/// done, 1 where it is refused, 2 where the words ask for nothing. A refusal and a hint at the words
-/// are a line on `err`; where that can't be written, the status is the same. Each file is read as a whole;
+/// Does what the words of a command line ask for, and returns the status to end with: 0 if it is done, 1 if
+/// it is refused, 2 if the words ask for nothing. A refusal, and a hint at the words, are a line on `err`; if
+/// that can't be written, the status is the same. Each file is read as a whole;
 /// [`run_in_pieces`](crate::run_in_pieces) needs less memory.
 pub fn run<S: Files + AllocGlobal + Threads + Sync, R: Read, W: Write, E: Write>(
     rt: &S,
@@ -63,11 +63,11 @@ pub fn run<S: Files + AllocGlobal + Threads + Sync, R: Read, W: Write, E: Write>
     }
 }
 
-/// Returns the words of the command line after the program's name.
+/// Returns the words of the command line behind the program's name.
 ///
 /// # Errors
 ///
-/// `OutOfMemory` where memory is short, `InvalidData` for a word that isn't UTF-8.
+/// `OutOfMemory` for want of memory; `InvalidData` for a word that isn't UTF-8.
 pub fn command_words<S: Env + AllocGlobal>(rt: &S) -> io::Result<Vec<String>> {
     let mut words = Vec::new(rt.alloc());
     for word in env::args(rt)?.skip(1) {
@@ -76,8 +76,8 @@ pub fn command_words<S: Env + AllocGlobal>(rt: &S) -> io::Result<Vec<String>> {
     Ok(words)
 }
 
-/// Says on `err` why the words of a command line aren't there, and returns the status to end with: 1 for want
-/// of memory, which is refused as any other, and 2 for a word that isn't UTF-8, with a hint at the words.
+/// Says on `err` why the words of a command line can't be had, and returns the status to end with: 1 for want
+/// of memory, which is told as any other refusal; 2 for a word that isn't UTF-8, with a hint at the words.
 pub fn run_without_words<E: Write>(error: &io::Error, err: &mut E) -> u8
     ensures memory { error_kind error.now ≡ ErrorKind.OutOfMemory → result ≡ 1 }
     ensures misused { error_kind error.now ≢ ErrorKind.OutOfMemory → result ≡ 2 }
@@ -85,12 +85,12 @@ pub fn run_without_words<E: Write>(error: &io::Error, err: &mut E) -> u8
     RAFTLOG.without_words(error, err)
 }
 
-/// Prints what is asked for. Files are read as a whole.
+/// Prints what `request` asks for. Files are read as a whole.
 ///
 /// # Errors
 ///
-/// Those of [`print_batch`], or of reading the files and [`recover_bytes`]. A prefix of the lines
-/// may then be printed.
+/// Those of [`print_batch`], or of reading the files and [`recover_bytes`]. A part of the lines, from the
+/// first byte on, may have been printed then.
 fn answer<S: Files + AllocGlobal + Threads + Sync, R: Read, W: Write>(
     rt: &S,
     request: Request<'_>,

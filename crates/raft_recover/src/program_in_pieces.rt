@@ -15,9 +15,10 @@ use std::io::{Read, Write};
 use std::rt::Files;
 use std::thread::Threads;
 
-/// Does what [`run`](crate::run) does, but workers read the files in pieces: no more than a piece of 4 MiB, or a longer
-/// batch, is in memory for each of them. Where a file can't be read at an offset, as a pipe, or the numbers of the files
-/// don't rise, all are read as by `run`. A file that ends before the length that it had at first is refused as `io`.
+/// Does what [`run`](crate::run) does, but workers read the files in pieces: each has no more than a piece of
+/// 4 MiB, or a longer batch, in memory. If a file can't be read at an offset, as a pipe, or the numbers of
+/// the files don't rise, all are read as [`run`](crate::run) reads them. A file that ends before the length
+/// that it had at first is refused as `io`.
 pub fn run_in_pieces<
     S: SharedFiles + Files + AllocGlobal + Threads + Sync,
     R: Read,
@@ -46,12 +47,12 @@ pub fn run_in_pieces<
     }
 }
 
-/// Prints what is asked for. Files are read in pieces, where they can be.
+/// Prints what `request` asks for. Files are read in pieces, if they can be.
 ///
 /// # Errors
 ///
-/// Those of [`print_batch`], or of reading the files and recovering them. A prefix of the lines may
-/// then be printed.
+/// Those of [`print_batch`], or of reading the files and recovering them. A part of the lines, from the first
+/// byte on, may have been printed then.
 fn answer<S: SharedFiles + Files + AllocGlobal + Threads + Sync, R: Read, W: Write>(
     rt: &S,
     request: Request<'_>,
@@ -72,13 +73,12 @@ fn answer<S: SharedFiles + Files + AllocGlobal + Threads + Sync, R: Read, W: Wri
     }
 }
 
-/// Prints the tables of the files that words name. They are read as a whole where they can't be
-/// read in pieces.
+/// Prints the tables of the files that `ask` names. They are read as a whole if they can't be read in pieces.
 ///
 /// # Errors
 ///
-/// Those of reading the files, of recovering and of printing them. A prefix of the lines may then
-/// be printed.
+/// Those of reading the files, of recovering and of printing them. A part of the lines, from the first byte
+/// on, may have been printed then.
 fn print_tables<S: SharedFiles + Files + AllocGlobal + Threads + Sync, W: Write>(
     rt: &S,
     ask: &RecoverWords<'_>,

@@ -10,12 +10,12 @@ use raft_table::{GlobalStats, MemTable};
 use std::alloc::Global;
 use std::io::Write;
 
-/// Prints the tables of all regions, a line for each by rising region, then the cleaned regions and the live counts.
+/// Prints the tables of `accessor` as [`recovered_text`] has them.
 ///
 /// # Errors
 ///
-/// `Memory`, with nothing written, and `Io` where the writer fails: a front of the lines may stand then, and not all of
-/// them.
+/// `Memory`; nothing has been written then. `Io` if the writer fails; a part of the lines, from the first
+/// byte on, but not all, may have been written then.
 pub fn print_recovered<W: Write>(
     alloc: Global,
     accessor: &MemTableAccessor,
@@ -33,11 +33,14 @@ pub fn print_recovered<W: Write>(
     write_whole(writer, text.as_bytes())
 }
 
-/// Returns the text of the tables of all regions: the lines of [`print_recovered`].
+/// Returns the text of the tables of `accessor`: a line for each by rising region, as `7 entries 10..12 keys
+/// 1 append 3 rewrite -`, with the lowest number of a file that it needs in each queue; then the cleaned
+/// regions, as `cleaned 4 9`; then the live counts of the append and the rewrite queue, as `live 3 0`. A `-`
+/// means that there is none.
 ///
 /// # Errors
 ///
-/// `Memory`.
+/// `Memory` alone.
 pub fn recovered_text(alloc: Global, accessor: &MemTableAccessor) -> Result<String>
     ensures ok { IfOk result (λ text. IsTextOfTables accessor.now (string_bytes text)) }
     ensures memory { IfErr result (λ e. e ≡ Error.Memory) }
@@ -51,7 +54,7 @@ pub fn recovered_text(alloc: Global, accessor: &MemTableAccessor) -> Result<Stri
     Ok(text)
 }
 
-/// Sorts tables by rising region.
+/// Sorts `tables` by the ids of their regions, the least first.
 fn sort_by_region(tables: &mut Vec<&MemTable>)
     ensures moved { IsPermutation tables.old.items tables.new.items }
     ensures rises { IsNonDecreasingBy (λ t. t.now.region_id) tables.new.items }
@@ -63,11 +66,11 @@ fn sort_by_region(tables: &mut Vec<&MemTable>)
     );
 }
 
-/// Appends a line for each table.
+/// Appends a line for each of `tables`.
 ///
 /// # Errors
 ///
-/// Where there is no memory for them. Some of the text may then be appended.
+/// `AllocError` if there is no memory for them. Some of the text may have been appended then.
 fn append_tables(tables: &[&MemTable], text: &mut String) -> AllocResult<()>
     ensures { OnOk result (string_bytes text.new
         ≡ string_bytes text.old ++ flat_map table_line (map (λ t. t.now) tables.now)) }
@@ -78,12 +81,14 @@ fn append_tables(tables: &[&MemTable], text: &mut String) -> AllocResult<()>
     Ok(())
 }
 
-/// Appends the line of a table: its region, entries and keys, and its least file in each queue.
+/// Appends the line of `table`: its region, the range of its indexes, the number of its keys, and the lowest
+/// number of a file that it needs in each queue, as `7 entries 10..12 keys 1 append 3 rewrite -`.
 ///
 /// # Errors
 ///
-/// Where there is no memory for it. Some of the text may then be appended.
-fn append_table(table: &MemTable, text: &mut String) -> AllocResult<()>
+/// `AllocError` if there is no memory for it. Some of the text may have been appended then.
+#[doc(hidden)]
+pub fn append_table(table: &MemTable, text: &mut String) -> AllocResult<()>
     ensures { OnOk result (string_bytes text.new ≡ string_bytes text.old ++ table_line table.now) }
 {
     write!(text, "{} entries ", table.region_id())?;
@@ -95,11 +100,11 @@ fn append_table(table: &MemTable, text: &mut String) -> AllocResult<()>
     text.push('\n')
 }
 
-/// Appends the range of a table's indexes, as `10..12` for 10 and 11, or `-` without entries.
+/// Appends the range of the indexes of `table`, as `10..12` for 10 and 11, or `-` without entries.
 ///
 /// # Errors
 ///
-/// Where there is no memory for it. Some of the text may then be appended.
+/// `AllocError` if there is no memory for it. Some of the text may have been appended then.
 fn append_range(table: &MemTable, text: &mut String) -> AllocResult<()>
     ensures { OnOk result (string_bytes text.new ≡ string_bytes text.old ++ range_text
         table.now.entries) }
@@ -112,11 +117,11 @@ fn append_range(table: &MemTable, text: &mut String) -> AllocResult<()>
     write!(text, "{first}..{end}")
 }
 
-/// Appends a file number, or `-` where there is none.
+/// Appends the file number `seq`, or `-` if there is none.
 ///
 /// # Errors
 ///
-/// Where there is no memory for it. Some of the text may then be appended.
+/// `AllocError` if there is no memory for it. Some of the text may have been appended then.
 fn append_seq(seq: Option<FileSeq>, text: &mut String) -> AllocResult<()>
     ensures { OnOk result (string_bytes text.new ≡ string_bytes text.old ++ seq_text seq) }
 {
@@ -126,11 +131,11 @@ fn append_seq(seq: Option<FileSeq>, text: &mut String) -> AllocResult<()>
     }
 }
 
-/// Appends the line of the cleaned regions, in order, or with `-` where there are none.
+/// Appends the line of the cleaned `regions`, in order, as `cleaned 4 9`, or `cleaned -` if there are none.
 ///
 /// # Errors
 ///
-/// Where there is no memory for it. Some of the text may then be appended.
+/// `AllocError` if there is no memory for it. Some of the text may have been appended then.
 fn append_cleaned(regions: &[u64], text: &mut String) -> AllocResult<()>
     ensures { OnOk result (string_bytes text.new ≡ string_bytes text.old ++ cleaned_line
         regions.now) }
@@ -145,11 +150,11 @@ fn append_cleaned(regions: &[u64], text: &mut String) -> AllocResult<()>
     text.push('\n')
 }
 
-/// Appends the line of the live counts: that of the append queue, then that of the rewrite queue.
+/// Appends the line of the live counts, of the append queue and of the rewrite queue, as `live 3 0`.
 ///
 /// # Errors
 ///
-/// Where there is no memory for it. Some of the text may then be appended.
+/// `AllocError` if there is no memory for it. Some of the text may have been appended then.
 fn append_live(stats: &GlobalStats, text: &mut String) -> AllocResult<()>
     ensures { OnOk result (string_bytes text.new ≡ string_bytes text.old ++ live_line stats.now) }
 {

@@ -16,28 +16,29 @@ use std::alloc::Global;
 use std::io::Write;
 use std::thread::{Threads, join};
 
-/// About how many bytes a share has at least: for fewer a further piece costs more than its worker saves.
+/// The least length of a share in bytes, about: for fewer a further piece costs more than its worker saves.
 const LEAST_SHARE: usize = 1 << 20;
 
-/// Recovers the tables of all regions, their cleaned regions and live counts: those of reading the batches of all
-/// segments, of one queue, in order. They are read by 1 to 256 workers. However the batches are divided into segments,
-/// it makes at most one share for each worker, all of about the same number of bytes; each worker takes the next share
-/// that is left (see [`equal_shares`]).
+/// Recovers the tables of all regions, their cleaned regions and live counts: those of reading the batches of
+/// all segments, of one queue, in order. They are read by 1 to 256 workers. However the batches are divided
+/// into segments, it makes at most one share for each worker, all of about the same number of bytes; each
+/// worker takes the next share that is left (see [`equal_shares`]).
 ///
 /// What is proved of it: for every list of segments of the queue, for every number of workers and whatever
-/// their turns, an `Ok` has what one reading of all batches in order gives, and an `Err` other than `Memory`
-/// comes only where that reading is refused too. Premises: the batches name fewer than 2^63 entries and changes
-/// of keys together, deletions too; in the rewrite queue, where the batches of a group overlap with others, they
-/// name no region that those name; the call returns.
+/// turns they take, an `Ok` has what one reading of all batches in order gives, and an `Err` other than
+/// `Memory` comes only if that reading is refused too. Premises: the batches name fewer than 2^63 entries and
+/// changes of keys together, deletions too; in the rewrite queue, if the batches of a group overlap with
+/// others, they name no region that those name; the call returns.
 ///
 /// # Errors
 ///
-/// `InvalidArgument` for another number of workers, for a part of another queue and for 2^62 segments and more, then
-/// whatever a reading returns: `Corruption`, `Codec`, or `Io` for an item that ends before its type, where a part
-/// isn't a sequence of readable batches or the batches in order can't be read. `Memory`. Whatever the number of workers
-/// and their turns, the refusal is that of the first batch in order that is refused, and its text begins with the place
-/// of that batch, as [`replay_segment`](raft_replay::replay_segment) says: where workers are refused, in a reading or a
-/// merge, the segments are read once more by one thread, up to that batch.
+/// `InvalidArgument` for another number of workers, for a part of another queue and for 2^62 segments or
+/// more; then whatever a reading returns: `Corruption`, `Codec`, or `Io` for an item that ends before its
+/// type, if a part isn't a sequence of readable batches or the batches in order can't be read. `Memory`.
+/// Whatever the number of workers and their turns, the error is that of the first batch in order that is
+/// refused, and its text begins with the place of that batch, as
+/// [`replay_segment`](raft_replay::replay_segment) says: if workers fail, in a reading or a merge, the
+/// segments are read once more by one thread, up to that batch.
 pub fn recover<R: Threads + Sync>(
     rt: &R,
     alloc: Global,
@@ -63,17 +64,19 @@ pub fn recover<R: Threads + Sync>(
 
 /// Recovers the tables of both queues: those of the append queue over those of the rewrite queue, as
 /// [`MemTableRecoverContext::merge_append_context`] puts them. The segments of each queue are read as by
-/// [`recover`]. With two workers or more both queues are read at once, and the workers are shared out by bytes.
+/// [`recover`]. With two workers or more both queues are read at once, and the workers are shared out by
+/// bytes.
 ///
 /// What is proved of it: an `Ok` has what one reading of each queue's batches in order gives, put over each
-/// other, and an `Err` other than `Memory` comes only where one of the two readings is refused. Where the append
-/// queue still has all its batches, and each rewritten record is one that it had, the records are those that the
-/// append queue gives alone (clause `whole`). Premises: those of [`recover`] for each queue.
+/// other, and an `Err` other than `Memory` comes only if one of the two readings is refused. If the append
+/// queue still has all its batches, and each rewritten record is one that it had, the records are those that
+/// the append queue gives alone (clause `whole`). Premises: those of [`recover`] for each queue.
 ///
 /// # Errors
 ///
-/// `InvalidArgument` for another number of workers, for a part of another queue and for 2^62 segments of a queue
-/// and more; then those of [`recover`] for either queue, and `Full` where both hold more than 2^64 - 1 records.
+/// `InvalidArgument` for another number of workers, for a part of another queue and for 2^62 segments of a
+/// queue or more; then those of [`recover`] for either queue, and `Full` if both together have more than 2^64
+/// - 1 records.
 pub fn recover_both<R: Threads + Sync>(
     rt: &R,
     alloc: Global,
@@ -105,12 +108,12 @@ pub fn recover_both<R: Threads + Sync>(
     both.finish()
 }
 
-/// Reads both queues as [`recover_both`] does, and returns the context that has read the rewrite queue, and the one that has read
-/// the append queue, which aren't put over each other yet.
+/// Reads both queues as [`recover_both`] does. Returns the context of the rewrite queue and that of the
+/// append queue, which aren't put over each other yet.
 ///
 /// # Errors
 ///
-/// Those of [`recover_both`], but for `Full`.
+/// Those of [`recover_both`] other than `Full`.
 #[doc(hidden)]
 pub fn replay_both<R: Threads + Sync>(
     rt: &R,
@@ -136,11 +139,12 @@ pub fn replay_both<R: Threads + Sync>(
     both_replayed(rt, alloc, rewrite, append, workers)
 }
 
-/// Reads both queues: at once by two workers or more, one after the other by one.
+/// Reads the segments `rewrite` and `append` of both queues: at once with two `workers` or more, one after
+/// the other with one. Returns the context of the rewrite queue and that of the append queue.
 ///
 /// # Errors
 ///
-/// Those of [`recover`] for either queue.
+/// Those of [`recover`] for either queue; those of the rewrite queue first.
 fn both_replayed<R: Threads + Sync>(
     rt: &R,
     alloc: Global,
@@ -178,8 +182,8 @@ fn both_replayed<R: Threads + Sync>(
     Ok((both, appended))
 }
 
-/// Returns how many of the workers read the first of two queues: as many as its part of all bytes, but one at
-/// least and not all of them.
+/// Returns how many of `workers` read the first of two queues, which have `first` and `second` bytes: as many
+/// as its share of all bytes, but at least one, and not all of them. There are two workers or more.
 #[doc(hidden)]
 pub fn part_of_workers(workers: usize, first: usize, second: usize) -> usize
     requires { 2 ≤ workers }
@@ -189,7 +193,8 @@ pub fn part_of_workers(workers: usize, first: usize, second: usize) -> usize
     (first / each).clamp(1, workers - 1)
 }
 
-/// Returns the context of a queue's segments, which workers read as shares of about one length.
+/// Returns the context of `segments`, those of `queue`, which `workers` workers read as shares of about one
+/// length.
 ///
 /// # Errors
 ///
@@ -208,9 +213,13 @@ fn replayed<R: Threads + Sync>(
     replayed_as(rt, alloc, segments, shares.as_slice(), queue, workers)
 }
 
-/// Returns the context of a queue's segments, which workers read as these shares. Where they are refused, but for want
-/// of memory, the segments are read once more, in order: so what is returned is the refusal of the first batch in order
-/// that is refused.
+/// Returns the context of a queue's segments, which workers read as `shares`. If these are refused, other
+/// than for want of memory, the segments are read once more, in order, so that the error is that of the first
+/// batch in order that is refused.
+///
+/// # Errors
+///
+/// Those of [`recover`].
 fn replayed_as<R: Threads + Sync>(
     rt: &R,
     alloc: Global,
@@ -231,7 +240,7 @@ fn replayed_as<R: Threads + Sync>(
     }
 }
 
-/// Returns the context of a queue's segments, read one after another on the caller's thread.
+/// Returns the context of `segments`, which are read one after another on the caller's thread.
 ///
 /// # Errors
 ///
@@ -246,8 +255,8 @@ fn replayed_in_turn(alloc: Global, segments: &[Segment]) -> Result<MemTableRecov
     Ok(context)
 }
 
-/// Recovers the tables as [`recover`] does, but reads the segments as they are: each worker takes the next one that is
-/// left.
+/// Recovers the tables as [`recover`] does, but reads the segments as they are: each worker takes the next
+/// one that is left.
 ///
 /// # Errors
 ///
@@ -275,13 +284,13 @@ pub fn recover_segments<R: Threads + Sync>(
     context.finish()
 }
 
-/// Prints the tables that the files of a queue give: what `raftlog recover` does once it has read them. The
-/// lines are those of [`print_recovered`].
+/// Prints the tables that `files` of `queue`, given with their numbers and bytes, give: what `raftlog
+/// recover` does once it has read them. The lines are those of [`print_recovered`].
 ///
 /// # Errors
 ///
-/// Those of [`recover`], with nothing written, and then `Io` where the writer fails: a front of the lines may
-/// stand then.
+/// Those of [`recover`]; nothing has been written then. `Io` if the writer fails; a part of the lines, from
+/// the first byte on, may have been written then.
 pub fn recover_bytes<R: Threads + Sync, W: Write>(
     rt: &R,
     alloc: Global,

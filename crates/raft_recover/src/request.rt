@@ -29,11 +29,12 @@ pub struct RecoverWords<'a> {
 }
 
 impl<'a> Request<'a> {
-    /// Returns what the words ask for, if it is something that the program does.
+    /// Returns what `words`, those of a command line, ask for, or `None` if the program does nothing of the
+    /// kind.
     ///
     /// # Errors
     ///
-    /// `Memory`, and only where they ask for something.
+    /// `Memory` alone, and only if they ask for something.
     pub fn parse(alloc: Global, words: &'a [String]) -> Result<Option<Request<'a>>>
         ensures asked { IfOk result (λ r. IfSome r (IsAsked (map string_bytes words.now))) }
         ensures refused { IfOk result (λ r. IfNone r (AsksNothing (map string_bytes words.now))) }
@@ -50,7 +51,8 @@ impl<'a> Request<'a> {
     }
 }
 
-/// Returns the file whose item batch the words ask to print; `None` where they don't.
+/// Returns the file whose item batch the words `batch <queue> <seq> <version>` ask to print, or `None` if
+/// `words` are others.
 fn batch_request(words: &[String]) -> Option<LogFileContext>
     ensures asked { IfSome result (AsksBatch (map string_bytes words.now)) }
     ensures refused { IfNone result
@@ -65,7 +67,7 @@ fn batch_request(words: &[String]) -> Option<LogFileContext>
     context_named(queue.as_str(), seq.as_str(), version.as_str())
 }
 
-/// Returns the file that the words of queue, number and version name; `None` where one isn't
+/// Returns the file that the words `queue`, `seq` and `version` name, or `None` if one of them isn't
 /// understood.
 fn context_named(queue: &str, seq: &str, version: &str) -> Option<LogFileContext>
     ensures named { IfSome result (NamesContext queue.now seq.now version.now) }
@@ -78,11 +80,12 @@ fn context_named(queue: &str, seq: &str, version: &str) -> Option<LogFileContext
     Some(LogFileContext::new(FileId::new(queue, seq), version))
 }
 
-/// Returns the recovery that the words ask for; `None` where they don't.
+/// Returns the recovery that the words `recover <queue> <version> <workers> <seq>=<path>..` ask for, or
+/// `None` for other words.
 ///
 /// # Errors
 ///
-/// `Memory`, and only where they ask for one.
+/// `Memory` alone, and only if they ask for one.
 fn recovery_request<'a>(alloc: Global, words: &'a [String]) -> Result<Option<RecoverWords<'a>>>
     ensures asked { IfOk result (λ r. IfSome r (λ recovery.
         AsksRecovery (map string_bytes words.now) (asks_for recovery))) }
@@ -117,11 +120,12 @@ fn recovery_request<'a>(alloc: Global, words: &'a [String]) -> Result<Option<Rec
     }))
 }
 
-/// Returns the numbers and paths of the files that words name; `None` where one names none.
+/// Returns the numbers and paths of the files that `words`, such as `3=logs/3.raftlog`, name, or `None` if
+/// one names no file.
 ///
 /// # Errors
 ///
-/// `Memory`, and only where each word names a file.
+/// `Memory` alone, and only if each word names a file.
 pub(crate) fn paths_named(alloc: Global, words: &[String]) -> Result<Option<Vec<(FileSeq, &str)>>>
     ensures named { IfOk result (λ r. IfSome r (λ paths.
         ArePathsNamed (map string_bytes words.now) (map path_shown paths.items))) }
@@ -140,11 +144,12 @@ pub(crate) fn paths_named(alloc: Global, words: &[String]) -> Result<Option<Vec<
     Ok(Some(paths?))
 }
 
-/// Adds a path to those that there was memory for. After an `Err` the others are only looked at.
+/// Appends `path` to those so far, unless there was no memory for one of them: the words behind it are then
+/// only looked at.
 ///
 /// # Errors
 ///
-/// `Memory`, the earlier one too.
+/// `Memory`, now or for an earlier path.
 fn with_path<'a>(
     paths: Result<Vec<(FileSeq, &'a str)>>,
     path: (FileSeq, &'a str),
@@ -161,7 +166,8 @@ fn with_path<'a>(
     Ok(paths)
 }
 
-/// Returns the number and the path of a file named as `SEQ=PATH`.
+/// Returns the number and the path of the file that `word`, as `SEQ=PATH`, names, or `None` for any other
+/// word.
 fn path_named(word: &str) -> Option<(FileSeq, &str)>
     ensures named { IfSome result (λ file. NamesPath word.now file.0 file.1.now) }
     ensures refused { IfNone result (IsPathWord word.now → ⊥) }
@@ -170,11 +176,12 @@ fn path_named(word: &str) -> Option<(FileSeq, &str)>
     Some((number_named(seq)?, path))
 }
 
-/// Reads files by their paths, one after the other.
+/// Reads the files that `named` has with their numbers and paths, one after another. Returns the number and
+/// all bytes of each.
 ///
 /// # Errors
 ///
-/// `Io` where a file can't be read, `Memory`.
+/// `Io` if a file can't be read; `Memory`.
 #[doc(hidden)]
 pub fn read_files<R: Files + AllocGlobal>(
     rt: &R,
@@ -191,7 +198,7 @@ pub fn read_files<R: Files + AllocGlobal>(
     Ok(files)
 }
 
-/// Returns the queue that a word names.
+/// Returns the queue that `word` names, `append` or `rewrite`, or `None` for any other word.
 pub(crate) fn queue_named(word: &str) -> Option<LogQueue>
     ensures named { IfSome result (λ queue. word.now ≡ queue_word queue) }
     ensures refused { IfNone result ((queue : LogQueue) → word.now ≡ queue_word queue → ⊥) }
@@ -203,7 +210,7 @@ pub(crate) fn queue_named(word: &str) -> Option<LogQueue>
     }
 }
 
-/// Returns the format version that a word names.
+/// Returns the format version that `word` names, `1` or `2`, or `None` for any other word.
 pub(crate) fn version_named(word: &str) -> Option<Version>
     ensures named { IfSome result (λ version. word.now ≡ version_word version) }
     ensures refused { IfNone result ((version : Version) → word.now ≡ version_word version → ⊥) }
@@ -215,7 +222,8 @@ pub(crate) fn version_named(word: &str) -> Option<Version>
     }
 }
 
-/// Returns the number that a word spells in decimal digits, without a sign.
+/// Returns the number that `word` spells in decimal digits, without a sign, or `None` for any other word,
+/// also if the number is above 2^64 - 1.
 fn number_named(word: &str) -> Option<u64>
     ensures named { IfSome result (IsNumberWord word.now) }
     ensures refused { IfNone result ((n : ℕ) → IsNumberWord word.now n → ⊥) }

@@ -10,7 +10,7 @@ use raft_replay::cutting::{batch_length, header_in};
 use raft_replay::segment::queue_name;
 use std::alloc::Global;
 
-/// How many bytes a header has.
+/// The length of the header of a log batch, in bytes.
 const HEADER_LEN: usize = 16;
 
 /// Whether a batch has an entry block, and whether that ends in its checksum.
@@ -41,8 +41,7 @@ pub enum Finding {
 }
 
 impl Finding {
-    /// Tests whether a batch stands there that can be read, whose entry block, if it has one, is
-    /// whole.
+    /// Tests whether a batch was found that can be read, and its entry block, if it has one, is whole.
     fn is_undamaged(&self) -> bool
         ensures { result ≡ is_undamaged self.now }
     {
@@ -52,8 +51,9 @@ impl Finding {
         }
     }
 
-    /// Returns where the scan goes on behind what it found at `at`: behind a batch, and with
-    /// `past_damage` also behind damage with a header that says its length. `None`: it ends.
+    /// Returns the position at which a scan goes on behind what it found at position `at`: behind a batch
+    /// and, with `past_damage`, behind damage with a header that says its length. Returns `None` if the scan
+    /// ends.
     fn next_after(self, at: usize, past_damage: bool) -> Option<usize>
         requires { EndsWithin (2 ^ 64 - 1) at self }
         ensures { result ≡ next_after past_damage at self }
@@ -66,14 +66,15 @@ impl Finding {
     }
 }
 
-/// Appends what a scan of a part finds: a line for each batch, with its file, its offset, its length, how many items
-/// it has and whether its entry block can be read, and a line where no batch can be read, with the reason. The scan
-/// ends there, or with `past_damage` goes on where a header that can be read says that the next batch begins. Where it
-/// comes to the end of the part, that is a line too. Returns whether all can be read.
+/// Appends what a scan of a part finds: a line for each batch with its file, its offset, its length, the
+/// number of its items and the state of its entry block, as `append file 3 offset 0 length 34 items 1 entries
+/// whole`, and a line where no batch can be read, with the reason. The scan ends there or, with
+/// `past_damage`, goes on where a header says that the next batch begins. At the end of the part a line says
+/// so. Returns whether everything can be read.
 ///
 /// # Errors
 ///
-/// `Memory`. Some lines may then be appended.
+/// `Memory` alone. Some lines may have been appended then.
 pub fn append_scan(
     alloc: Global,
     part: &FilePart,
@@ -100,18 +101,18 @@ pub fn append_scan(
     Ok(undamaged)
 }
 
-/// Returns whether both are true, where `&&` would leave the second one out.
+/// Returns whether `first` and `second` are both true. (Unlike `&&`, it always computes the second one.)
 pub(crate) fn both(first: bool, second: bool) -> bool
     ensures { result ≡ first && second }
 {
     first && second
 }
 
-/// Finds what stands at a byte of a part, in front of its end.
+/// Returns what is at position `at` of a part, before its end.
 ///
 /// # Errors
 ///
-/// `Memory`.
+/// `Memory` alone.
 fn found_at(alloc: Global, part: &FilePart, at: usize) -> Result<Finding>
     requires { at < length part.now.bytes }
     ensures ok { IfOk result (IsFound part.now at) }
@@ -124,7 +125,8 @@ fn found_at(alloc: Global, part: &FilePart, at: usize) -> Result<Finding>
     }
 }
 
-/// Returns the finding of a batch that can be read at a byte of a part.
+/// Returns the finding for `batch`, which can be read at position `at` of `part`. `next` is the position behind it; only the
+/// contract needs it.
 fn batch_at(alloc: Global, part: &FilePart, at: usize, batch: &LogItemBatch, next: usize) -> Finding
     requires { IsBatchAt part.now at batch.now next }
     ensures { IsFound part.now at result }
@@ -140,11 +142,11 @@ fn batch_at(alloc: Global, part: &FilePart, at: usize, batch: &LogItemBatch, nex
     }
 }
 
-/// Returns the finding of a byte of a part at which no batch can be read, for this reason.
+/// Returns the finding for position `at` of a part at which no batch can be read, for this reason.
 ///
 /// # Errors
 ///
-/// `Memory`, where that is the reason.
+/// `Memory`, if that is the reason.
 fn damage_found(alloc: Global, part: &FilePart, at: usize, reason: Error) -> Result<Finding>
     requires inside { at ≤ length part.now.bytes }
     requires none { reason ≢ Error.Memory
@@ -165,8 +167,8 @@ fn damage_found(alloc: Global, part: &FilePart, at: usize, reason: Error) -> Res
     }
 }
 
-/// Returns whether the batch at `at` has an entry block, and whether that is whole. The items begin
-/// `items_at` bytes behind.
+/// Returns whether the batch at position `at` has an entry block, and whether its checksum holds. The items
+/// begin `items_at` bytes behind `at`.
 fn block_state(part: &FilePart, at: usize, items_at: usize) -> BlockState
     requires header { 16 ≤ items_at }
     requires inside { at + items_at ≤ length part.now.bytes }
@@ -186,11 +188,11 @@ fn block_state(part: &FilePart, at: usize, items_at: usize) -> BlockState
     }
 }
 
-/// Appends the line of what was found at a byte of a part.
+/// Appends the line of what was found at position `at` of a part.
 ///
 /// # Errors
 ///
-/// Where there is no memory for it. Some of the text may then be appended.
+/// `AllocError` if there is no memory for it. Some of the text may have been appended then.
 fn append_finding(part: &FilePart, at: usize, found: &Finding, text: &mut String) -> AllocResult<()>
     requires { at ≤ length part.now.bytes }
     ensures { OnOk result
@@ -210,11 +212,11 @@ fn append_finding(part: &FilePart, at: usize, found: &Finding, text: &mut String
     }
 }
 
-/// Appends the line for the end of a part.
+/// Appends the line for the end of `part`, as `append file 3 offset 1024 end`.
 ///
 /// # Errors
 ///
-/// Where there is no memory for it. Some of the text may then be appended.
+/// `AllocError` if there is no memory for it. Some of the text may have been appended then.
 fn append_end(part: &FilePart, text: &mut String) -> AllocResult<()>
     ensures { OnOk result (string_bytes text.new ≡ string_bytes text.old ++ end_line part.now) }
 {
@@ -222,11 +224,12 @@ fn append_end(part: &FilePart, text: &mut String) -> AllocResult<()>
     text.push_str(" end\n")
 }
 
-/// Appends the queue, the number of the file and the offset in the file of a byte of a part.
+/// Appends the queue, the number of the file, and the offset in the file of position `at` of a part, as
+/// `append file 3 offset 1024`.
 ///
 /// # Errors
 ///
-/// Where there is no memory for it. Some of the text may then be appended.
+/// `AllocError` if there is no memory for it. Some of the text may have been appended then.
 fn append_place(part: &FilePart, at: usize, text: &mut String) -> AllocResult<()>
     requires { at ≤ length part.now.bytes }
     ensures { OnOk result
@@ -238,7 +241,7 @@ fn append_place(part: &FilePart, at: usize, text: &mut String) -> AllocResult<()
     write!(text, "{queue} file {} offset {offset}", id.seq)
 }
 
-/// Returns the word for the state of an entry block.
+/// Returns the word for the state `block` of an entry block: `none`, `whole` or `broken`.
 fn block_word(block: BlockState) -> &'static str
     ensures { result.now ≡ block_word block }
 {
@@ -249,7 +252,7 @@ fn block_word(block: BlockState) -> &'static str
     }
 }
 
-/// Returns why no batch can be read, in words.
+/// Returns `reason`, why no batch can be read, in words.
 fn reason_text(reason: &Error) -> &str
     ensures { result.now ≡ reason_text reason.now }
 {

@@ -32,9 +32,9 @@ pub struct ScanWords<'a> {
     pub paths: Vec<(FileSeq, &'a str)>,
 }
 
-/// Prints what scans of the files find that the words of a command line name, and returns the status to end with: 0
-/// where all can be read, 1 where something can't, 2 where the words ask for no scan. A refusal and a hint at the
-/// words are a line on `err`; where that can't be written, the status is the same.
+/// Prints what scans of the files find that the words of a command line name, and returns the status to end
+/// with: 0 if everything can be read, 1 if something can't, 2 if the words ask for no scan. A refusal, and a
+/// hint at the words, are a line on `err`; if that can't be written, the status is the same.
 pub fn run_scan<S: Files + AllocGlobal, W: Write, E: Write>(
     rt: &S,
     words: &[String],
@@ -63,7 +63,7 @@ pub fn run_scan<S: Files + AllocGlobal, W: Write, E: Write>(
     }
 }
 
-/// Says on `err` why the words of a command line aren't there, and returns the status to end with: 1 for want
+/// Says on `err` why the words of a command line can't be had, and returns the status to end with: 1 for want
 /// of memory, 2 for a word that isn't UTF-8, with a hint at the words.
 pub fn scan_without_words<E: Write>(error: &io::Error, err: &mut E) -> u8
     ensures memory { error_kind error.now ≡ ErrorKind.OutOfMemory → result ≡ 1 }
@@ -72,11 +72,12 @@ pub fn scan_without_words<E: Write>(error: &io::Error, err: &mut E) -> u8
     SCAN.without_words(error, err)
 }
 
-/// Returns the scan that the words ask for; `None` where they ask for none.
+/// Returns the scan that the words `[--past-damage] <queue> <version> <seq>=<path>..` ask for, or `None` for
+/// other words.
 ///
 /// # Errors
 ///
-/// `Memory`, and only where they ask for one.
+/// `Memory` alone, and only if they ask for one.
 fn scan_request<'a>(alloc: Global, words: &'a [String]) -> Result<Option<ScanWords<'a>>>
     ensures asked { IfOk result (λ r. IfSome r (λ scan.
         AsksScan (map string_bytes words.now) (scan_asked scan))) }
@@ -93,12 +94,12 @@ fn scan_request<'a>(alloc: Global, words: &'a [String]) -> Result<Option<ScanWor
     files_request(alloc, false, words)
 }
 
-/// Returns the scan of the files that words of queue, version and paths name; `None` where they
-/// name none.
+/// Returns the scan of the files that the words `<queue> <version> <seq>=<path>..` name, or `None` for other
+/// words. With `past` it goes on past damage.
 ///
 /// # Errors
 ///
-/// `Memory`, and only where they name some.
+/// `Memory` alone, and only if they name files.
 fn files_request(alloc: Global, past: bool, words: &[String]) -> Result<Option<ScanWords<'_>>>
     ensures asked { IfOk result (λ r. IfSome r (λ scan. (scan.past_damage ≡ past)
         × NamesFiles (map string_bytes words.now) (scan_asked scan))) }
@@ -128,12 +129,12 @@ fn files_request(alloc: Global, past: bool, words: &[String]) -> Result<Option<S
     }))
 }
 
-/// Reads the files, and prints what scans of them find. Returns whether all can be read.
+/// Reads the files of `scan`, and prints what scans of them find. Returns whether everything can be read.
 ///
 /// # Errors
 ///
-/// `Io` where a file can't be read or the writer fails, `Memory`. A prefix of the lines may then be
-/// printed.
+/// `Io` if a file can't be read or the writer fails; `Memory`. A part of the lines, from the first byte on,
+/// may have been printed then.
 fn print<S: Files + AllocGlobal, W: Write>(rt: &S, scan: ScanWords<'_>, out: &mut W) -> Result<bool>
     ensures done { (words : List (List ℕ)) → AsksScan words (scan_asked scan.entry)
         → IfOk result
@@ -149,11 +150,12 @@ fn print<S: Files + AllocGlobal, W: Write>(rt: &S, scan: ScanWords<'_>, out: &mu
     Ok(undamaged)
 }
 
-/// Appends what scans of the files find, one after another. Returns whether all can be read.
+/// Appends what scans of `files` find, one after another, as `scan` asks for them. Returns whether everything
+/// can be read.
 ///
 /// # Errors
 ///
-/// `Memory`. Some lines may then be appended.
+/// `Memory` alone. Some lines may have been appended then.
 fn append_scans(
     alloc: Global,
     scan: &ScanWords<'_>,

@@ -17,18 +17,20 @@ pub trait SharedFiles: Sync {
     /// A read of the file at this path, from this offset on, may fail so: in any way, if nothing else is said.
     ghost may_fail: { Self → List ℕ → ℕ → IoError → Type 0 } = { λ _ _ _ _. Unit {0} };
 
-    /// Returns how many bytes the file has; `None` where it can't be read at an offset, as a pipe can't.
+    /// Returns the length of the file at `path` in bytes, or `None` if it can't be read at an offset, as a
+    /// pipe.
     ///
     /// # Errors
     ///
-    /// Those of the file, also where it may not be read.
+    /// Those of the file, also if it may not be read.
     fn file_len(&self, path: &str) -> io::Result<Option<u64>>;
 
-    /// Puts `len` bytes of the file, from `offset` on, behind those of `bytes`; fewer where the file ends before.
+    /// Appends `len` bytes of the file at `path`, from `offset` on, to `bytes`, or fewer if the file ends
+    /// before.
     ///
     /// # Errors
     ///
-    /// Those of the file. Some of the bytes may have been put there then.
+    /// Those of the file. Some of the bytes may have been appended then.
     fn read_file(&self, path: &str, offset: u64, len: usize, bytes: &mut Vec<u8>) -> io::Result<()>
         ensures ok { OnOk result (IsAppended (gives self.now path.now offset) bytes.old.items
             bytes.new.items) }
@@ -37,6 +39,12 @@ pub trait SharedFiles: Sync {
 
 /// Regular files are read at an offset, and opened for each read: so any number of files needs few that are open.
 impl SharedFiles for HostRuntime {
+    /// Returns the length of the regular file at `path` in bytes, or `None` for anything else. The file is
+    /// opened for that, so that it is known that it may be read.
+    ///
+    /// # Errors
+    ///
+    /// Those of the system.
     fn file_len(&self, path: &str) -> io::Result<Option<u64>> {
         if !fs::metadata(self, path)?.is_file() {
             return Ok(None);
@@ -44,6 +52,12 @@ impl SharedFiles for HostRuntime {
         Ok(Some(fs::open(self, path)?.metadata()?.len()))
     }
 
+    /// Opens the file at `path`, and appends `len` bytes from `offset` on to `bytes`, or fewer if it ends
+    /// before.
+    ///
+    /// # Errors
+    ///
+    /// Those of the system. Some of the bytes may have been appended then.
     fn read_file(
         &self,
         path: &str,

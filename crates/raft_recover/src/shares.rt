@@ -12,14 +12,14 @@ use std::mem;
 /// How many parts a part is cut into for each share that it fills, so that shares end near where they should.
 const PARTS_PER_SHARE: usize = 4;
 
-/// Divides the parts of segments into `count` segments at most, the shares, of about one length each, and of
-/// `least` bytes or more where there are as many: neighboring parts are put together, and a part that is longer
-/// than a share is cut between batches. The parts of the shares, one after another, have the bytes of those of the
+/// Divides the parts of segments into at most `count` segments, the *shares*, of about one length, `least`
+/// bytes or more if there are as many. Neighboring parts are put together, and a part that is longer than a
+/// share is cut between batches. The parts of the shares, one after another, have the bytes of those of the
 /// segments, each at its offset in its file, and what is read of them is the same. No byte is copied.
 ///
 /// # Errors
 ///
-/// `Memory`.
+/// `Memory` alone.
 pub fn equal_shares(
     alloc: Global,
     segments: &[Segment],
@@ -51,12 +51,11 @@ pub(crate) fn bytes_of(segments: &[Segment]) -> usize {
     bytes
 }
 
-/// Returns the parts of all segments, in order, those of the length of a share or more cut between
-/// batches.
+/// Returns the parts of all segments, in order; those of `share` bytes or more are cut between batches.
 ///
 /// # Errors
 ///
-/// `Memory`.
+/// `Memory` alone.
 fn short_parts(alloc: Global, segments: &[Segment], share: usize) -> Result<Vec<FilePart>>
     requires { 0 < share }
     ensures cut { IfOk result (λ parts. AreDivided (parts_within segments.entry.now) parts.items) }
@@ -69,11 +68,11 @@ fn short_parts(alloc: Global, segments: &[Segment], share: usize) -> Result<Vec<
     Ok(parts)
 }
 
-/// Appends the parts of a segment, those of the length of a share or more cut between batches.
+/// Appends the parts of a segment to `to`; those of `share` bytes or more are cut between batches.
 ///
 /// # Errors
 ///
-/// `Memory`. Some parts may then be appended.
+/// `Memory` alone. Some parts may have been appended then.
 fn append_short(alloc: Global, from: &Segment, share: usize, to: &mut Vec<FilePart>) -> Result<()>
     requires { 0 < share }
     ensures cut { (these : List Part) → AreDivided these to.old.items
@@ -87,11 +86,12 @@ fn append_short(alloc: Global, from: &Segment, share: usize, to: &mut Vec<FilePa
     Ok(())
 }
 
-/// Puts each part into the share in which its middle lies.
+/// Puts each part into the share in which its middle lies, where each of `count` shares has `share` bytes.
+/// Returns the shares that have parts, but at least one.
 ///
 /// # Errors
 ///
-/// `Memory`.
+/// `Memory` alone.
 fn shares_of(parts: Vec<FilePart>, share: usize, count: usize) -> Result<Vec<Segment>>
     requires { (0 < share) × (0 < count) }
     ensures same { IfOk result (λ shares. parts_within shares.items ≡ parts.items) }
@@ -115,12 +115,12 @@ fn shares_of(parts: Vec<FilePart>, share: usize, count: usize) -> Result<Vec<Seg
     Ok(shares)
 }
 
-/// Ends the last share where `ends` says so, unless it is empty or is the last of `count`: it is
-/// moved to the others, and a new one begins.
+/// If `ends`, moves the share `last` to `shares`, and begins a new one; but not if it is empty, or is the
+/// last one of `count`.
 ///
 /// # Errors
 ///
-/// `Memory`. The share is then lost.
+/// `Memory` alone. The share is lost then.
 fn end_share(shares: &mut Vec<Segment>, last: &mut Segment, ends: bool, count: usize) -> Result<()>
     ensures same { OnOk result (parts_within shares.new.items ++ last.new.items ≡ parts_within
         shares.old.items ++ last.old.items) }

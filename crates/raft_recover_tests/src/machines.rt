@@ -2,7 +2,7 @@
 
 mod brackets;
 mod cut_parts;
-mod list_machine;
+pub(crate) mod list_machine;
 mod many;
 mod refusals;
 
@@ -336,23 +336,33 @@ fn no_worker_waits_for_another(rt: HostRuntime) {
     }
 }
 
-/// Returns how many merges of four machines saw that two had begun.
-fn merges<R: Threads + Clock + Send + Sync + Copy + Drop>(rt: &R, alloc: Global) -> Result<u64> {
+/// Merges four machines of a batch each by pairs. Returns whether all batches are there, in order, and how many merges saw
+/// that two had begun.
+fn merges<R: Threads + Clock + Send + Sync + Copy + Drop>(
+    rt: &R,
+    alloc: Global,
+) -> Result<(bool, u64)> {
     let gate = WaitGate::new(*rt, alloc, (0, 0), 0)?;
     let mut machines = Vec::new(alloc);
-    for _ in 0..4 {
-        machines.push(gate.new_target(alloc)?)?;
+    for seq in 0..4 {
+        let mut machine = gate.new_target(alloc)?;
+        replay_segment(&mut machine, &segment(alloc, LogQueue::Append, seq)?)?;
+        machines.push(machine)?;
     }
-    merge_pieces(rt, machines, &pairs(alloc)?, LogQueue::Append)?;
-    Ok(gate.seen.load(Ordering::SeqCst))
+    let merged = merge_pieces(rt, machines, &pairs(alloc)?, LogQueue::Append)?;
+    Ok((has_all(&merged.list, 4), gate.seen.load(Ordering::SeqCst)))
 }
 
-/// Lets four workers replay four segments. Returns how many of the four passes saw them all made, how many of the four
-/// replays saw that their segment was passed, and how many of the three merges saw that two had begun.
-fn works<R: Threads + Clock + Send + Sync + Copy + Drop>(rt: &R, alloc: Global) -> Result<u64> {
+/// Lets four workers replay four segments. Returns whether all batches are there, in order, and together how many of the four
+/// passes saw them all made, how many of the four replays saw that their segment was passed, and how many of the three merges
+/// saw that two had begun.
+fn works<R: Threads + Clock + Send + Sync + Copy + Drop>(
+    rt: &R,
+    alloc: Global,
+) -> Result<(bool, u64)> {
     let four = segments(alloc, 4)?;
     let gate = WaitGate::new(*rt, alloc, (0, 4), 4)?;
-    let _merged: Waits<R> = replay_segments(
+    let merged: Waits<R> = replay_segments(
         rt,
         alloc,
         &gate,
@@ -361,11 +371,11 @@ fn works<R: Threads + Clock + Send + Sync + Copy + Drop>(rt: &R, alloc: Global) 
         4,
         &gate,
     )?;
-    Ok(gate.seen.load(Ordering::SeqCst))
+    Ok((has_all(&merged.list, 4), gate.seen.load(Ordering::SeqCst)))
 }
 
 #[test]
 fn workers_and_branches_go_at_once(rt: HostRuntime) {
-    assert!(rt; matches!(again!(merges(&rt, rt.alloc())), Ok(3)));
-    assert!(rt; matches!(again!(works(&rt, rt.alloc())), Ok(11)));
+    assert!(rt; matches!(again!(merges(&rt, rt.alloc())), Ok((true, 3))));
+    assert!(rt; matches!(again!(works(&rt, rt.alloc())), Ok((true, 11))));
 }

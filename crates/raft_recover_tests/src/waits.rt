@@ -1,5 +1,6 @@
 //! A workers' gate and a machine that wait for one another's threads.
 
+use crate::machines::list_machine::List;
 use raft_base::{Factory, FileId, LogQueue, Result};
 use raft_records::LogItemBatch;
 use raft_recover::{Gate, ReplayMachine};
@@ -60,13 +61,18 @@ impl<R: Clock + Send + Sync + Drop> Gate for WaitGate<R> {
 
 /// Makes machines that see the gate's passes.
 impl<R: Clock + Send + Sync + Copy + Drop> Factory<Waits<R>> for WaitGate<R> {
-    ghost gives = { λ _ _. Unit {0} };
+    ghost use Rattle.std.specs.Prelude.{◌≡◌, []};
+
+    ghost gives = { λ _ m. m.list.kept.items ≡ [] };
 
     ghost may_refuse = { λ _ _. Unit {0} };
 
-    fn new_target(&self, _alloc: Global) -> Result<Waits<R>> {
+    fn new_target(&self, alloc: Global) -> Result<Waits<R>> {
         Ok(Waits {
             rt: self.rt,
+            list: List {
+                kept: Vec::new(alloc),
+            },
             passed: Arc::try_clone(&self.passed)?,
             begun: Arc::try_clone(&self.begun)?,
             seen: Arc::try_clone(&self.seen)?,
@@ -74,35 +80,39 @@ impl<R: Clock + Send + Sync + Copy + Drop> Factory<Waits<R>> for WaitGate<R> {
     }
 }
 
-/// A machine whose replays look whether the segment of the file's number was passed, and whose merges wait
-/// until two have begun.
+/// A machine that keeps a list of batches, whose replays look whether the segment of the file's number was passed, and whose
+/// merges wait until two have begun.
 #[derive(Drop)]
 pub(crate) struct Waits<R: Drop> {
     rt: R,
+    pub(crate) list: List,
     passed: Arc<AtomicU64, Global>,
     begun: Arc<AtomicU64, Global>,
     seen: Arc<AtomicU64, Global>,
 }
 
 impl<R: Clock + Send + Drop> ReplayMachine for Waits<R> {
-    ghost stands_for = { λ _ _. Unit {0} };
+    ghost use Rattle.std.specs.Prelude.{◌≡◌, map};
+    ghost use Rattle.raft_memtable.specs.ReplayMachine.{event};
 
-    ghost stands_exactly = { λ _ _. Unit {0} };
+    ghost stands_for = { λ m h. map (λ k. event k.batch k.file) m.list.kept.items ≡ h };
 
-    ghost exact_stands = { λ _ _ _. tt };
+    ghost stands_exactly = { λ m h. map (λ k. event k.batch k.file) m.list.kept.items ≡ h };
 
-    fn replay(&mut self, _batch: LogItemBatch, file_id: FileId) -> Result<()> {
+    ghost exact_stands = { λ m h e. e };
+
+    fn replay(&mut self, batch: LogItemBatch, file_id: FileId) -> Result<()> {
         if self.passed.load(Ordering::SeqCst) & bit(file_id.seq) != 0 {
             self.seen.fetch_add(1, Ordering::SeqCst);
         }
-        Ok(())
+        self.list.replay(batch, file_id)
     }
 
-    fn merge(&mut self, _rhs: Self, _queue: LogQueue) -> Result<()> {
+    fn merge(&mut self, rhs: Self, queue: LogQueue) -> Result<()> {
         self.begun.fetch_add(1, Ordering::SeqCst);
         if is_reached(&self.rt, &self.begun, 2) {
             self.seen.fetch_add(1, Ordering::SeqCst);
         }
-        Ok(())
+        self.list.merge(rhs.list, queue)
     }
 }

@@ -32,7 +32,13 @@ pub(crate) static BATCHES: [Call; 6] = [
     ),
 ];
 
-/// Adds the approximate size of a batch of these steps, its length and its bytes.
+/// Makes a batch of `steps`, signs it for the append file numbered `seq` of this `version`, and adds lines
+/// with its approximate size, its length and its bytes. What each call leaves if it returns `Memory` is noted
+/// in `found`.
+///
+/// # Errors
+///
+/// That of the first call that fails, also when it is tried again.
 pub(crate) fn encode_steps(
     found: &mut Found,
     steps: &[Step],
@@ -42,32 +48,44 @@ pub(crate) fn encode_steps(
     let file = LogFileContext::new(FileId::new(LogQueue::Append, seq), version);
     let mut batch = LogBatch::default(found.alloc);
     for step in steps {
-        add_again(found, &mut batch, *step)?;
+        add_and_retry(found, &mut batch, *step)?;
     }
-    seal_again(found, &mut batch, &file)
+    seal_and_retry(found, &mut batch, &file)
 }
 
-/// Adds a step; where there is no memory the batch has to be as it was.
-fn add_again(found: &mut Found, batch: &mut LogBatch, step: Step) -> Result<()> {
+/// Adds `step` to `batch`. If that returns `Memory`, it notes in `found` whether the batch is unchanged, and
+/// tries once more.
+///
+/// # Errors
+///
+/// Those of [`add_step`]; `Memory` also if there is none for a copy of the batch.
+fn add_and_retry(found: &mut Found, batch: &mut LogBatch, step: Step) -> Result<()> {
     let before = batch.clone()?;
     call_twice!(found; add_step(found.alloc, batch, step); *batch == before)
 }
 
-/// Makes and signs a batch's bytes; where there is no memory it has to be as it was.
-fn seal_again(found: &mut Found, batch: &mut LogBatch, file: &LogFileContext) -> Result<()> {
+/// Makes the bytes of `batch`, signs them for `file`, and adds lines with its approximate size, its length
+/// and its bytes, in hexadecimal digits. If the bytes can't be made for want of memory, it notes in `found`
+/// whether the batch is unchanged, and tries once more.
+///
+/// # Errors
+///
+/// Those of [`finish_batch`]; `Memory`.
+fn seal_and_retry(found: &mut Found, batch: &mut LogBatch, file: &LogFileContext) -> Result<()> {
     let before = batch.clone()?;
     let size = batch.approximate_size();
     let len = call_twice!(found; finish_batch(batch); *batch == before)?;
     let alloc = found.alloc;
-    found.line(format!(in alloc; "size {size} length {len}")?.as_str())?;
+    found.append_line(format!(in alloc; "size {size} length {len}")?.as_str())?;
     if batch.is_open() {
         return Err(Error::Failed);
     }
     batch.prepare_write(file);
-    found.bytes(batch.encoded_bytes())
+    found.append_hex_line(batch.encoded_bytes())
 }
 
-/// Makes the bytes of an open batch, and returns how many they are.
+/// Makes the bytes of an open batch, and returns how many they are: [`LogBatch::finish_populate`], which may
+/// be called for open batches alone.
 ///
 /// # Errors
 ///
@@ -79,45 +97,66 @@ fn finish_batch(batch: &mut LogBatch) -> Result<usize> {
     batch.finish_populate()
 }
 
-/// Puts two batches with entries together, and adds what both are then.
-pub(crate) fn merge_two(found: &mut Found) -> Result<()> {
+/// Merges a batch with entries into another one, and adds lines with the bytes of both.
+///
+/// # Errors
+///
+/// That of the first call that fails.
+pub(crate) fn merge_two_batches(found: &mut Found) -> Result<()> {
     let mut batch = batch_of(found.alloc, &[Step::Run(7, 1, 3), Step::Clean(2)])?;
     let mut behind = batch_of(
         found.alloc,
         &[Step::Run(8, 1, 30), Step::Put(3, b"k", b"v")],
     )?;
-    merge_behind(found, &mut batch, &mut behind)?;
+    merge_batch_behind(found, &mut batch, &mut behind)?;
     let file = LogFileContext::new(FileId::new(LogQueue::Append, 12), Version::V1);
-    seal_again(found, &mut batch, &file)?;
-    seal_again(found, &mut behind, &file)
+    seal_and_retry(found, &mut batch, &file)?;
+    seal_and_retry(found, &mut behind, &file)
 }
 
-/// Moves the items of a batch into another; where there is no memory both have to be as they were.
-fn merge_behind(found: &mut Found, batch: &mut LogBatch, behind: &mut LogBatch) -> Result<()> {
+/// Moves the items of `behind` to the end of `batch`. If that returns `Memory`, it notes in `found` whether
+/// both are unchanged.
+///
+/// # Errors
+///
+/// `Failed` if one of them isn't open; those of [`LogBatch::merge`].
+fn merge_batch_behind(
+    found: &mut Found,
+    batch: &mut LogBatch,
+    behind: &mut LogBatch,
+) -> Result<()> {
     let before = batch.clone()?;
     let behind_before = behind.clone()?;
     if !batch.is_open() || !behind.is_open() {
         return Err(Error::Failed);
     }
     let answer = batch.merge(behind);
-    found.look(!is_refused(&answer) || *batch == before && *behind == behind_before);
+    found.note_state(!is_refused(&answer) || *batch == before && *behind == behind_before);
     answer
 }
 
-/// Adds lines with the three group markers of a group, each in a batch of its own.
+/// Adds lines with the bytes of three batches: the `Begin`, a `Middle` and the `End` of a group.
+///
+/// # Errors
+///
+/// That of the first call that fails.
 pub(crate) fn mark_group(found: &mut Found) -> Result<()> {
     let mut builder = AtomicGroupBuilder::with_id(9);
     for _ in 0..3 {
         let mut batch = LogBatch::default(found.alloc);
         add_next_marker(found, &mut builder, &mut batch)?;
         let file = LogFileContext::new(FileId::new(LogQueue::Rewrite, 1), Version::V1);
-        seal_again(found, &mut batch, &file)?;
+        seal_and_retry(found, &mut batch, &file)?;
     }
     Ok(())
 }
 
-/// Adds the group marker that follows the builder's last one; where there is no memory batch and builder have to be as
-/// they were.
+/// Adds the group marker to `batch` that comes next in the group of `builder`: its `Begin`, then a `Middle`,
+/// then its `End`. If that returns `Memory`, it notes in `found` whether batch and builder are unchanged.
+///
+/// # Errors
+///
+/// `Failed` for a batch that isn't open, and for a group that has ended; `Memory`.
 fn add_next_marker(
     found: &mut Found,
     builder: &mut AtomicGroupBuilder,
@@ -134,6 +173,6 @@ fn add_next_marker(
         Some(AtomicGroupStatus::Middle) => builder.end(batch),
         Some(AtomicGroupStatus::End) => Err(Error::Failed),
     };
-    found.look(!is_refused(&answer) || *batch == before && builder.state() == state);
+    found.note_state(!is_refused(&answer) || *batch == before && builder.state() == state);
     answer
 }

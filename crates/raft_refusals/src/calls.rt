@@ -23,9 +23,9 @@ pub(crate) enum Call {
     ReadBatch(&'static [u8], Version, FileSeq),
     /// Steps are added to a batch, which is signed for the append file of a version and a number.
     Batch(&'static [Step], Version, FileSeq),
-    /// The batch at an offset of a part of so many bytes is read.
+    /// A batch is read from a part with this many bytes of `BYTES`, at this position.
     Next(usize, usize),
-    /// The header of so many bytes is read.
+    /// A header is read from this many bytes of `BYTES`.
     Header(usize),
     /// The entry bytes of a block of this length are read.
     Block(usize),
@@ -49,14 +49,14 @@ pub(crate) enum Call {
     /// What the context of a history holds is counted.
     Count(History),
     Tickets,
-    /// The pieces that so many segments make are counted.
+    /// The pieces are counted that this many segments make if these workers draw them.
     CountPieces(usize, &'static [usize]),
     Recover(History, How),
     PrintBatch(&'static [u8]),
     PrintFile(&'static [u8]),
 }
 
-/// Returns the calls of a row.
+/// Returns the calls of the row named `row`, such as `items` or `batches`, or none if no row has that name.
 fn calls_of(row: &str) -> &'static [Call] {
     match row {
         "items" => &ITEMS,
@@ -83,11 +83,20 @@ fn calls_of(row: &str) -> &'static [Call] {
     }
 }
 
-/// Makes the calls of a row, and adds what each gives, or why it is refused.
-pub(crate) fn make_all<R: Threads + Sync>(rt: &R, found: &mut Found, row: &str) -> Result<()> {
+/// Makes the calls of the row named `row`, and adds lines with what each gives, or with the word for its
+/// error. If no row has that name, a line says so.
+///
+/// # Errors
+///
+/// `Memory` from a call, after which no further one is made.
+pub(crate) fn make_all_calls<R: Threads + Sync>(
+    rt: &R,
+    found: &mut Found,
+    row: &str,
+) -> Result<()> {
     let calls = calls_of(row);
     if calls.is_empty() {
-        return found.line("there is no such row");
+        return found.append_line("there is no such row");
     }
     for call in calls {
         if let Err(error) = make_call(rt, found, *call) {
@@ -97,7 +106,11 @@ pub(crate) fn make_all<R: Threads + Sync>(rt: &R, found: &mut Found, row: &str) 
     Ok(())
 }
 
-/// Makes a call, and adds what it gives.
+/// Makes one `call`, and adds lines with what it gives.
+///
+/// # Errors
+///
+/// That of the call.
 fn make_call<R: Threads + Sync>(rt: &R, found: &mut Found, call: Call) -> Result<()> {
     match call {
         Call::Read(form, bytes) => items::read_item(found, form, bytes),
@@ -105,12 +118,12 @@ fn make_call<R: Threads + Sync>(rt: &R, found: &mut Found, call: Call) -> Result
             found, bytes, version, seq,
         ),
         Call::Batch(steps, version, seq) => batches::encode_steps(found, steps, version, seq),
-        Call::Next(len, at) => parts::next(found, len, at),
+        Call::Next(len, at) => parts::read_next_batch(found, len, at),
         Call::Header(len) => parts::read_header(found, len),
         Call::Block(len) => parts::read_entry_block(found, len),
         Call::Cut(version) => parts::cut_by_batches(found, version),
-        Call::Change(changes) => tables::change_all(found, changes),
-        Call::Write(calls) => writes::write_all(found, calls),
+        Call::Change(changes) => tables::make_all_changes(found, changes),
+        Call::Write(calls) => writes::make_write_calls(found, calls),
         Call::MergeTables(older, newer, is_append) => {
             writes::merge_accessors(found, older, newer, is_append)
         }

@@ -8,19 +8,32 @@ use raft_memtable::{Error, FileId, LogItemBatch, LogQueue, MemTableRecoverContex
 use raft_records::{FilePart, next_batch};
 use raft_recover::Segment;
 
-/// Adds what a history gives, with a context for each batch.
+/// Reads each batch of `history` with a context of its own, merges the contexts, and adds the lines of the
+/// tables that this gives.
+///
+/// # Errors
+///
+/// That of the first call that fails.
 pub(crate) fn merge_history(found: &mut Found, history: History) -> Result<()> {
     let context = merge_batches(found, history.queue, history.batches)?;
     print_context(found, context)
 }
 
-/// Adds the lines of a context's tables.
+/// Ends `context`, and adds the lines of its tables, as [`print_tables`] does.
+///
+/// # Errors
+///
+/// `Failed` for a failed context; `Memory`.
 fn print_context(found: &mut Found, context: MemTableRecoverContext) -> Result<()> {
     let tables = context.finish()?;
     print_tables(found, &tables)
 }
 
-/// Merges the contexts of batches.
+/// Returns the context of `batches` of `queue`, each of which is read by a context of its own.
+///
+/// # Errors
+///
+/// Those of [`merge_segments`].
 fn merge_batches(
     found: &mut Found,
     queue: LogQueue,
@@ -30,7 +43,12 @@ fn merge_batches(
     merge_segments(found, queue, segments.as_slice())
 }
 
-/// Merges the contexts of segments from the first on.
+/// Reads each of `segments` with a context of its own, and returns these contexts merged, from the first one
+/// on. If a merge is refused, it notes in `found` whether the context is failed.
+///
+/// # Errors
+///
+/// That of the first reading or merge that is refused; `Memory`.
 fn merge_segments(
     found: &mut Found,
     queue: LogQueue,
@@ -40,27 +58,32 @@ fn merge_segments(
     for segment in segments {
         let newer = read_segment(found, segment)?;
         let answer = context.merge(newer, queue);
-        check_failed(found, &mut context, &answer);
+        note_failed_context(found, &mut context, &answer);
         answer?;
     }
     Ok(context)
 }
 
-/// Returns a context of a segment.
+/// Returns a context that has read the first batch of each part of `segment`.
+///
+/// # Errors
+///
+/// Those of [`replay_first_batch`].
 fn read_segment(found: &mut Found, segment: &Segment) -> Result<MemTableRecoverContext> {
     let mut context = MemTableRecoverContext::new(found.alloc)?;
     for part in segment {
-        replay_first(found, &mut context, part)?;
+        replay_first_batch(found, &mut context, part)?;
     }
     Ok(context)
 }
 
-/// Replays the first batch of a part, and looks whether the context takes no more after a refusal.
+/// Reads the first batch of `part` into `context`; a part without bytes has none. If the batch is refused, it
+/// notes in `found` whether the context is failed.
 ///
 /// # Errors
 ///
 /// Those of [`next_batch`] and [`MemTableRecoverContext::replay`].
-fn replay_first(
+fn replay_first_batch(
     found: &mut Found,
     context: &mut MemTableRecoverContext,
     part: &FilePart,
@@ -69,22 +92,33 @@ fn replay_first(
         return Ok(());
     };
     let answer = context.replay(batch, part.id());
-    check_failed(found, context, &answer);
+    note_failed_context(found, context, &answer);
     answer
 }
 
-/// Tests that a context returns `Failed` after a refusal.
-fn check_failed(found: &mut Found, context: &mut MemTableRecoverContext, answer: &Result<()>) {
+/// Notes in `found`, if `answer` is an error, whether further calls of `context` return `Failed`: a `replay`
+/// and a `kept`.
+fn note_failed_context(
+    found: &mut Found,
+    context: &mut MemTableRecoverContext,
+    answer: &Result<()>,
+) {
     if answer.is_ok() {
         return;
     }
     let file = FileId::new(LogQueue::Append, u64::MAX);
     let again = context.replay(LogItemBatch::default(found.alloc), file);
     let kept = context.kept();
-    found.look(matches!(again, Err(Error::Failed)) && matches!(kept, Err(Error::Failed)));
+    found.note_state(matches!(again, Err(Error::Failed)) && matches!(kept, Err(Error::Failed)));
 }
 
-/// Adds what the append queue's context over the rewrite queue's gives.
+/// Reads the histories `rewritten` and `appended`, puts the context of the append queue over that of the
+/// rewrite queue, and adds the lines of the tables that this gives. If that is refused, it notes in `found`
+/// whether the context is failed.
+///
+/// # Errors
+///
+/// That of the first call that fails.
 pub(crate) fn overlay_histories(
     found: &mut Found,
     rewritten: &[Batch],
@@ -93,35 +127,48 @@ pub(crate) fn overlay_histories(
     let mut context = merge_batches(found, LogQueue::Rewrite, rewritten)?;
     let append = merge_batches(found, LogQueue::Append, appended)?;
     let answer = context.merge_append_context(append);
-    check_failed(found, &mut context, &answer);
+    note_failed_context(found, &mut context, &answer);
     answer?;
     print_context(found, context)
 }
 
-/// Adds a line with what a context holds after 20 batches that put one key. It is counted without memory.
+/// Adds a line with what a context holds after 20 batches that put the same key.
+///
+/// # Errors
+///
+/// That of the first call that fails.
 pub(crate) fn count_puts(found: &mut Found) -> Result<()> {
     let mut context = MemTableRecoverContext::new(found.alloc)?;
     for seq in 1..21u64 {
         let file = FileId::new(LogQueue::Append, seq);
         let part = part_of(found.alloc, file, 0, &[Step::Put(1, b"k", b"v")])?;
-        replay_first(found, &mut context, &part)?;
+        replay_first_batch(found, &mut context, &part)?;
     }
     print_kept(found, &context)
 }
 
-/// Adds a line with what the context of a history holds.
+/// Adds a line with what the context of `history` holds.
+///
+/// # Errors
+///
+/// That of the first call that fails.
 pub(crate) fn count_kept(found: &mut Found, history: History) -> Result<()> {
     let context = merge_batches(found, history.queue, history.batches)?;
     print_kept(found, &context)
 }
 
-/// Adds a line with what a context holds.
+/// Adds a line with what `context` holds, in numbers, as `entries 5 keys 1 marks 2 deleted 0 cleaned 0
+/// waiting 3`.
+///
+/// # Errors
+///
+/// `Failed` for a failed context; `Memory`.
 fn print_kept(found: &mut Found, context: &MemTableRecoverContext) -> Result<()> {
     let kept = context.kept()?;
     let alloc = found.alloc;
     let (entries, keys, marks) = (kept.entries, kept.keys, kept.marks);
     let (deleted, cleaned, waiting) = (kept.deleted_keys, kept.cleaned, kept.waiting_items);
-    found.line(format!(in alloc;
+    found.append_line(format!(in alloc;
         "entries {entries} keys {keys} marks {marks} deleted {deleted} cleaned {cleaned} waiting {waiting}"
     )?.as_str())
 }

@@ -11,14 +11,14 @@ use std::alloc::Global;
 pub(crate) struct Found {
     pub(crate) alloc: Global,
     pub(crate) lines: Vec<u8>,
-    /// Whether whatever has to stand after a refusal stood each time.
+    /// False once a refused call has left something else than it must leave.
     pub(crate) stands: bool,
     /// Whether a call that was made again found no memory either.
     pub(crate) is_in_vain: bool,
 }
 
 impl Found {
-    /// Makes one of a row that has found nothing yet.
+    /// Returns the results of a row that has made no call yet.
     pub(crate) fn new(alloc: Global) -> Found {
         Found {
             alloc,
@@ -28,39 +28,57 @@ impl Found {
         }
     }
 
-    /// Adds a line.
-    pub(crate) fn line(&mut self, text: &str) -> Result<()> {
+    /// Appends `text` and a line feed.
+    ///
+    /// # Errors
+    ///
+    /// `Memory` alone. A part of the line may have been appended then.
+    pub(crate) fn append_line(&mut self, text: &str) -> Result<()> {
         self.lines.extend_from_slice(text.as_bytes())?;
         self.lines.push(b'\n')?;
         Ok(())
     }
 
-    /// Adds a line with bytes in base 16, `-` where there are none.
-    pub(crate) fn bytes(&mut self, bytes: &[u8]) -> Result<()> {
+    /// Appends a line with `bytes` in hexadecimal digits, or `-` if there are none.
+    ///
+    /// # Errors
+    ///
+    /// `Memory` alone. A part of the line may have been appended then.
+    pub(crate) fn append_hex_line(&mut self, bytes: &[u8]) -> Result<()> {
         if bytes.is_empty() {
-            return self.line("-");
+            return self.append_line("-");
         }
         let digits = hex::encode(self.alloc, bytes)?;
-        self.line(digits.as_str())
+        self.append_line(digits.as_str())
     }
 
-    /// Looks at what a refusal left: `stands` tells whether it is what has to stand.
-    pub(crate) fn look(&mut self, stands: bool) {
+    /// Notes whether a refused call has left what it must leave: `stands` is the result of that test. One
+    /// `false` counts for the whole row.
+    pub(crate) fn note_state(&mut self, stands: bool) {
         if !stands {
             self.stands = false;
         }
     }
 
-    /// Adds the word of a refusal; want of memory is handed on.
+    /// Appends a line with the word for `error`.
+    ///
+    /// # Errors
+    ///
+    /// `Memory` if `error` is that: it ends the row, and isn't told in a line.
     pub(crate) fn add_refusal(&mut self, error: Error) -> Result<()> {
         if matches!(error, Error::Memory) {
             return Err(error);
         }
-        self.line(refusal_word(&error))
+        self.append_line(refusal_word(&error))
     }
 
-    /// Hands on the result of a call that was made again.
-    pub(crate) fn note_second<T>(&mut self, answer: Result<T>) -> Result<T>
+    /// Returns `answer`, the result of a call that was made again because the first try found no memory.
+    /// Notes if there was none again.
+    ///
+    /// # Errors
+    ///
+    /// That of `answer`.
+    pub(crate) fn note_second_try<T>(&mut self, answer: Result<T>) -> Result<T>
         ensures { result ≡ answer }
     {
         if is_refused(&answer) {
@@ -70,14 +88,14 @@ impl Found {
     }
 }
 
-/// Makes a call; where there is no memory, looks whether what has to stand stands, and makes it again.
+/// Makes a call. If it returns `Memory`, notes in `$found` whether `$stands` holds, and makes the call once more.
 macro_rules! call_twice {
     ($found:ident; $call:expr; $stands:expr) => {{
         let mut answer = $call;
         if crate::found::is_refused(&answer) {
-            $found.look($stands);
+            $found.note_state($stands);
             answer = $call;
-            answer = $found.note_second(answer);
+            answer = $found.note_second_try(answer);
         }
         answer
     }};
@@ -85,20 +103,21 @@ macro_rules! call_twice {
 
 pub(crate) use call_twice;
 
-/// Tests whether a call found no memory.
+/// Tests whether `answer`, that of a call, is `Memory`.
 pub(crate) fn is_refused<T>(answer: &Result<T>) -> bool {
     matches!(answer, Err(Error::Memory))
 }
 
-/// Returns the word for a result.
-pub(crate) fn word_of<T>(answer: &Result<T>) -> &'static str {
+/// Returns the word for `answer`, the result of a call: `ok`, or that of its error ([`refusal_word`]).
+pub(crate) fn answer_word<T>(answer: &Result<T>) -> &'static str {
     match answer {
         Ok(_) => "ok",
         Err(error) => refusal_word(error),
     }
 }
 
-/// Returns the word of a refusal.
+/// Returns the word that the lines have for `error`: `compacted` and `not-found` for entries that aren't
+/// there, else the word that `raftlog` prints, such as `corruption`.
 fn refusal_word(error: &Error) -> &'static str {
     match error {
         Error::EntryCompacted => "compacted",

@@ -204,7 +204,12 @@ pub(crate) static OVERLAYS: [Call; 5] = [
 /// A context of 20 batches that put one key, and one with groups that aren't whole.
 pub(crate) static KEPT: [Call; 2] = [Call::CountPuts, Call::Count(REWRITTEN)];
 
-/// Returns the batches as segments of one part each.
+/// Returns a segment for each of `batches`, with one part that has the batch alone. A batch with the file
+/// number 0 stands for a segment without parts.
+///
+/// # Errors
+///
+/// Those of [`part_of`]; `Memory`.
 pub(crate) fn batch_segments(
     alloc: Global,
     queue: LogQueue,
@@ -223,7 +228,11 @@ pub(crate) fn batch_segments(
     Ok(segments)
 }
 
-/// Returns a part of a file, which is a batch of these steps.
+/// Returns a part of `file`, from `offset` on, with the bytes of one batch of `steps`.
+///
+/// # Errors
+///
+/// Those of [`sealed_batch`]; `InvalidArgument` if the bytes would end behind 2^64 - 1; `Memory`.
 pub(crate) fn part_of(
     alloc: Global,
     file: FileId,

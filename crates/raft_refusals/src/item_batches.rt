@@ -40,33 +40,52 @@ static ENTRIES: [Change; 5] = [
     Change::Entries(1, 18_446_744_073_709_551_613, (128, 16_384)),
 ];
 
-/// Adds a line with the bytes of a batch without items, and one with those of a batch of several.
-pub(crate) fn encode_both(found: &mut Found) -> Result<()> {
+/// Adds a line with the bytes of an item batch without items, and one with those after all of `CHANGES` were
+/// made.
+///
+/// # Errors
+///
+/// That of the first call that fails.
+pub(crate) fn encode_both_batches(found: &mut Found) -> Result<()> {
     let mut batch = LogItemBatch::default(found.alloc);
-    encode_again(found, &mut batch)?;
+    encode_and_retry(found, &mut batch)?;
     for change in &CHANGES {
-        change_again(found, &mut batch, *change)?;
+        change_and_retry(found, &mut batch, *change)?;
     }
-    encode_again(found, &mut batch)
+    encode_and_retry(found, &mut batch)
 }
 
-/// Adds a line with the bytes of a batch of entries alone. Its first item and its fifth find no room in what it has.
+/// Adds a line with the bytes of an item batch with five items of entries. For the first and the fifth of
+/// them the batch needs more memory for its list of items.
+///
+/// # Errors
+///
+/// That of the first call that fails.
 pub(crate) fn add_entries(found: &mut Found) -> Result<()> {
     let mut batch = LogItemBatch::default(found.alloc);
     for change in &ENTRIES {
-        change_again(found, &mut batch, *change)?;
+        change_and_retry(found, &mut batch, *change)?;
     }
-    encode_again(found, &mut batch)
+    encode_and_retry(found, &mut batch)
 }
 
-/// Makes a change; where there is no memory the batch has to be as it was.
-fn change_again(found: &mut Found, batch: &mut LogItemBatch, change: Change) -> Result<()> {
+/// Makes `change` of `batch`. If that returns `Memory`, it notes in `found` whether the batch is unchanged,
+/// and tries once more.
+///
+/// # Errors
+///
+/// Those of [`change_batch`]; `Memory` also if there is none for a copy of the batch.
+fn change_and_retry(found: &mut Found, batch: &mut LogItemBatch, change: Change) -> Result<()> {
     let before = batch.clone()?;
     call_twice!(found; change_batch(found.alloc, batch, change);
         *batch == before && batch.entries_size() == before.entries_size())
 }
 
-/// Makes a change of a batch.
+/// Makes `change` of `batch`: adds the item that it names, or merges another batch.
+///
+/// # Errors
+///
+/// Those of the call of the batch.
 fn change_batch(alloc: Global, batch: &mut LogItemBatch, change: Change) -> Result<()> {
     match change {
         Change::Command(index) => batch.add_command(1, Command::Compact { index }),
@@ -77,11 +96,13 @@ fn change_batch(alloc: Global, batch: &mut LogItemBatch, change: Change) -> Resu
         }
         Change::Delete(key) => batch.delete(1, Vec::from_slice(alloc, key)?),
         Change::Merge => merge_commands(alloc, batch),
-        Change::Entries(region, first, lengths) => add_two(alloc, batch, region, first, lengths),
+        Change::Entries(region, first, lengths) => add_two_entries(
+            alloc, batch, region, first, lengths,
+        ),
     }
 }
 
-/// Returns an entry with so many bytes.
+/// Returns an entry with this index and a length of `entry_len` bytes, and no place.
 fn entry_of_len(index: u64, entry_len: u32) -> EntryIndex
     ensures index { result.index ≡ index }
     ensures len { result.entry_len ≡ entry_len }
@@ -93,12 +114,14 @@ fn entry_of_len(index: u64, entry_len: u32) -> EntryIndex
     }
 }
 
-/// Adds two entries of these lengths, the first of them at the index `first`.
+/// Adds an item with two entries of `region`, at the indexes `first` and `first + 1`, of these lengths in
+/// bytes.
 ///
 /// # Errors
 ///
-/// `Failed` where their bytes or indexes pass what a call may be asked; `Memory`.
-fn add_two(
+/// `Failed` if the batch has more than 1,000,000 entry bytes or `first + 1` would be above 2^64 - 2;
+/// `Memory`.
+fn add_two_entries(
     alloc: Global,
     batch: &mut LogItemBatch,
     region: u64,
@@ -116,14 +139,22 @@ fn add_two(
     batch.add_entry_indexes(region, entries)
 }
 
-/// Adds a value of a key of region 1.
+/// Adds a put of `value` under `key` of region 1.
+///
+/// # Errors
+///
+/// `Memory` alone. The batch is unchanged then.
 fn put_value(alloc: Global, batch: &mut LogItemBatch, key: &[u8], value: &[u8]) -> Result<()> {
     let value = Vec::from_slice(alloc, value)?;
     batch.put(1, Vec::from_slice(alloc, key)?, value)
 }
 
-/// Moves two commands of another batch behind the batch's own items. A batch with entries stays as
-/// it is.
+/// Moves two commands, of the regions 2 and 3, from another batch to the end of `batch`. A batch with entry
+/// bytes stays as it is.
+///
+/// # Errors
+///
+/// `Memory` alone. The batch is unchanged then.
 fn merge_commands(alloc: Global, batch: &mut LogItemBatch) -> Result<()> {
     let mut behind = LogItemBatch::default(alloc);
     behind.add_command(2, Command::Clean)?;
@@ -134,11 +165,16 @@ fn merge_commands(alloc: Global, batch: &mut LogItemBatch) -> Result<()> {
     batch.merge(&mut behind)
 }
 
-/// Writes the bytes of a batch after another byte; where there is no memory that stands alone.
-fn encode_again(found: &mut Found, batch: &mut LogItemBatch) -> Result<()> {
+/// Adds a line with `21`, the byte that the bytes of `batch` are appended to, and these. If the batch can't
+/// be encoded for want of memory, it notes in `found` whether that byte is still alone, and tries once more.
+///
+/// # Errors
+///
+/// `Memory` alone.
+fn encode_and_retry(found: &mut Found, batch: &mut LogItemBatch) -> Result<()> {
     let mut out = Vec::from_slice(found.alloc, b"!")?;
     call_twice!(found; batch.encode(&mut out); out.as_slice() == [b'!'].as_slice())?;
-    found.bytes(out.as_slice())
+    found.append_hex_line(out.as_slice())
 }
 
 pub(crate) static ITEM_BATCHES: [Call; 7] = [
@@ -155,7 +191,13 @@ pub(crate) static ITEM_BATCHES: [Call; 7] = [
     Call::ReadBatch(b"\x8d\xef\x02\xd2", Version::V1, 12),
 ];
 
-/// Reads bytes, and adds a line with how many items they are; where there is no memory the slice has to be as it was.
+/// Reads `bytes` as an item batch of the append file numbered `seq`, and adds a line with the number of its
+/// items and of the bytes behind the last one, as `items 1 rest 0`. If that returns `Memory`, it notes in
+/// `found` whether the slice is unchanged.
+///
+/// # Errors
+///
+/// Those of [`LogItemBatch::decode`].
 pub(crate) fn read_batch(
     found: &mut Found,
     bytes: &[u8],
@@ -171,8 +213,8 @@ pub(crate) fn read_batch(
     let alloc = found.alloc;
     let mut buf = bytes;
     let answer = LogItemBatch::decode(alloc, &mut buf, place, CompressionType::None, &context);
-    found.look(!is_refused(&answer) || buf == bytes);
+    found.note_state(!is_refused(&answer) || buf == bytes);
     let batch = answer?;
     let items = batch.iter().as_slice().len();
-    found.line(format!(in alloc; "items {items} rest {}", buf.len())?.as_str())
+    found.append_line(format!(in alloc; "items {items} rest {}", buf.len())?.as_str())
 }

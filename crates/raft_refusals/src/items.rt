@@ -50,7 +50,12 @@ pub(crate) static ITEMS: [Call; 18] = [
     Call::Read(Form::Item, b"\x01\x02\x07"),
 ];
 
-/// Reads what stands at the front of the bytes in this form.
+/// Reads a value of this form from the start of `buf`, which is moved behind it. `size` is the number of
+/// entry bytes so far, and is raised by those of the entries that are read.
+///
+/// # Errors
+///
+/// Those of the `decode` of the form's type. `buf` and `size` are unchanged then.
 fn decode_form(alloc: Global, form: Form, buf: &mut &[u8], size: &mut u32) -> Result<Content> {
     match form {
         Form::Command => Ok(Content::Command(Command::decode(alloc, buf)?)),
@@ -60,7 +65,11 @@ fn decode_form(alloc: Global, form: Form, buf: &mut &[u8], size: &mut u32) -> Re
     }
 }
 
-/// Appends the bytes of what was read.
+/// Appends the bytes of `content` to `out`.
+///
+/// # Errors
+///
+/// Those of its `encode`. `out` is unchanged then.
 fn encode_item(content: &Content, out: &mut Vec<u8>) -> Result<()> {
     match content {
         Content::Command(command) => command.encode(out),
@@ -70,17 +79,22 @@ fn encode_item(content: &Content, out: &mut Vec<u8>) -> Result<()> {
     }
 }
 
-/// Reads bytes, and adds a line with them, written again after another byte. Where there is no memory slice and running
-/// offset have to be as they were, and that byte stands alone.
+/// Reads `bytes` as a value of this form, and adds a line with `21` and the bytes that the value is written
+/// as. If a call returns `Memory`, it notes in `found` whether it has changed nothing: the slice and the
+/// number of entry bytes for a reading, the byte `21` for a writing.
+///
+/// # Errors
+///
+/// Those of [`decode_form`] and [`encode_item`].
 pub(crate) fn read_item(found: &mut Found, form: Form, bytes: &[u8]) -> Result<()> {
     let mut buf = bytes;
     let mut size = 0u32;
     let read = decode_form(found.alloc, form, &mut buf, &mut size);
-    found.look(!is_refused(&read) || buf == bytes && size == 0);
+    found.note_state(!is_refused(&read) || buf == bytes && size == 0);
     let content = read?;
     let mut out = Vec::from_slice(found.alloc, b"!")?;
     let answer = encode_item(&content, &mut out);
-    found.look(!is_refused(&answer) || out.as_slice() == [b'!'].as_slice());
+    found.note_state(!is_refused(&answer) || out.as_slice() == [b'!'].as_slice());
     answer?;
-    found.bytes(out.as_slice())
+    found.append_hex_line(out.as_slice())
 }

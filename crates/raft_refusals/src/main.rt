@@ -1,5 +1,5 @@
-//! Makes the calls of a row, again where one finds no memory, and prints what they give: `raft_refusals
-//! ROW..`, and of all rows without a word. What has to stand after a refusal is looked at, by value.
+//! Makes the calls of the rows that the words name, as in `raft_refusals ROW..`, or of all rows, and prints what they give. A
+//! call that returns `Memory` is made once more, and what it has left is compared by value with what was there before.
 #![tactic(auto)]
 
 mod batches;
@@ -61,7 +61,12 @@ const ROWS: [&str; 31] = [
     "prints",
 ];
 
-/// Prints what the rows find that the words name, or all without a word.
+/// Prints the results of the rows that the words of the command line name, or of all rows if there is no
+/// word. If the words can't be had, it asks for them once more, and then prints `memory`.
+///
+/// # Errors
+///
+/// Those of the output.
 fn main(rt: HostRuntime) -> io::Result<()> {
     let mut words = command_words(&rt);
     if words.is_err() {
@@ -84,8 +89,14 @@ fn main(rt: HostRuntime) -> io::Result<()> {
     }
 }
 
-/// Prints what a row finds; `memory` where it ends for want of it, `left otherwise` where a refusal left
-/// anything else than what has to stand.
+/// Prints the name of the row, makes its calls, and prints their lines. If a call returns `Memory`, and
+/// wasn't made again already, the whole row is made once more. Prints `left otherwise` before the lines if a
+/// refused call has left something else than it must leave, and `memory`, or the error, in place of the lines
+/// if the row fails.
+///
+/// # Errors
+///
+/// Those of the output.
 fn print_row<R: Threads + Wait + Print + AllocGlobal + Sync>(rt: &R, row: &str) -> io::Result<()> {
     let mut found = Found::new(rt.alloc());
     println!(rt; "{row}:")?;
@@ -104,20 +115,24 @@ fn print_row<R: Threads + Wait + Print + AllocGlobal + Sync>(rt: &R, row: &str) 
     }
 }
 
-/// Makes the calls of a row.
+/// Makes the calls of the row named `row`, and adds their lines to `found`.
+///
+/// # Errors
+///
+/// `Memory`, or another error that ends the row.
 fn call_row<R: Threads + Wait + Sync>(rt: &R, row: &str, found: &mut Found) -> Result<()> {
     match row {
         "numbers" => numbers::encode_numbers(found),
-        "item-batches" => item_batches::encode_both(found),
+        "item-batches" => item_batches::encode_both_batches(found),
         "item-batch-entries" => item_batches::add_entries(found),
-        "batch-merge" => batches::merge_two(found),
+        "batch-merge" => batches::merge_two_batches(found),
         "groups" => batches::mark_group(found),
         "fetches" => tables::fetch_all(found),
         "regions" => writes::call_at_regions(found),
         "take" => writes::take_cleaned(found),
-        "shared" => shared::call_all(rt, found),
+        "shared" => shared::make_shared_calls(rt, found),
         "shared-take" => shared::take_cleaned(rt, found),
         "slot-take" => shared::take_from_slot(found),
-        _ => calls::make_all(rt, found, row),
+        _ => calls::make_all_calls(rt, found, row),
     }
 }

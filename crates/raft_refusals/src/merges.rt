@@ -3,9 +3,9 @@
 ghost use Rattle.raft_memtable.specs.Table.{IsCounted};
 
 use crate::calls::Call;
-use crate::found::{Found, is_refused, word_of};
-use crate::seen::number_of_table;
-use crate::tables::{Change, REGION, change_of, shape};
+use crate::found::{Found, answer_word, is_refused};
+use crate::seen::hash_of_table;
+use crate::tables::{Change, REGION, change_of, ends_and_files};
 use raft_memtable::{Error, GlobalStats, LogQueue, MemTable, Result};
 use std::alloc::Global;
 
@@ -145,8 +145,12 @@ struct Counted {
 }
 
 impl Counted {
-    /// Returns a table that was changed so.
-    fn after(alloc: Global, changes: &[Change]) -> Result<Counted> {
+    /// Returns an empty table after `changes`, with the counts of its records.
+    ///
+    /// # Errors
+    ///
+    /// Those of [`MemTable::change`]; `Memory`.
+    fn with_changes(alloc: Global, changes: &[Change]) -> Result<Counted> {
         let mut counted = Counted {
             table: MemTable::new(alloc, REGION),
             stats: GlobalStats::default(),
@@ -157,19 +161,23 @@ impl Counted {
         Ok(counted)
     }
 
-    /// Makes a change of the table.
+    /// Makes one change of the table, and counts it.
+    ///
+    /// # Errors
+    ///
+    /// Those of [`MemTable::change`]; `Memory`. The table is unchanged then.
     fn change(&mut self, alloc: Global, change: Change) -> Result<()> {
         let change = change_of(alloc, change)?;
         self.table.change(change, &mut self.stats)?;
         Ok(())
     }
 
-    /// Merges a newer table of the same region into this one, as an appended one or as the newer
-    /// neighbor.
+    /// Merges `newer` into this table, as an appended table if `is_append`, else as its newer neighbor.
     ///
     /// # Errors
     ///
-    /// `Failed` for a table of another region; those of the merge.
+    /// `Failed` for a table of another region; those of [`MemTable::merge_append_table`] or
+    /// [`MemTable::merge_newer_neighbor`].
     fn merge(&mut self, newer: &mut MemTable, is_append: bool) -> Result<()> {
         if self.table.region_id() != newer.region_id() {
             return Err(Error::Failed);
@@ -181,8 +189,8 @@ impl Counted {
         }
     }
 
-    /// Returns how many records are live in the append queue, were written to the rewrite queue, and were deleted from
-    /// it.
+    /// Returns how many records are live in the append queue, how many were written to the rewrite queue, and
+    /// how many of these were deleted again.
     fn counts(&self) -> (usize, usize, usize) {
         (
             self.stats.live_entries(LogQueue::Append),
@@ -191,51 +199,61 @@ impl Counted {
         )
     }
 
-    /// Tests whether the live records that are counted are those of the table.
+    /// Tests whether as many records of `queue` are counted as live as the table has.
     fn is_counted(&self, queue: LogQueue) -> bool {
         self.stats.live_entries(queue) as u128 == self.table.records(queue)
     }
 }
 
-/// Merges a newer table into an older one, and adds what that returns, and both tables then. The older one has to agree
-/// with its counts, also where there is no memory; both have to be as they were where the merge is refused otherwise.
+/// Merges the table that the changes `newer` give into the one that the changes `older` give, and adds a line
+/// with the result and both tables. It notes in `found` whether the counts agree with the table, after
+/// `Memory` too, and whether both tables are unchanged after any other error.
+///
+/// # Errors
+///
+/// `Memory`, and those of the changes. Other errors of the merge are told in the line.
 pub(crate) fn merge_tables(
     found: &mut Found,
     older: &[Change],
     newer: &[Change],
     is_append: bool,
 ) -> Result<()> {
-    let mut older = Counted::after(found.alloc, older)?;
-    let mut newer = Counted::after(found.alloc, newer)?.table;
+    let mut older = Counted::with_changes(found.alloc, older)?;
+    let mut newer = Counted::with_changes(found.alloc, newer)?.table;
     let before = (
-        number_of_table(&older.table),
+        hash_of_table(&older.table),
         older.counts(),
-        number_of_table(&newer),
+        hash_of_table(&newer),
     );
     let answer = older.merge(&mut newer, is_append);
-    found.look(older.is_counted(LogQueue::Append) && older.is_counted(LogQueue::Rewrite));
-    found.look(older.table.region_id() == REGION && newer.region_id() == REGION);
+    found.note_state(older.is_counted(LogQueue::Append) && older.is_counted(LogQueue::Rewrite));
+    found.note_state(older.table.region_id() == REGION && newer.region_id() == REGION);
     if is_refused(&answer) {
         return answer;
     }
     let after = (
-        number_of_table(&older.table),
+        hash_of_table(&older.table),
         older.counts(),
-        number_of_table(&newer),
+        hash_of_table(&newer),
     );
-    found.look(answer.is_ok() || after == before);
-    print_merged(found, word_of(&answer), &older, &newer)
+    found.note_state(answer.is_ok() || after == before);
+    print_merged(found, answer_word(&answer), &older, &newer)
 }
 
-/// Adds lines with what a merge returned, and with both tables then.
+/// Adds a line with `is`, the word for the result of a merge, and what both tables have: indexes, blocks,
+/// keys, least files and counts.
+///
+/// # Errors
+///
+/// `Memory` alone.
 fn print_merged(found: &mut Found, is: &str, older: &Counted, newer: &MemTable) -> Result<()> {
     let alloc = found.alloc;
-    let (first, end, blocks, append, rewrite) = shape(&older.table);
+    let (first, end, blocks, append, rewrite) = ends_and_files(&older.table);
     let keys = older.table.key_count();
     let (live, written, deleted) = older.counts();
-    let (newer_first, newer_end, ..) = shape(newer);
+    let (newer_first, newer_end, ..) = ends_and_files(newer);
     let newer_keys = newer.key_count();
-    found.line(format!(in alloc;
+    found.append_line(format!(in alloc;
         "{is}: {first}..{end} in {blocks} keys {keys} files {append} {rewrite}, append {live} written {written} deleted {deleted}, newer {newer_first}..{newer_end} keys {newer_keys}"
     )?.as_str())
 }

@@ -42,27 +42,41 @@ static NUMBERS: [Number; 17] = [
     Number::VarU64(300),
 ];
 
-/// Returns the numbers that are written.
+/// Returns the numbers that the row writes, each with the form that it is written in.
 fn numbers() -> &'static [Number] {
     &NUMBERS
 }
 
-/// Adds a line with the bytes of all numbers, which are encoded one after the other into one vector.
+/// Appends all numbers to one vector, and adds a line with its bytes.
+///
+/// # Errors
+///
+/// That of the first number that can't be written, also when it is tried again.
 pub(crate) fn encode_numbers(found: &mut Found) -> Result<()> {
     let mut bytes = Vec::new(found.alloc);
     for number in numbers() {
-        encode_again(found, &mut bytes, *number)?;
+        encode_and_retry(found, &mut bytes, *number)?;
     }
-    found.bytes(bytes.as_slice())
+    found.append_hex_line(bytes.as_slice())
 }
 
-/// Writes a number; where there is no memory that is `Io`, and the vector has to be as it was.
-fn encode_again(found: &mut Found, bytes: &mut Vec<u8>, number: Number) -> Result<()> {
+/// Appends `number` to `bytes`. If there is no memory for it, it notes in `found` whether the vector is
+/// unchanged, and tries once more.
+///
+/// # Errors
+///
+/// Those of [`write_number`]; `Memory` also if there is none for a copy of the vector.
+fn encode_and_retry(found: &mut Found, bytes: &mut Vec<u8>, number: Number) -> Result<()> {
     let before = Vec::from_slice(found.alloc, bytes.as_slice())?;
     call_twice!(found; write_number(bytes, number); bytes.as_slice() == before.as_slice())
 }
 
-/// Writes a number; want of memory is handed on as `Memory`.
+/// Appends `number` to `bytes`, and tells want of memory as other calls do.
+///
+/// # Errors
+///
+/// `Memory` if the vector, as a writer, can't grow, which it returns as an `Io` of the kind `OutOfMemory`;
+/// else the error of the codec.
 fn write_number(bytes: &mut Vec<u8>, number: Number) -> Result<()> {
     match encode_one(bytes, number) {
         Err(codec::Error::Io(error)) if error.kind() == ErrorKind::OutOfMemory => {
@@ -72,7 +86,11 @@ fn write_number(bytes: &mut Vec<u8>, number: Number) -> Result<()> {
     }
 }
 
-/// Writes a number.
+/// Appends `number` in its form, as `encode_u64` for `U64` does.
+///
+/// # Errors
+///
+/// `Io` of the kind `OutOfMemory` if the vector can't grow.
 fn encode_one(bytes: &mut Vec<u8>, number: Number) -> codec::Result<()> {
     match number {
         Number::U64(n) => bytes.encode_u64(n),

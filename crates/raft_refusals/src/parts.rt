@@ -36,20 +36,30 @@ pub(crate) static BLOCKS: [Call; 6] = [
 
 pub(crate) static CUTS: [Call; 2] = [Call::Cut(Version::V1), Call::Cut(Version::V2)];
 
-/// Returns so many of the bytes, from the first on, and those after them.
-fn halves(len: usize) -> (&'static [u8], &'static [u8]) {
+/// Returns the first `len` bytes of `BYTES`, which has two batches, and the bytes behind them. If there are
+/// fewer than `len`, it returns all, and none behind them.
+fn split_bytes(len: usize) -> (&'static [u8], &'static [u8]) {
     BYTES.split_at(len.min(BYTES.len()))
 }
 
-/// Returns the part that has the first `len` of the bytes.
+/// Returns a part with the first `len` bytes of `BYTES`, as those of append file 12 in this version.
+///
+/// # Errors
+///
+/// `Memory` alone.
 fn part_of_first(alloc: Global, version: Version, len: usize) -> Result<FilePart> {
-    let (front, _) = halves(len);
+    let (front, _) = split_bytes(len);
     let bytes = Vec::from_slice(alloc, front)?;
     FilePart::new(FileId::new(LogQueue::Append, 12), version, 0, bytes)
 }
 
-/// Adds a line with how many items a batch has, and where it ends.
-pub(crate) fn next(found: &mut Found, len: usize, at: usize) -> Result<()> {
+/// Reads the batch at position `at` of a part that has the first `len` bytes of `BYTES`. Adds a line with the
+/// number of its items and where it ends, as `items 1 up to 34`, or `end` at the end of the part.
+///
+/// # Errors
+///
+/// `Failed` if `at` is behind the end of the part; those of [`next_batch`].
+pub(crate) fn read_next_batch(found: &mut Found, len: usize, at: usize) -> Result<()> {
     let alloc = found.alloc;
     let part = part_of_first(alloc, Version::V1, len)?;
     if at > part.bytes().len() {
@@ -58,37 +68,53 @@ pub(crate) fn next(found: &mut Found, len: usize, at: usize) -> Result<()> {
     match next_batch(&part, at)? {
         Some((batch, behind)) => {
             let items = batch.iter().as_slice().len();
-            found.line(format!(in alloc; "items {items} up to {behind}")?.as_str())
+            found.append_line(format!(in alloc; "items {items} up to {behind}")?.as_str())
         }
-        None => found.line("end"),
+        None => found.append_line("end"),
     }
 }
 
-/// Adds a line with what a header says; where there is no memory the slice has to be as it was.
+/// Reads a header from the first `len` bytes of `BYTES`, and adds a line with what it says, as `offset 23
+/// length 34`. If that returns `Memory`, it notes in `found` whether the slice is unchanged.
+///
+/// # Errors
+///
+/// Those of [`LogBatch::decode_header`].
 pub(crate) fn read_header(found: &mut Found, len: usize) -> Result<()> {
     let alloc = found.alloc;
-    let (bytes, _) = halves(len);
+    let (bytes, _) = split_bytes(len);
     let mut buf = bytes;
     let answer = LogBatch::decode_header(alloc, &mut buf);
-    found.look(!is_refused(&answer) || buf == bytes);
+    found.note_state(!is_refused(&answer) || buf == bytes);
     let (offset, _, len) = answer?;
-    found.line(format!(in alloc; "offset {offset} length {len}")?.as_str())
+    found.append_line(format!(in alloc; "offset {offset} length {len}")?.as_str())
 }
 
-/// Adds a line with the entry bytes of a block of this length.
+/// Adds a line with the entry bytes of the entry block of `len` bytes that begins at byte 16 of `BYTES`, in
+/// hexadecimal digits.
+///
+/// # Errors
+///
+/// Those of [`LogBatch::decode_entries_block`].
 pub(crate) fn read_entry_block(found: &mut Found, len: usize) -> Result<()> {
     let place = FileBlockHandle {
         id: FileId::new(LogQueue::Append, 12),
         offset: 16,
         len,
     };
-    let (_, bytes) = halves(16);
+    let (_, bytes) = split_bytes(16);
     let none = CompressionType::None;
     let entries = LogBatch::decode_entries_block(found.alloc, bytes, place, none)?;
-    found.bytes(entries.as_slice())
+    found.append_hex_line(entries.as_slice())
 }
 
-/// Cuts a part at its second batch, clones the rest, and cuts the part in as many parts as it has batches.
+/// Cuts a part of this `version` behind its first batch, clones the rest, cuts the same part into eight at
+/// most, and adds a line with the version, the offset and the length of the clone, and with the number of
+/// parts.
+///
+/// # Errors
+///
+/// `Memory` alone.
 pub(crate) fn cut_by_batches(found: &mut Found, version: Version) -> Result<()> {
     let alloc = found.alloc;
     let mut front = part_of_first(alloc, version, 58)?;
@@ -96,17 +122,22 @@ pub(crate) fn cut_by_batches(found: &mut Found, version: Version) -> Result<()> 
     let clone = rest.clone()?;
     let parts = cut_part(alloc, part_of_first(alloc, version, 58)?, 8)?;
     let (version, offset, len) = (clone.version(), clone.offset(), clone.bytes().len());
-    found.line(format!(in alloc;
+    found.append_line(format!(in alloc;
         "version {version} rest at {offset} of {len}, parts {}",
         parts.len()
     )?
     .as_str())
 }
 
-/// Cuts a part; where there is no memory it has to be as it was.
+/// Cuts `front` behind its first batch, and returns the rest. If that returns `Memory`, it notes in `found`
+/// whether the part is unchanged.
+///
+/// # Errors
+///
+/// `Memory` alone.
 fn split_part(found: &mut Found, front: &mut FilePart) -> Result<FilePart> {
     let at = front.bytes().len().min(34);
     let answer = front.split_off(at);
-    found.look(!is_refused(&answer) || front.bytes() == BYTES && front.offset() == 0);
+    found.note_state(!is_refused(&answer) || front.bytes() == BYTES && front.offset() == 0);
     answer
 }

@@ -87,7 +87,11 @@ pub(crate) static PRINTS: [Call; 5] = [
     ),
 ];
 
-/// Recovers a history, and adds the lines of its tables.
+/// Recovers `history` as `how` says, and adds the lines of the tables.
+///
+/// # Errors
+///
+/// Those of [`tables_of`]; `Memory`.
 pub(crate) fn recover_history<R: Threads + Sync>(
     rt: &R,
     found: &mut Found,
@@ -99,7 +103,11 @@ pub(crate) fn recover_history<R: Threads + Sync>(
     print_tables(found, &tables)
 }
 
-/// Returns the tables of segments, recovered in this way.
+/// Returns the tables of `segments`, recovered as `how` says.
+///
+/// # Errors
+///
+/// Those of the recovery; `Failed` for draws or pieces without segments.
 fn tables_of<R: Threads + Sync>(
     rt: &R,
     alloc: Global,
@@ -113,14 +121,19 @@ fn tables_of<R: Threads + Sync>(
         How::Workers(workers) => {
             replay_segments(rt, alloc, &factory, segments, queue, workers, &OpenGate)?
         }
-        How::Draws(draws) => replay_drawn(alloc, segments, queue, draws)?,
+        How::Draws(draws) => replay_by_draws(alloc, segments, queue, draws)?,
         How::Pieces => merge_read_pieces(rt, alloc, segments, queue)?,
     };
     context.finish()
 }
 
-/// Merges segments that two workers draw so by halves.
-fn replay_drawn(
+/// Returns the context of `segments`, which two workers draw: `draws` has the number, 0 or 1, of the worker
+/// that draws each next segment. Their pieces are merged by halves.
+///
+/// # Errors
+///
+/// `Failed` without segments; those of [`replay_scheduled`].
+fn replay_by_draws(
     alloc: Global,
     segments: &[Segment],
     queue: LogQueue,
@@ -135,7 +148,12 @@ fn replay_drawn(
     replay_scheduled(alloc, &factory, segments, queue, 2, draws, &plan)
 }
 
-/// Returns a piece for each segment, merged by halves.
+/// Returns the context of `segments`, each of which is read by a context of its own. The contexts are merged
+/// by halves.
+///
+/// # Errors
+///
+/// `Failed` without segments; those of [`replay_segment`] and [`merge_pieces`].
 fn merge_read_pieces<R: Threads + Sync>(
     rt: &R,
     alloc: Global,
@@ -150,7 +168,11 @@ fn merge_read_pieces<R: Threads + Sync>(
     merge_pieces(rt, pieces, &plan, queue)
 }
 
-/// Returns a context for each segment.
+/// Returns a context for each of `segments`, which has read it.
+///
+/// # Errors
+///
+/// Those of [`replay_segment`]; `Memory`.
 fn read_segments(alloc: Global, segments: &[Segment]) -> Result<Vec<MemTableRecoverContext>> {
     let mut pieces = Vec::new(alloc);
     for segment in segments {
@@ -161,23 +183,34 @@ fn read_segments(alloc: Global, segments: &[Segment]) -> Result<Vec<MemTableReco
     Ok(pieces)
 }
 
-/// Adds a line with how many of three numbers were drawn by two seats, which are closed again.
+/// Opens tickets for three numbers and two seats, closes them at once, and adds a line with how many numbers
+/// were drawn.
+///
+/// # Errors
+///
+/// Those of [`Tickets::open`]; `Memory`.
 pub(crate) fn draw_tickets(found: &mut Found) -> Result<()> {
     let alloc = found.alloc;
     let (tickets, seats) = Tickets::open(alloc, 3, 2)?;
     let drawn = tickets.close(seats);
-    found.line(format!(in alloc; "{drawn} drawn")?.as_str())
+    found.append_line(format!(in alloc; "{drawn} drawn")?.as_str())
 }
 
-/// Adds a line with how many pieces so many segments make.
+/// Adds a line with how many pieces `segments` segments make if `draws` has the number of the worker that
+/// draws each next one.
+///
+/// # Errors
+///
+/// `Memory` alone.
 pub(crate) fn count_pieces(found: &mut Found, segments: usize, draws: &[usize]) -> Result<()> {
     let pieces = piece_count(segments, draws);
     let alloc = found.alloc;
-    found.line(format!(in alloc; "{pieces} pieces")?.as_str())
+    found.append_line(format!(in alloc; "{pieces} pieces")?.as_str())
 }
 
-/// Tests whether a call found no memory, or its reader or writer.
-fn lacked_memory(answer: &Result<()>) -> bool {
+/// Tests whether a call, which returned `answer`, found no memory: it returned `Memory`, or its reader or
+/// writer an `Io` of the kind `OutOfMemory`.
+fn is_want_of_memory(answer: &Result<()>) -> bool {
     match answer {
         Err(Error::Memory) => true,
         Err(Error::Io(error)) => error.kind() == ErrorKind::OutOfMemory,
@@ -185,11 +218,15 @@ fn lacked_memory(answer: &Result<()>) -> bool {
     }
 }
 
-/// Adds what was printed; nothing may be printed of what is refused. Want of memory in a reader or a writer is handed
-/// on as `Memory`.
-fn add_printed(found: &mut Found, answer: Result<()>, out: &[u8]) -> Result<()> {
-    found.look(answer.is_ok() || out.is_empty());
-    if lacked_memory(&answer) {
+/// Adds the lines `out` that a call printed, which returned `answer`. It notes in `found` whether a call that
+/// failed has printed nothing.
+///
+/// # Errors
+///
+/// That of the call, as `Memory` if its reader or writer found none; `Memory`.
+fn append_printed_lines(found: &mut Found, answer: Result<()>, out: &[u8]) -> Result<()> {
+    found.note_state(answer.is_ok() || out.is_empty());
+    if is_want_of_memory(&answer) {
         return Err(Error::Memory);
     }
     answer?;
@@ -197,20 +234,28 @@ fn add_printed(found: &mut Found, answer: Result<()>, out: &[u8]) -> Result<()> 
     Ok(())
 }
 
-/// Prints an item batch of the append file 12.
+/// Prints `bytes` as an item batch of append file 12, as `raftlog batch` does, and adds the lines.
+///
+/// # Errors
+///
+/// Those of [`print_batch`]; `Memory`.
 pub(crate) fn print_bytes(found: &mut Found, bytes: &[u8]) -> Result<()> {
     let context = LogFileContext::new(FileId::new(LogQueue::Append, 12), Version::V1);
     let mut out = Vec::new(found.alloc);
     let answer = print_batch(found.alloc, &mut &bytes[..], &mut out, &context);
-    add_printed(found, answer, out.as_slice())
+    append_printed_lines(found, answer, out.as_slice())
 }
 
-/// Prints the tables of the append file 12.
+/// Prints the tables of append file 12 with these `bytes`, as `raftlog recover` does, and adds the lines.
+///
+/// # Errors
+///
+/// Those of [`recover_bytes`]; `Memory`.
 pub(crate) fn print_file<R: Threads + Sync>(rt: &R, found: &mut Found, bytes: &[u8]) -> Result<()> {
     let alloc = found.alloc;
     let bytes = Vec::from_slice(alloc, bytes)?;
     let files = vec![in alloc; (12, bytes)]?;
     let mut out = Vec::new(alloc);
     let answer = recover_bytes(rt, alloc, LogQueue::Append, Version::V1, 1, files, &mut out);
-    add_printed(found, answer, out.as_slice())
+    append_printed_lines(found, answer, out.as_slice())
 }

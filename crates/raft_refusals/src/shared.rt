@@ -1,7 +1,7 @@
 //! Calls of tables that threads share, and of one slot.
 
 use crate::found::{Found, call_twice};
-use crate::seen::{number_of_table, of_regions};
+use crate::seen::{hash_of_regions, hash_of_table};
 use crate::steps::{Step, written_batch};
 use crate::tables::put_of;
 use crate::writes::{Call, THIRD, Write, print_regions, tables_of};
@@ -35,7 +35,7 @@ static CALLS: [Call; 13] = [
     Call::Group(7, 49, 50),
 ];
 
-/// Returns the calls that are made.
+/// Returns the calls that the row makes of shared tables.
 fn calls() -> &'static [Call] {
     &CALLS
 }
@@ -43,29 +43,39 @@ fn calls() -> &'static [Call] {
 /// All tables in one number, and the live counts.
 type SharedSeen = (u64, u128, u128);
 
-/// Shows all tables as they are now.
+/// Returns what the tables of `shared` have now: a hash of their records, and how many are live in each
+/// queue. Two results are compared to see whether a refused call has changed anything.
 fn show_shared<R: Wait>(rt: &R, shared: &SharedAccessor) -> SharedSeen {
     (
         shared.fold(
             rt,
             0u64,
-            |sum, table: &MemTable| sum.wrapping_add(number_of_table(table)),
+            |sum, table: &MemTable| sum.wrapping_add(hash_of_table(table)),
         ),
         shared.live_entries(rt, LogQueue::Append),
         shared.live_entries(rt, LogQueue::Rewrite),
     )
 }
 
-/// Shares the tables that the first calls make.
+/// Returns shared tables that have what the calls `FIRST` make.
+///
+/// # Errors
+///
+/// Those of these calls; `Memory`.
 fn shared_tables(alloc: Global) -> Result<SharedAccessor> {
     SharedAccessor::from_core(alloc, tables_of(alloc, &FIRST)?)
 }
 
-/// Makes calls, and shows what is live after each.
-pub(crate) fn call_all<R: Wait>(rt: &R, found: &mut Found) -> Result<()> {
+/// Makes the calls of the row, all on the same shared tables. Adds a line with what is live after each, and a
+/// last one with how many tables there are and the sum of their regions' ids.
+///
+/// # Errors
+///
+/// That of the first call that fails, also when it is tried again.
+pub(crate) fn make_shared_calls<R: Wait>(rt: &R, found: &mut Found) -> Result<()> {
     let shared = shared_tables(found.alloc)?;
     for call in calls() {
-        call_again(rt, found, &shared, *call)?;
+        call_and_retry(rt, found, &shared, *call)?;
     }
     let ids = shared.collect(rt, |_: &MemTable| true)?;
     let mut sum = 0u64;
@@ -73,25 +83,34 @@ pub(crate) fn call_all<R: Wait>(rt: &R, found: &mut Found) -> Result<()> {
         sum = sum.wrapping_add(*id);
     }
     let alloc = found.alloc;
-    found.line(format!(in alloc; "{} tables, ids {sum}", ids.len())?.as_str())
+    found.append_line(format!(in alloc; "{} tables, ids {sum}", ids.len())?.as_str())
 }
 
-/// Makes a call, and adds a line with what is live then; where there is no memory no record has changed.
-fn call_again<R: Wait>(
+/// Makes one call, and adds a line with how many records are live in each queue, as `live 12 0`. If the call
+/// returns `Memory`, it notes in `found` whether no record has changed, and tries once more.
+///
+/// # Errors
+///
+/// Those of [`call_tables`].
+fn call_and_retry<R: Wait>(
     rt: &R,
     found: &mut Found,
     shared: &SharedAccessor,
     call: Call,
 ) -> Result<()> {
     let before = show_shared(rt, shared);
-    call_twice!(found; call_at(rt, found.alloc, shared, call); show_shared(rt, shared) == before)?;
+    call_twice!(found; call_tables(rt, found.alloc, shared, call); show_shared(rt, shared) == before)?;
     let alloc = found.alloc;
     let (_, append, rewrite) = show_shared(rt, shared);
-    found.line(format!(in alloc; "live {append} {rewrite}")?.as_str())
+    found.append_line(format!(in alloc; "live {append} {rewrite}")?.as_str())
 }
 
-/// Makes a call.
-fn call_at<R: Wait>(rt: &R, alloc: Global, shared: &SharedAccessor, call: Call) -> Result<()> {
+/// Makes one call of `shared`.
+///
+/// # Errors
+///
+/// `Failed` for a group whose first file is above its last one; those of the call.
+fn call_tables<R: Wait>(rt: &R, alloc: Global, shared: &SharedAccessor, call: Call) -> Result<()> {
     match call {
         Call::Write(how, seq, step) => write_item(rt, alloc, shared, how, seq, step),
         Call::Put(id) => {
@@ -114,7 +133,12 @@ fn call_at<R: Wait>(rt: &R, alloc: Global, shared: &SharedAccessor, call: Call) 
     }
 }
 
-/// Writes an item to the tables, as one of the file `seq`.
+/// Writes an item with `step` to the tables, as one that was written to the file numbered `seq`, in the way
+/// `how`.
+///
+/// # Errors
+///
+/// Those of the write; `Memory`.
 fn write_item<R: Wait>(
     rt: &R,
     alloc: Global,
@@ -130,8 +154,12 @@ fn write_item<R: Wait>(
     }
 }
 
-/// Makes tables with cleaned regions in the slots 0, 92, 112 and 127, in slot 112 the same one
+/// Returns shared tables whose slots 0, 92, 112 and 127 list cleaned regions; slot 112 lists one region
 /// twice.
+///
+/// # Errors
+///
+/// `Memory` alone.
 fn cleaned_tables<R: Wait>(rt: &R, alloc: Global) -> Result<SharedAccessor> {
     let shared = shared_tables(alloc)?;
     for &region in &[105, 69, 3] {
@@ -140,45 +168,57 @@ fn cleaned_tables<R: Wait>(rt: &R, alloc: Global) -> Result<SharedAccessor> {
     Ok(shared)
 }
 
-/// Takes the cleaned regions into a batch, a second time where there was no memory: none is lost then, and none is
-/// there more often than it was listed.
-pub(crate) fn take_cleaned<R: Wait>(rt: &R, found: &mut Found) -> Result<()> {
-    let shared = cleaned_tables(rt, found.alloc)?;
-    let mut logs = LogBatch::default(found.alloc);
-    call_twice!(found; take_into(rt, &shared, &mut logs); true)?;
-    print_regions(found, logs)
-}
-
-/// Moves the cleaned regions of all slots into a batch.
+/// Takes the cleaned regions of all slots into a batch, and adds a line with each region in it. If that
+/// returns `Memory`, it tries once more: the lines then show whether a region was lost, or came twice.
 ///
 /// # Errors
 ///
-/// `Failed` for a batch that isn't open, `Memory`.
-fn take_into<R: Wait>(rt: &R, shared: &SharedAccessor, logs: &mut LogBatch) -> Result<()> {
+/// That of the first call that fails.
+pub(crate) fn take_cleaned<R: Wait>(rt: &R, found: &mut Found) -> Result<()> {
+    let shared = cleaned_tables(rt, found.alloc)?;
+    let mut logs = LogBatch::default(found.alloc);
+    call_twice!(found; take_cleaned_of_all_slots(rt, &shared, &mut logs); true)?;
+    print_regions(found, logs)
+}
+
+/// Moves the cleaned regions of all slots into `logs`, as items that clean them.
+///
+/// # Errors
+///
+/// `Failed` for a batch that isn't open; `Memory`.
+fn take_cleaned_of_all_slots<R: Wait>(
+    rt: &R,
+    shared: &SharedAccessor,
+    logs: &mut LogBatch,
+) -> Result<()> {
     if !logs.is_open() {
         return Err(Error::Failed);
     }
     shared.take_cleaned_region_logs(rt, logs)
 }
 
-/// Takes the cleaned regions of a slot, whose region is cleaned twice, into a batch: where there is no memory list and batch have
-/// to be as they were.
+/// Takes the cleaned regions of a slot that lists one region twice into a batch. Adds a line with how many
+/// the slot still lists, and one with each region in the batch.
+///
+/// # Errors
+///
+/// That of the first call that fails.
 pub(crate) fn take_from_slot(found: &mut Found) -> Result<()> {
     let mut slot = Slot::new(found.alloc, slot_of(3));
     list_region(&mut slot)?;
     list_region(&mut slot)?;
     let mut logs = LogBatch::default(found.alloc);
-    take_again(found, &mut slot, &mut logs)?;
+    take_and_retry(found, &mut slot, &mut logs)?;
     let alloc = found.alloc;
-    found.line(format!(in alloc; "{} left", slot.cleaned_regions().len())?.as_str())?;
+    found.append_line(format!(in alloc; "{} left", slot.cleaned_regions().len())?.as_str())?;
     print_regions(found, logs)
 }
 
-/// Lists region 3 as cleaned.
+/// Removes region 3 from its slot, and so lists it as cleaned.
 ///
 /// # Errors
 ///
-/// `Failed` for a slot that isn't its own, `Memory`.
+/// `Failed` for a slot that isn't that of region 3; `Memory`.
 fn list_region(slot: &mut Slot) -> Result<()> {
     if slot_of(3) != slot.number() {
         return Err(Error::Failed);
@@ -187,21 +227,25 @@ fn list_region(slot: &mut Slot) -> Result<()> {
     Ok(())
 }
 
-/// Moves the cleaned regions of a slot into a batch; where there is no memory both have to be as
-/// they were.
-fn take_again(found: &mut Found, slot: &mut Slot, logs: &mut LogBatch) -> Result<()> {
-    let before = logs.clone()?;
-    let listed = of_regions(slot.cleaned_regions());
-    call_twice!(found; take_of(slot, logs);
-        *logs == before && of_regions(slot.cleaned_regions()) == listed)
-}
-
-/// Moves the cleaned regions of a slot into a batch.
+/// Moves the cleaned regions of `slot` into `logs`. If that returns `Memory`, it notes in `found` whether
+/// both are unchanged, and tries once more.
 ///
 /// # Errors
 ///
-/// `Failed` for a batch that isn't open, `Memory`.
-fn take_of(slot: &mut Slot, logs: &mut LogBatch) -> Result<()> {
+/// Those of [`take_cleaned_of_slot`]; `Memory` also if there is none for a copy of the batch.
+fn take_and_retry(found: &mut Found, slot: &mut Slot, logs: &mut LogBatch) -> Result<()> {
+    let before = logs.clone()?;
+    let listed = hash_of_regions(slot.cleaned_regions());
+    call_twice!(found; take_cleaned_of_slot(slot, logs);
+        *logs == before && hash_of_regions(slot.cleaned_regions()) == listed)
+}
+
+/// Moves the cleaned regions of `slot` into `logs`, as items that clean them.
+///
+/// # Errors
+///
+/// `Failed` for a batch that isn't open; `Memory`.
+fn take_cleaned_of_slot(slot: &mut Slot, logs: &mut LogBatch) -> Result<()> {
     if !logs.is_open() {
         return Err(Error::Failed);
     }

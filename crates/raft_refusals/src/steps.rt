@@ -27,7 +27,11 @@ pub(crate) enum Step {
     Marker(u64, AtomicGroupStatus),
 }
 
-/// Adds a step to an open batch.
+/// Adds `step` to an open batch.
+///
+/// # Errors
+///
+/// `Failed` for a batch that isn't open; those of the call of the batch.
 pub(crate) fn add_step(alloc: Global, batch: &mut LogBatch, step: Step) -> Result<()> {
     if !batch.is_open() {
         return Err(Error::Failed);
@@ -37,7 +41,7 @@ pub(crate) fn add_step(alloc: Global, batch: &mut LogBatch, step: Step) -> Resul
             let proposals = proposals_from(alloc, first, texts)?;
             batch.add_entries::<Proposals>(region, proposals.as_slice())
         }
-        Step::Raw(region, first, texts) => add_raw(alloc, batch, region, first, texts),
+        Step::Raw(region, first, texts) => add_run_of_texts(alloc, batch, region, first, texts),
         Step::Run(region, start, end) => add_run(alloc, batch, region, start, end),
         Step::Clean(region) => batch.add_command(region, Command::Clean),
         Step::Compact(region, index) => batch.add_command(region, Command::Compact { index }),
@@ -52,13 +56,17 @@ pub(crate) fn add_step(alloc: Global, batch: &mut LogBatch, step: Step) -> Resul
     }
 }
 
-/// Returns a message of this text.
+/// Returns a message with this `text`, and index 0.
+///
+/// # Errors
+///
+/// `Memory` alone.
 pub(crate) fn message(alloc: Global, text: &[u8]) -> Result<Proposal> {
     let text = Vec::from_slice(alloc, text)?;
     Ok(Proposal { index: 0, text })
 }
 
-/// Adds a value of a key to an open batch.
+/// Adds a put of `value` under `key` of `region` to an open batch.
 ///
 /// # Errors
 ///
@@ -77,7 +85,7 @@ fn put_value(
     batch.put(region, Vec::from_slice(alloc, key)?, value)
 }
 
-/// Adds entries of one byte to an open batch, from the index `start` on and below `end`.
+/// Adds an item with an entry of one byte for each of the indexes `start..end` of `region` to an open batch.
 ///
 /// # Errors
 ///
@@ -94,12 +102,14 @@ fn add_run(alloc: Global, batch: &mut LogBatch, region: u64, start: u64, end: u6
     batch.add_entries::<Proposals>(region, proposals.as_slice())
 }
 
-/// Adds entries of these bytes to an open batch, from the index `first` on.
+/// Adds an item with entries of `region` to an open batch, whose bytes are `texts` and whose indexes rise
+/// from `first` on.
 ///
 /// # Errors
 ///
-/// `Failed` where the call may not be made with them; those of [`LogBatch::add_raw_entries`].
-fn add_raw(
+/// `Failed` for a batch that isn't open, and for an index above 2^64 - 2; those of
+/// [`LogBatch::add_raw_entries`].
+fn add_run_of_texts(
     alloc: Global,
     batch: &mut LogBatch,
     region: u64,
@@ -121,11 +131,11 @@ fn add_raw(
     batch.add_raw_entries(region, indexes, entries)
 }
 
-/// Adds a group marker of this status to an open batch.
+/// Adds a group marker with this status of the group numbered `group` to an open batch.
 ///
 /// # Errors
 ///
-/// `Failed` for a batch that isn't open, `Memory`.
+/// `Failed` for a batch that isn't open; `Memory`.
 fn add_marker(
     alloc: Global,
     batch: &mut LogBatch,
@@ -146,7 +156,11 @@ fn add_marker(
     }
 }
 
-/// Returns a batch of these steps.
+/// Returns an open batch with `steps`.
+///
+/// # Errors
+///
+/// Those of [`add_step`].
 pub(crate) fn batch_of(alloc: Global, steps: &[Step]) -> Result<LogBatch> {
     let mut batch = LogBatch::default(alloc);
     for step in steps {
@@ -155,7 +169,11 @@ pub(crate) fn batch_of(alloc: Global, steps: &[Step]) -> Result<LogBatch> {
     Ok(batch)
 }
 
-/// Returns a batch of these steps, made into bytes and signed for a file of version 1 as its first.
+/// Returns a batch with `steps`, made into bytes and signed for `file`, in version 1.
+///
+/// # Errors
+///
+/// Those of [`add_step`] and [`LogBatch::finish_populate`].
 pub(crate) fn sealed_batch(alloc: Global, file: FileId, steps: &[Step]) -> Result<LogBatch> {
     let mut batch = batch_of(alloc, steps)?;
     if !batch.is_open() {
@@ -166,7 +184,12 @@ pub(crate) fn sealed_batch(alloc: Global, file: FileId, steps: &[Step]) -> Resul
     Ok(batch)
 }
 
-/// Returns a batch of one step that was written to a file.
+/// Returns a batch of one step, whose items have the places that they get when it is written to the start of
+/// `file`.
+///
+/// # Errors
+///
+/// Those of [`sealed_batch`].
 pub(crate) fn written_batch(alloc: Global, file: FileId, step: Step) -> Result<LogBatch> {
     let mut batch = sealed_batch(alloc, file, &[step])?;
     if !batch.is_sealed() {

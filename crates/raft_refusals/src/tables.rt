@@ -1,7 +1,7 @@
 //! Changes of a table, and what is fetched of it.
 
 use crate::calls::Call;
-use crate::found::{Found, call_twice, is_refused, word_of};
+use crate::found::{Found, answer_word, call_twice, is_refused};
 use crate::seen::show_tables;
 use raft_memtable::{
     EntryIndex, Error, FileBlockHandle, FileId, FileSeq, LogQueue, MemTable, MemTableAccessor,
@@ -74,49 +74,68 @@ pub(crate) static CHANGES: [Call; 8] = [
     ]),
 ];
 
-/// Adds what each change returns, and what the table has then.
-pub(crate) fn change_all(found: &mut Found, changes: &[Change]) -> Result<()> {
+/// Makes `changes` of an empty table, one after another, and adds a line for each with its result and what
+/// the table has then.
+///
+/// # Errors
+///
+/// `Memory` alone. Other errors are told in the lines.
+pub(crate) fn make_all_changes(found: &mut Found, changes: &[Change]) -> Result<()> {
     let mut tables = MemTableAccessor::new(found.alloc)?;
     for change in changes {
-        change_again(found, &mut tables, *change)?;
+        change_and_retry(found, &mut tables, *change)?;
     }
-    found.line("")
+    found.append_line("")
 }
 
-/// Changes the table; where there is no memory all tables have to be as they were.
-fn change_again(found: &mut Found, tables: &mut MemTableAccessor, change: Change) -> Result<()> {
+/// Makes `change`, and adds a line with its result and what the table has then. If it returns `Memory`, it is
+/// tried once more. It notes in `found` whether all tables are unchanged after any error.
+///
+/// # Errors
+///
+/// `Memory` alone.
+fn change_and_retry(
+    found: &mut Found,
+    tables: &mut MemTableAccessor,
+    change: Change,
+) -> Result<()> {
     let before = show_tables(tables);
     let answer =
         call_twice!(found; apply_change(found.alloc, tables, change); show_tables(tables) == before);
     if is_refused(&answer) {
         return Err(Error::Memory);
     }
-    found.look(answer.is_ok() || show_tables(tables) == before);
+    found.note_state(answer.is_ok() || show_tables(tables) == before);
     print_answer(found, &answer, tables)
 }
 
-/// Adds a line with the word or the number of a result, the first index and the one past the last, how many blocks
-/// there are, the live number of the append queue, those of the rewrite queue that were written and deleted,
-/// and the least files, 0 for none.
+/// Adds a line with `answer`, the result of a change, and what the table has then, as `dropped 5: 10..20 in
+/// 2, append 10 written 0 deleted 0 files 1 0`: the word for the result and how many entries were dropped,
+/// the range of indexes and the number of blocks, the counts of live, written and deleted records, and the
+/// least file in each queue, 0 for none.
+///
+/// # Errors
+///
+/// `Memory` alone.
 fn print_answer(found: &mut Found, answer: &Result<u64>, tables: &MemTableAccessor) -> Result<()> {
     let alloc = found.alloc;
     let (is, number) = match answer {
         Ok(number) => ("dropped", *number),
-        Err(_) => (word_of(answer), 0),
+        Err(_) => (answer_word(answer), 0),
     };
     let stats = tables.stats();
     let live = stats.live_entries(LogQueue::Append);
     let (written, deleted) = (stats.rewrite_entries(), stats.deleted_rewrite_entries());
-    let shape = tables.get(REGION).map(shape).unwrap_or_default();
+    let shape = tables.get(REGION).map(ends_and_files).unwrap_or_default();
     let (first, end, blocks, append, rewrite) = shape;
-    found.line(format!(in alloc;
+    found.append_line(format!(in alloc;
         "{is} {number}: {first}..{end} in {blocks}, append {live} written {written} deleted {deleted} files {append} {rewrite}"
     )?.as_str())
 }
 
-/// Returns the first index of a table and the one past the last, how many blocks there are, and the least file in both
-/// queues, 0 for none.
-pub(crate) fn shape(table: &MemTable) -> (u64, u64, usize, FileSeq, FileSeq) {
+/// Returns the first index of `table` and the index after the last one, 0 without entries, the number of
+/// blocks, and the least file that it needs in each queue, 0 for none.
+pub(crate) fn ends_and_files(table: &MemTable) -> (u64, u64, usize, FileSeq, FileSeq) {
     (
         table.first_index().unwrap_or(0),
         table.last_index().map_or(0, |last| last.saturating_add(1)),
@@ -126,13 +145,21 @@ pub(crate) fn shape(table: &MemTable) -> (u64, u64, usize, FileSeq, FileSeq) {
     )
 }
 
-/// Makes a change of the region's table.
+/// Makes one change of the table of region 5, and returns how many entries it dropped.
+///
+/// # Errors
+///
+/// Those of [`MemTableAccessor::change`]. Tables and counts are unchanged then.
 fn apply_change(alloc: Global, tables: &mut MemTableAccessor, change: Change) -> Result<u64> {
     let change = change_of(alloc, change)?;
     tables.change(REGION, change)
 }
 
-/// Returns the change as tables take it.
+/// Returns `change` as a [`TableChange`], with the runs, keys and values that it needs.
+///
+/// # Errors
+///
+/// `Memory` alone.
 pub(crate) fn change_of(alloc: Global, change: Change) -> Result<TableChange> {
     Ok(match change {
         Change::Append(start, end, seq) => {
@@ -156,7 +183,11 @@ pub(crate) fn change_of(alloc: Global, change: Change) -> Result<TableChange> {
     })
 }
 
-/// Returns the change that puts a value of a key, in this file.
+/// Returns the change that puts the value `v` under `key`, as in the file `file_id`.
+///
+/// # Errors
+///
+/// `Memory` alone.
 pub(crate) fn put_of(alloc: Global, key: &[u8], file_id: FileId) -> Result<TableChange> {
     let value = Vec::from_slice(alloc, b"v")?;
     Ok(TableChange::Put {
@@ -166,7 +197,11 @@ pub(crate) fn put_of(alloc: Global, key: &[u8], file_id: FileId) -> Result<Table
     })
 }
 
-/// Makes entries of a byte from `start` to below `end`, in one block of a file.
+/// Returns an entry of one byte for each of the indexes `start..end`, all in one block of the file `id`.
+///
+/// # Errors
+///
+/// `Memory` alone.
 fn run_between(alloc: Global, start: u64, end: u64, id: FileId) -> Result<Vec<EntryIndex>> {
     let mut run = Vec::new(alloc);
     for index in start..end {
@@ -205,7 +240,7 @@ static FETCHES: [Fetch; 9] = [
     Fetch::Rewritten,
 ];
 
-/// Returns what is fetched.
+/// Returns the fetches of entries that the row makes.
 fn fetches() -> &'static [Fetch] {
     &FETCHES
 }
@@ -222,7 +257,11 @@ static FETCHED: [Change; 8] = [
     Change::RewriteKey(b"j", Some(1), 51),
 ];
 
-/// Returns the table that is fetched of.
+/// Returns tables of which that of region 5 has what the changes `FETCHED` make.
+///
+/// # Errors
+///
+/// Those of [`apply_change`]; `Memory`.
 fn fetched_table(alloc: Global) -> Result<MemTableAccessor> {
     let mut tables = MemTableAccessor::new(alloc)?;
     for change in &FETCHED {
@@ -237,12 +276,17 @@ static LENGTHS: [(&[u32], Fetch); 2] = [
     (&[0, 0, 5, 3], Fetch::To(10, 14, Some(0))),
 ];
 
-/// Returns lengths of entries, each with what is fetched of them.
+/// Returns lists of entries' lengths in bytes, each with the fetch that is made of a table with such entries.
 fn lengths() -> &'static [(&'static [u32], Fetch)] {
     &LENGTHS
 }
 
-/// Returns a table with entries of these lengths.
+/// Returns tables of which that of region 5 has entries with these `lengths` in bytes, at the indexes from 10
+/// on.
+///
+/// # Errors
+///
+/// `Memory`; those of the append.
 fn table_of_lengths(alloc: Global, lengths: &[u32]) -> Result<MemTableAccessor> {
     let mut tables = MemTableAccessor::new(alloc)?;
     let end = 10u64.saturating_add(lengths.len() as u64);
@@ -254,7 +298,11 @@ fn table_of_lengths(alloc: Global, lengths: &[u32]) -> Result<MemTableAccessor> 
     Ok(tables)
 }
 
-/// Adds a line for each fetch: how many entries it gives, and the last of them; how many keys.
+/// Makes all fetches of the row, of entries and of key values, and adds a line for each.
+///
+/// # Errors
+///
+/// `Memory`; other errors of a fetch of entries are told in its line.
 pub(crate) fn fetch_all(found: &mut Found) -> Result<()> {
     let tables = fetched_table(found.alloc)?;
     let Some(table) = tables.get(REGION) else {
@@ -272,7 +320,11 @@ pub(crate) fn fetch_all(found: &mut Found) -> Result<()> {
     Ok(())
 }
 
-/// Fetches entries of a table with these lengths.
+/// Makes one fetch of entries from a table whose entries have these `lengths` in bytes, and adds its line.
+///
+/// # Errors
+///
+/// `Memory` alone.
 fn fetch_of_lengths(found: &mut Found, lengths: &[u32], fetch: Fetch) -> Result<()> {
     let tables = table_of_lengths(found.alloc, lengths)?;
     match tables.get(REGION) {
@@ -281,7 +333,13 @@ fn fetch_of_lengths(found: &mut Found, lengths: &[u32], fetch: Fetch) -> Result<
     }
 }
 
-/// Fetches entries after another, which stands alone where that is refused.
+/// Fetches entries into a vector that has one already, and adds a line with the result, the length of the
+/// vector and the last index, as `ok 6 last 14`. It notes in `found` whether the vector is unchanged if the
+/// fetch fails.
+///
+/// # Errors
+///
+/// `Memory` alone. Other errors are told in the line.
 fn fetch_entries(found: &mut Found, table: &MemTable, fetch: Fetch) -> Result<()> {
     let mut vec = vec![in found.alloc; EntryIndex::default()]?;
     let answer = match fetch {
@@ -289,24 +347,34 @@ fn fetch_entries(found: &mut Found, table: &MemTable, fetch: Fetch) -> Result<()
         Fetch::Before(gate) => table.fetch_entry_indexes_before(gate, &mut vec),
         Fetch::Rewritten => table.fetch_rewritten_entry_indexes(&mut vec),
     };
-    found.look(answer.is_ok() || vec.as_slice() == [EntryIndex::default()].as_slice());
+    found.note_state(answer.is_ok() || vec.as_slice() == [EntryIndex::default()].as_slice());
     if is_refused(&answer) {
         return answer;
     }
     let alloc = found.alloc;
     let last = vec.last().map_or(0, |entry| entry.index);
-    found.line(format!(in alloc; "{} {} last {last}", word_of(&answer), vec.len())?.as_str())
+    found.append_line(format!(in alloc;
+        "{} {} last {last}",
+        answer_word(&answer),
+        vec.len()
+    )?.as_str())
 }
 
-/// Fetches pairs, those that are rewritten where there is no gate; none is there where that is refused.
+/// Fetches key values: with a `gate`, those in append files numbered at or below it; without one, those in
+/// rewrite files. Adds a line with their number, as `pairs 2`. It notes in `found` whether none was appended
+/// if the fetch fails.
+///
+/// # Errors
+///
+/// `Memory` alone.
 fn fetch_pairs(found: &mut Found, table: &MemTable, gate: Option<FileSeq>) -> Result<()> {
     let mut vec = Vec::new(found.alloc);
     let answer = match gate {
         Some(gate) => table.fetch_kvs_before(gate, &mut vec),
         None => table.fetch_rewritten_kvs(&mut vec),
     };
-    found.look(answer.is_ok() || vec.is_empty());
+    found.note_state(answer.is_ok() || vec.is_empty());
     answer?;
     let alloc = found.alloc;
-    found.line(format!(in alloc; "pairs {}", vec.len())?.as_str())
+    found.append_line(format!(in alloc; "pairs {}", vec.len())?.as_str())
 }

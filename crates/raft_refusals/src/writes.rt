@@ -1,7 +1,7 @@
 //! Items that are written to the tables of several regions, calls at one region, and tables that are merged.
 
 use crate::calls;
-use crate::found::{Found, call_twice, is_refused, word_of};
+use crate::found::{Found, answer_word, call_twice, is_refused};
 use crate::seen::{are_counted, show_tables};
 use crate::steps::{Step, written_batch};
 use crate::tables::put_of;
@@ -92,24 +92,34 @@ pub(crate) static WRITES: [calls::Call; 3] = [
     calls::Call::Write(REWRITTEN),
 ];
 
-/// Adds what each call returns, and the tables after the last.
-pub(crate) fn write_all(found: &mut Found, calls: &[Call]) -> Result<()> {
+/// Makes `calls`, one after another, beginning without tables. Adds a line with the result of each, and lines
+/// with the tables at the end.
+///
+/// # Errors
+///
+/// `Memory` alone. Other errors are told in the lines.
+pub(crate) fn make_write_calls(found: &mut Found, calls: &[Call]) -> Result<()> {
     let mut tables = MemTableAccessor::new(found.alloc)?;
     for call in calls {
-        let answer = call_again(found, &mut tables, *call);
+        let answer = call_and_retry(found, &mut tables, *call);
         if is_refused(&answer) {
             return answer;
         }
-        found.line(word_of(&answer))?;
+        found.append_line(answer_word(&answer))?;
     }
     print_tables(found, &tables)
 }
 
-/// Makes a call; where there is no memory tables, counts and list have to be as they were, but for a table without
-/// records where an item is written.
-fn call_again(found: &mut Found, tables: &mut MemTableAccessor, call: Call) -> Result<()> {
+/// Makes a call and, if it returns `Memory`, makes it once more. Notes in `found` whether the refused call
+/// left tables, counts and the list of cleaned regions as they were. After a write the number of tables
+/// isn't compared: it may have made one without records.
+///
+/// # Errors
+///
+/// Those of [`call_tables`].
+fn call_and_retry(found: &mut Found, tables: &mut MemTableAccessor, call: Call) -> Result<()> {
     let before = show_tables(tables);
-    call_twice!(found; call_at(found.alloc, tables, call); {
+    call_twice!(found; call_tables(found.alloc, tables, call); {
         let mut after = show_tables(tables);
         if matches!(call, Call::Write(..)) {
             after.tables = before.tables;
@@ -118,10 +128,14 @@ fn call_again(found: &mut Found, tables: &mut MemTableAccessor, call: Call) -> R
     })
 }
 
-/// Makes a call.
-fn call_at(alloc: Global, tables: &mut MemTableAccessor, call: Call) -> Result<()> {
+/// Makes one call of `tables`.
+///
+/// # Errors
+///
+/// `Failed` for a group whose first file is above its last one; those of the call.
+fn call_tables(alloc: Global, tables: &mut MemTableAccessor, call: Call) -> Result<()> {
     match call {
-        Call::Write(how, seq, step) => write_one(alloc, tables, how, seq, step),
+        Call::Write(how, seq, step) => write_step(alloc, tables, how, seq, step),
         Call::Put(id) => {
             tables.change(id, put_of(alloc, b"k", THIRD)?)?;
             Ok(())
@@ -145,8 +159,13 @@ fn call_at(alloc: Global, tables: &mut MemTableAccessor, call: Call) -> Result<(
     }
 }
 
-/// Writes an item to the tables, as one of the file `seq`.
-fn write_one(
+/// Writes an item with `step` to the tables, as one that was written to the file numbered `seq`, in the way
+/// `how`.
+///
+/// # Errors
+///
+/// Those of the write; `Memory`.
+fn write_step(
     alloc: Global,
     tables: &mut MemTableAccessor,
     how: Write,
@@ -163,22 +182,36 @@ fn write_one(
     }
 }
 
-/// Adds the lines of tables.
+/// Adds the lines that `raftlog recover` prints for these tables.
+///
+/// # Errors
+///
+/// `Memory` alone.
 pub(crate) fn print_tables(found: &mut Found, tables: &MemTableAccessor) -> Result<()> {
     let text = recovered_text(found.alloc, tables)?;
-    found.line(text.as_str())
+    found.append_line(text.as_str())
 }
 
-/// Makes tables by these calls.
+/// Returns the tables that `calls` make, beginning without tables.
+///
+/// # Errors
+///
+/// Those of [`call_tables`].
 pub(crate) fn tables_of(alloc: Global, calls: &[Call]) -> Result<MemTableAccessor> {
     let mut tables = MemTableAccessor::new(alloc)?;
     for call in calls {
-        call_at(alloc, &mut tables, *call)?;
+        call_tables(alloc, &mut tables, *call)?;
     }
     Ok(tables)
 }
 
-/// Takes the cleaned regions as a batch; where there is no memory list and tables have to be as they were.
+/// Takes the list of cleaned regions as a batch, and adds a line with each region in it, and lines with the
+/// tables. If the list can't be taken for want of memory, it notes in `found` whether list and tables are
+/// unchanged, and tries once more.
+///
+/// # Errors
+///
+/// That of the first call that fails.
 pub(crate) fn take_cleaned(found: &mut Found) -> Result<()> {
     let mut tables = tables_of(found.alloc, CLEANED)?;
     let before = show_tables(&tables);
@@ -188,11 +221,15 @@ pub(crate) fn take_cleaned(found: &mut Found) -> Result<()> {
     print_tables(found, &tables)
 }
 
-/// Adds a line with the regions of a batch's items.
+/// Adds a line with the region of each item of `batch`.
+///
+/// # Errors
+///
+/// `Memory` alone.
 pub(crate) fn print_regions(found: &mut Found, mut batch: LogBatch) -> Result<()> {
     let alloc = found.alloc;
     for item in batch.drain() {
-        found.line(format!(in alloc; "{}", item.raft_group_id)?.as_str())?;
+        found.append_line(format!(in alloc; "{}", item.raft_group_id)?.as_str())?;
     }
     Ok(())
 }
@@ -206,15 +243,20 @@ static CALLS: [Call; 6] = [
     Call::Group(7, 49, 50),
 ];
 
-/// Makes calls at regions, and shows the tables after the last.
+/// Makes calls that name a region each, and adds lines with the number of tables and with the tables at the
+/// end.
+///
+/// # Errors
+///
+/// That of the first call that fails, also when it is tried again.
 pub(crate) fn call_at_regions(found: &mut Found) -> Result<()> {
     let mut tables = tables_of(found.alloc, REWRITTEN)?;
     for call in &CALLS {
-        call_again(found, &mut tables, *call)?;
+        call_and_retry(found, &mut tables, *call)?;
     }
     let all = tables.tables()?.len();
     let alloc = found.alloc;
-    found.line(format!(in alloc; "{all} tables")?.as_str())?;
+    found.append_line(format!(in alloc; "{all} tables")?.as_str())?;
     print_tables(found, &tables)
 }
 
@@ -264,8 +306,13 @@ pub(crate) static MERGES: [calls::Call; 6] = [
     ),
 ];
 
-/// Merges newer tables into older ones, and adds what that returns, and the tables then. They have to agree with their
-/// counts, also where there is no memory.
+/// Merges the tables that the calls `newer` make into those that the calls `older` make, as appended tables
+/// if `is_append`, else as newer neighbors, and adds lines with the result and the tables. It notes in
+/// `found` whether the live counts agree with the tables, after `Memory` too.
+///
+/// # Errors
+///
+/// `Memory`, and those of the calls. Other errors of the merge are told in the lines.
 pub(crate) fn merge_accessors(
     found: &mut Found,
     older: &[Call],
@@ -279,10 +326,10 @@ pub(crate) fn merge_accessors(
     } else {
         tables.merge_newer_neighbor(newer)
     };
-    found.look(are_counted(&tables));
+    found.note_state(are_counted(&tables));
     if is_refused(&answer) {
         return answer;
     }
-    found.line(word_of(&answer))?;
+    found.append_line(answer_word(&answer))?;
     print_tables(found, &tables)
 }

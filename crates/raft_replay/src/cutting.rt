@@ -8,14 +8,14 @@ use raft_records::{FilePart, LogBatch};
 use std::alloc::Global;
 use std::mem;
 
-/// Cuts a part between batches into at most `count` parts of about one length, one after the other, and at
-/// least into one. Their bytes, one after another, are those of the part, each at its offset. What is read of them is
-/// what is read of the part, also where it can't be read: a cut lies where the headers from the front on say that a
-/// batch begins, and none after what is no header. No byte is copied.
+/// Cuts a part between batches into at most `count` parts of about one length, and at least into one. Their
+/// bytes, one after the other, are those of the part, each at its offset. What is read of them is what is
+/// read of the part, also if it can't be read: a cut is made only at an offset to which the headers from the
+/// first byte on lead, and none behind bytes that are no header. No byte is copied.
 ///
 /// # Errors
 ///
-/// `Memory`.
+/// `Memory` alone.
 pub fn cut_part(alloc: Global, part: FilePart, count: usize) -> Result<Vec<FilePart>>
     ensures same { IfOk result (λ parts. AreCutFrom part parts.items) }
     ensures bytes { IfOk result (λ parts. ArePartsOf part parts.items) }
@@ -38,8 +38,8 @@ pub fn cut_part(alloc: Global, part: FilePart, count: usize) -> Result<Vec<FileP
     Ok(parts)
 }
 
-/// Returns where the first batch ends that reaches `least` bytes, if that is in front of the end of
-/// the part. `None` where the headers lead to no such place.
+/// Returns the position at which the first batch ends that reaches `least` bytes, if that is before the end
+/// of the part. Returns `None` if the headers don't lead to such a position.
 fn batch_end(alloc: Global, part: &FilePart, least: usize) -> Option<usize>
     ensures inside { IfSome result (λ at. at < length part.now.bytes) }
     ensures met { IfSome result (BatchesMeet part.now) }
@@ -53,7 +53,8 @@ fn batch_end(alloc: Global, part: &FilePart, least: usize) -> Option<usize>
     if at < bytes.len() { Some(at) } else { None }
 }
 
-/// Returns the length that the header in front of bytes says, if there is one and so many bytes are there.
+/// Returns the length in bytes of the batch whose header is at the start of `bytes`. Returns `None` if there
+/// is no header, or `bytes` are fewer than it says.
 #[doc(hidden)]
 pub fn batch_length(alloc: Global, bytes: &[u8]) -> Option<usize>
     ensures header { IfSome result (λ len. (offset : ℕ) × HasHeader bytes.now offset len) }
@@ -66,7 +67,8 @@ pub fn batch_length(alloc: Global, bytes: &[u8]) -> Option<usize>
     if len <= bytes.len() { Some(len) } else { None }
 }
 
-/// Returns where the items of the batch begin whose header stands in front of bytes, and how long it is.
+/// Returns the offset of the item batch, and the length of the batch, both in bytes, from the header at the
+/// start of `bytes`. Returns `None` if there is no header.
 #[doc(hidden)]
 pub fn header_in(alloc: Global, bytes: &[u8]) -> Option<(usize, usize)>
     ensures some { IfSome result (λ header. HasHeader bytes.now header.0 header.1) }
@@ -79,8 +81,8 @@ pub fn header_in(alloc: Global, bytes: &[u8]) -> Option<(usize, usize)>
     None
 }
 
-/// States that a part may be cut wherever a batch ends: if its bytes before an offset are batches that can be read,
-/// the same is read of the part and of the two pieces.
+/// States that a part may be cut wherever a batch ends: if its bytes before an offset are batches that can be
+/// read, the same is read of the part and of its two pieces.
 pub fn parts_are_cut_where_batches_end()
     ensures { (part : Part) (at : ℕ) (first : List Event) → at ≤ length part.bytes
         → HoldsFrom (bytes_before part at) 0 first

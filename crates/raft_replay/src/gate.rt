@@ -3,7 +3,7 @@
 /// Called by a worker with the number of each segment that it drew, before it replays it: for whoever wants to slow
 /// recovery down, or to watch it.
 pub trait Gate: Send + Sync {
-    /// Holds the worker up until it returns.
+    /// Is called before the segment numbered `segment` is replayed. The worker is held up until it returns.
     fn pass(&self, segment: usize);
 }
 
@@ -12,5 +12,6 @@ pub trait Gate: Send + Sync {
 pub struct OpenGate;
 
 impl Gate for OpenGate {
+    /// Returns at once, so that no worker is held up.
     fn pass(&self, _segment: usize) {}
 }

@@ -8,8 +8,8 @@ use raft_base::{Error, Factory, Result};
 use raft_history::ReplayMachine;
 use std::alloc::Global;
 
-/// A machine that has replayed so many segments, from this one on. It stands behind a pointer, so that
-/// pieces are sorted by moving pointers.
+/// A machine that has replayed `count` neighboring segments, from the one numbered `from` on. It is in a box,
+/// so that pieces are sorted by moving pointers.
 #[derive(Drop)]
 pub(crate) struct Piece<M> {
     from: usize,
@@ -20,8 +20,8 @@ pub(crate) struct Piece<M> {
 impl<M: ReplayMachine> Piece<M> {
     ghost use Rattle.raft_replay.specs.Covers.{IsPieceOf, CoverOnce, covers, cover_count};
 
-    /// Returns the piece that the segment `number` goes to: the last one, taken out, where that
-    /// ends right in front of it, or else a new one.
+    /// Returns the piece that the segment numbered `number` goes to: the last one, which is taken out of
+    /// `pieces`, if it ends right before that segment, or else a new one.
     ///
     /// # Errors
     ///
@@ -53,7 +53,7 @@ impl<M: ReplayMachine> Piece<M> {
         Piece::begin(alloc, factory, number)
     }
 
-    /// Makes a piece without segments, which begins at the segment `from`.
+    /// Returns a piece without segments, whose first one will be that numbered `from`.
     ///
     /// # Errors
     ///
@@ -74,11 +74,11 @@ impl<M: ReplayMachine> Piece<M> {
         })
     }
 
-    /// Replays the segment behind the piece's last one.
+    /// Replays that one of `segments` that comes behind the piece's last one.
     ///
     /// # Errors
     ///
-    /// Those of [`replay_segment`]. The piece is then lost.
+    /// Those of [`replay_segment`]. The piece is lost then.
     pub(crate) fn with_next(mut self, segments: &[Segment]) -> Result<Piece<M>>
         requires inside { self.from + self.count < length segments.now }
         requires piece { IsPieceOf M.stands_exactly segments.now self }
@@ -92,11 +92,11 @@ impl<M: ReplayMachine> Piece<M> {
         Ok(self)
     }
 
-    /// Returns the machines of pieces in the order of their segments.
+    /// Returns the machines of `pieces`, in the order of their segments.
     ///
     /// # Errors
     ///
-    /// `Memory`.
+    /// `Memory` alone.
     pub(crate) fn line_up(alloc: Global, mut pieces: Vec<Piece<M>>) -> Result<Vec<M>>
         ensures ok { (segments : List (Vec Part Global))
             → All (IsPieceOf M.stands_exactly segments) pieces.items

@@ -12,15 +12,15 @@ use std::thread::{Threads, join};
 /// Through how many levels of joins the branches are merged at once: more than any plan by halves has.
 pub(crate) const MAX_LEVELS: usize = 64;
 
-/// Merges neighboring pieces as the plan says: both branches of a join at once, where both have pieces to
-/// merge, through 64 levels of the plan, which is more than any plan by halves has; what lies deeper is merged
-/// one after another. A branch for which no thread can be started is walked by the caller. However deep the
-/// plan is, little stack is needed.
+/// Merges neighboring pieces as the plan says. Both branches of a join are merged at once if both have pieces
+/// to merge, through 64 levels of the plan, more than any plan by halves has; what lies deeper is merged one
+/// after another. A branch for which no thread can be started is walked by the caller. However deep the plan
+/// is, little stack is needed.
 ///
 /// # Errors
 ///
-/// `InvalidArgument` where the plan is of another number of pieces, then whatever a merge of two neighbors returns, and
-/// `Memory`.
+/// `InvalidArgument` if the plan is of another number of pieces; then whatever a merge of two neighbors
+/// returns, and `Memory`.
 pub fn merge_pieces<M: ReplayMachine, R: Threads + Sync>(
     rt: &R,
     pieces: Vec<M>,
@@ -50,8 +50,8 @@ pub(crate) enum Waiting<'a, M> {
     Merged(M),
 }
 
-/// Merges the pieces one after another, on the caller's thread. What waits stands in a list on the
-/// heap, so that no stack is needed, however deep the plan is.
+/// Merges the pieces as `plan` says, one after another, on the caller's thread. What waits is in a list on
+/// the heap, so that no stack is needed, however deep the plan is.
 ///
 /// # Errors
 ///
@@ -73,11 +73,12 @@ pub(crate) fn merge_in_turn<M: ReplayMachine>(
     Ok(merged)
 }
 
-/// Takes the oldest piece of a plan. The newer plans of the joins on the way to it wait.
+/// Takes the oldest piece of a plan from `pieces`, whose last one is the oldest. The newer plans of the joins
+/// on the way to it are appended to `waiting`.
 ///
 /// # Errors
 ///
-/// `Memory`.
+/// `Memory` alone.
 fn oldest_of<'a, M: ReplayMachine>(
     mut plan: &'a Plan,
     waiting: &mut Vec<Waiting<'a, M>>,
@@ -102,8 +103,8 @@ fn oldest_of<'a, M: ReplayMachine>(
     Ok(piece)
 }
 
-/// Goes on with what waits next behind what was merged: merges the two where the former was waiting
-/// for the latter, or else has the latter wait, and takes the oldest piece of a plan.
+/// Goes on with `next`, what was waiting last, behind `merged`. If an older machine was waiting for `merged`,
+/// the two are merged; if a newer plan was, `merged` waits, and the oldest piece of that plan is returned.
 ///
 /// # Errors
 ///
@@ -140,8 +141,8 @@ fn merge_next<'a, M: ReplayMachine>(
     }
 }
 
-/// Merges as `merge_in_turn` does, with its errors, but through `levels` levels of the plan the
-/// pieces of both plans of a join are merged at once, where both have some to merge.
+/// Does what [`merge_in_turn`] does, with its errors. Through `levels` levels of the plan both branches of a
+/// join are merged at once, if both have pieces to merge.
 pub(crate) fn merge_at_once<M: ReplayMachine, R: Threads + Sync>(
     rt: &R,
     pieces: Vec<M>,
@@ -174,7 +175,7 @@ pub(crate) fn merge_at_once<M: ReplayMachine, R: Threads + Sync>(
     }
 }
 
-/// Does both, at the same time on two threads where that is asked for, and returns both answers.
+/// Calls both closures, on two threads at the same time if `at_once`, and returns both answers.
 fn both<R: Threads, F: FnOnce() -> A + Send, G: FnOnce() -> B, A: Send, B>(
     rt: &R,
     at_once: bool,
@@ -192,11 +193,11 @@ fn both<R: Threads, F: FnOnce() -> A + Send, G: FnOnce() -> B, A: Send, B>(
     (one, second())
 }
 
-/// Divides pieces between the two plans of a join.
+/// Divides pieces between the two plans of a join: the first ones, as many as `left` merges, and the others.
 ///
 /// # Errors
 ///
-/// `Memory`.
+/// `Memory` alone.
 #[tactic(auto, using(crate::proofs::MergeLemmas::leaves_positive))]
 fn divide<M: ReplayMachine>(mut all: Vec<M>, left: &Plan, right: &Plan) -> Result<(Vec<M>, Vec<M>)>
     requires { leaves left.now + leaves right.now ≡ vec_len all }
@@ -210,11 +211,11 @@ fn divide<M: ReplayMachine>(mut all: Vec<M>, left: &Plan, right: &Plan) -> Resul
     Ok((all, rest))
 }
 
-/// Merges what two branches returned, the older one first.
+/// Merges what two branches returned, `older` and `newer`.
 ///
 /// # Errors
 ///
-/// The older branch's refusal, then the newer one's, then what a merge of two neighbors returns.
+/// The error of the older branch; else that of the newer one; else what the merge of both returns.
 fn merge_both<M: ReplayMachine>(older: Result<M>, newer: Result<M>, queue: LogQueue) -> Result<M>
     ensures { (xs ys zs : List M) → zs ≡ xs ++ ys
         → Merges M.stands_for M.stands_exactly queue xs older

@@ -17,6 +17,7 @@ pub enum Plan {
 
 /// Takes the plan apart in a loop, so that no stack is needed, however deep it is.
 impl Drop for Plan {
+    /// Takes the plan apart in a loop, join by join, so that no stack is needed, however deep it is.
     fn drop(mut self) {
         loop {
             match self {
@@ -31,9 +32,9 @@ impl Drop for Plan {
 }
 
 impl Plan {
-    /// Returns how many pieces the plan merges, capped at 2^64 - 1. Plans that are still to be counted stand in
-    /// a list on the heap, so that no stack is needed, however deep the plan is; only where the list can't grow
-    /// is one of them counted by a call.
+    /// Returns the number of pieces that the plan merges, capped at 2^64 - 1. Plans that are still to be
+    /// counted are in a list on the heap, so that no stack is needed, however deep the plan is; only if that
+    /// list can't grow is one of them counted by a call.
     #[tactic(auto, using(crate::proofs::MergeLemmas::leaves_positive))]
     pub fn leaves(&self) -> usize
         ensures { result ≡ min (leaves self.now) (2 ^ 64 - 1) }
@@ -64,9 +65,10 @@ impl Plan {
         }
     }
 
-    /// Returns what is left of the join of this plan, which stood in the box, and another one: where this plan
-    /// is one piece, that is let go; where it is a join, its first plan comes in front of the join of its second one
-    /// and the other, which uses the box again.
+    /// Returns what is left to drop of the join of this plan, which was in the box `room`, and `right`. If
+    /// this plan is one piece, that is `right`. If it is a join, it is turned: its first plan comes before
+    /// the join of its second one and `right`, which uses the box again. So each step of [`Plan::drop`]
+    /// leaves less to do.
     fn let_go_before(self, mut room: Box<Plan>, right: Box<Plan>) -> Plan
         requires { room.value ≡ Plan.One }
         ensures { heft result < 2 * heft self + heft right.value + 1 }
@@ -90,11 +92,11 @@ impl Plan {
         let Plan::One = self else { unreachable!() };
     }
 
-    /// Makes the plan of this many pieces by halves.
+    /// Returns the plan that merges `count` pieces by halves. `count` is at least 1.
     ///
     /// # Errors
     ///
-    /// `Memory`.
+    /// `Memory` alone.
     pub fn halves(alloc: Global, count: usize) -> Result<Plan>
         requires { 0 < count }
         ensures ok { IfOk result (λ plan. leaves plan ≡ count) }

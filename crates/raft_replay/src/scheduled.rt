@@ -11,15 +11,19 @@ use raft_history::ReplayMachine;
 use raft_records::FilePart;
 use std::alloc::Global;
 
-/// Does on the caller's thread what workers would do if `draws` named, segment by segment, who draws next; past its
-/// end worker 0 draws. A worker that draws the segment after its last one goes on in the same machine, else it begins
-/// another; the pieces are merged by the plan. Without segments it is a new machine, whatever the plan.
+/// Replays segments on the caller's thread as `workers` threads would in one given schedule, so that a
+/// schedule can be repeated. `draws[n]` is the number, from 0, of the worker that draws segment `n`; behind
+/// the end of `draws` worker 0 draws. A worker that draws two segments in a row replays both into one
+/// machine; else a new piece begins, in a machine that `factory` makes and that stands for no batch yet.
+/// [`piece_count`] says how many pieces there are, and `plan` how they are merged. Without segments it
+/// returns a new machine, whatever the plan.
 ///
 /// # Errors
 ///
-/// `InvalidArgument` for another number of workers than 1 to 256, for a part of another queue, for a worker
-/// that isn't there, and for a plan of another number of pieces; `Memory`; the factory's own. Any other comes
-/// only where a part isn't a sequence of readable batches or all batches, in order, can't be read.
+/// `InvalidArgument` if `workers` isn't 1 to 256, if a part is of another queue than `queue`, if `draws`
+/// names a worker that isn't below `workers`, or if `plan` isn't for as many pieces as there are; `Memory`;
+/// the factory's own. Any other comes only if a part isn't a sequence of readable batches, or all batches,
+/// in order, can't be read.
 pub fn replay_scheduled<M: ReplayMachine, F: Factory<M>>(
     alloc: Global,
     factory: &F,
@@ -51,7 +55,7 @@ pub fn replay_scheduled<M: ReplayMachine, F: Factory<M>>(
     merge_in_turn(machines, plan, queue)
 }
 
-/// Returns the number of pieces that this many segments make if `draws` names who draws next.
+/// Returns the number of pieces that `segments` segments make if `draws` names who draws next.
 pub fn piece_count(segments: usize, draws: &[usize]) -> usize
     ensures { result ≡ pieces_in segments draws.now }
 {
@@ -72,14 +76,15 @@ fn switches(draws: &[usize], n: usize) -> bool
     n > 0 && drawer(draws, n) != drawer(draws, n - 1)
 }
 
-/// Returns which worker draws the segment `n`: worker 0 past the end of the list.
+/// Returns the number of the worker that draws the segment `n`: 0 behind the end of `draws`.
 fn drawer(draws: &[usize], n: usize) -> usize
     ensures { result ≡ slice_index draws.now n }
 {
     if n < draws.len() { draws[n] } else { 0 }
 }
 
-/// Returns why a schedule can't be followed, `None` where it can.
+/// Returns why these `workers` can't follow the schedule of `draws` and `plan`, in words, or `None` if they
+/// can.
 fn schedule_fault(
     segments: &[Segment],
     queue: LogQueue,
@@ -104,14 +109,14 @@ fn schedule_fault(
     None
 }
 
-/// Tests whether all workers who draw are there.
+/// Tests whether each number in `draws` is that of one of `workers` workers.
 fn are_known(draws: &[usize], workers: usize) -> bool
     ensures { IsTrue result ↔ EachIndex draws.now (λ n. slice_index draws.now n < workers) }
 {
     draws.iter().all(|worker| *worker < workers)
 }
 
-/// Tests whether a plan is of as many pieces as the schedule makes; without segments any is.
+/// Tests whether `plan` merges as many pieces as the schedule makes. Without segments any plan does.
 fn fits_pieces(plan: &Plan, segments: usize, draws: &[usize]) -> bool
     requires { segments + 1 < 2 ^ 64 }
     ensures { IsTrue result ↔ (0 < segments → leaves plan.now ≡ pieces_in segments draws.now) }
@@ -119,22 +124,22 @@ fn fits_pieces(plan: &Plan, segments: usize, draws: &[usize]) -> bool
     segments == 0 || plan.leaves() == piece_count(segments, draws)
 }
 
-/// Tests whether all parts of all segments are of files of a queue.
+/// Tests whether all parts of all segments are of files of `queue`.
 pub(crate) fn segments_are_of(segments: &[Segment], queue: LogQueue) -> bool
     ensures { IsTrue result ↔ SegmentsAreOf queue segments.now }
 {
     segments.iter().all(|segment| parts_are_of(segment, queue))
 }
 
-/// Tests whether all parts are of files of a queue.
+/// Tests whether all parts are of files of `queue`.
 fn parts_are_of(parts: &Vec<FilePart>, queue: LogQueue) -> bool
     ensures { IsTrue result ↔ All (λ part. part.id.queue ≡ queue) parts.now.items }
 {
     parts.iter().all(|part| part.id().queue == queue)
 }
 
-/// Replays the segments in order, each into the machine of who draws it, and returns the last
-/// machine. Those before it are pushed.
+/// Replays the segments in order, each into the machine of the worker that draws it. Returns the last
+/// machine; those before it are appended to `machines`.
 ///
 /// # Errors
 ///
@@ -162,8 +167,8 @@ fn replay_in_order<M: ReplayMachine, F: Factory<M>>(
     Ok(current)
 }
 
-/// Returns the machine for the next segment: the current one, or, where the drawer changes, a new
-/// one, and the current one is pushed.
+/// Returns the machine for the next segment: `current` or, if the drawer changes, a new one; then `current`
+/// is appended to `machines`.
 ///
 /// # Errors
 ///

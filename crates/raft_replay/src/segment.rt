@@ -14,14 +14,14 @@ use std::io;
 /// Parts of files of a queue, one after the other.
 pub type Segment = Vec<FilePart>;
 
-/// Replays every batch of every part, in order.
+/// Replays every batch of every part into `machine`, in order.
 ///
 /// # Errors
 ///
-/// `Memory`. Any other comes only where a part isn't a sequence of readable batches, or where the batches after
-/// those that the machine stands for can't be read. The text of a `Corruption`, `Codec` or `Io` begins with the queue,
-/// the file and the offset of the batch that was refused, as `append file 3, offset 1024: `. How many batches the
-/// machine has then replayed is not known.
+/// `Memory`. Any other comes only if a part isn't a sequence of readable batches, or the batches behind those
+/// that the machine stands for can't be read. The text of a `Corruption`, `Codec` or `Io` begins with the
+/// queue, the file and the offset of the batch that was refused, as `append file 3, offset 1024: `. How many
+/// batches the machine has replayed then isn't known.
 pub fn replay_segment<M: ReplayMachine>(machine: &mut M, segment: &Segment) -> Result<()>
     ensures ok { OnOk result
         (HasReplayed (EachHolds (λ part. HoldsFrom part 0) segment.entry.now.items) M.stands_for
@@ -39,7 +39,8 @@ pub fn replay_segment<M: ReplayMachine>(machine: &mut M, segment: &Segment) -> R
     Ok(())
 }
 
-/// Replays the batches of bytes that are lent: those of the file from `offset` on.
+/// Replays every batch of `bytes` into `machine`, in order: those of `file` from `offset` on. They must end
+/// below offset 2^64.
 ///
 /// # Errors
 ///
@@ -76,8 +77,9 @@ pub fn replay_bytes<M: ReplayMachine>(
     }
 }
 
-/// Puts queue, file and offset of a batch in front of the text of a `Corruption`, an `Io` or a
-/// `Codec`; other errors stay as they are. It is `Memory` where the text finds none.
+/// Puts the queue, the file and the offset of a batch before the text of a `Corruption`, an `Io` or a
+/// `Codec`, as `append file 3, offset 1024: `. Other errors stay as they are. Returns `Memory` if there is
+/// none for the text.
 fn placed(alloc: Global, error: Error, id: FileId, offset: u64) -> Error
     ensures placed { IsPlaced id offset result }
     ensures same { IsWithPlace id offset error result }
@@ -97,7 +99,8 @@ fn placed(alloc: Global, error: Error, id: FileId, offset: u64) -> Error
     }
 }
 
-/// Returns the refusal of a file for a reason at a byte.
+/// Returns the `Corruption` for a batch or another part of the file `id`, at this offset: `append file 3,
+/// offset 1024: ` and `reason`. Returns `Memory` if there is none for its text.
 #[doc(hidden)]
 pub fn corruption_at(alloc: Global, id: FileId, offset: u64, reason: &str) -> Error
     ensures { IsCorruption (place_text id offset ++ reason.now) result }
@@ -109,11 +112,11 @@ pub fn corruption_at(alloc: Global, id: FileId, offset: u64, reason: &str) -> Er
     }
 }
 
-/// Puts queue, file and offset of a batch in front of the text of an io error.
+/// Puts the queue, the file and the offset of a batch before the text of the I/O `error`, whose kind stays.
 ///
 /// # Errors
 ///
-/// Where there is no memory for it.
+/// `AllocError` if there is no memory for the text.
 fn io_placed(alloc: Global, error: io::Error, id: FileId, offset: u64) -> AllocResult<io::Error>
     ensures kind { IfOk result (λ e. error_kind e ≡ error_kind error) }
 {
@@ -122,7 +125,7 @@ fn io_placed(alloc: Global, error: io::Error, id: FileId, offset: u64) -> AllocR
     Ok(io::Error::new(error.kind(), text.as_str()))
 }
 
-/// Returns the name of a queue in texts.
+/// Returns the name of `queue` in texts: `append` or `rewrite`.
 #[doc(hidden)]
 pub fn queue_name(queue: LogQueue) -> &'static str
     ensures { result.now ≡ queue_text queue }
@@ -133,21 +136,21 @@ pub fn queue_name(queue: LogQueue) -> &'static str
     }
 }
 
-/// States that the parts of segments read as one history at most.
+/// States that the parts of segments are read as one history at most.
 pub fn segments_read_as_one_history()
     ensures { (segments : List (Vec Part Global)) (g h : List Event)
         → SegmentsHold segments g → SegmentsHold segments h → g ≡ h }
 {}
 
-/// States that where the bytes of a written batch that has items come after those of a part of its file, at the place
-/// that they were written to, the part then holds that batch, with its places, after those that it held. What else is
-/// asked holds of every batch whose bytes are made, as its `is_read_again` states.
+/// States that a written batch is found where it was written. If its bytes come behind those of a part of the
+/// file, at the place that they were written to, the part then has that batch, with its places, behind those
+/// that it had. What else is asked holds of every batch whose bytes were made, as its `is_read_again` states.
 pub fn written_batches_are_held()
     ensures { WrittenBatchIsHeld }
 {}
 
-/// States that segments of fewer than 2^63 bytes together hold a small history, since batches name no more entries,
-/// key values and deletions together than they have bytes.
+/// States that segments of fewer than 2^63 bytes together have a small history, since batches don't name more
+/// entries, key values and deletions together than they have bytes.
 pub fn segments_hold_few_records()
     ensures { (segments : List (Vec Part Global)) (h : List Event)
         → SegmentsHold segments h → bytes_of_segments segments < 2 ^ 63 → IsSmall h }

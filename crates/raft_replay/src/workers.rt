@@ -17,21 +17,22 @@ use std::thread::Threads;
 /// The greatest number of workers.
 pub const MAX_WORKERS: usize = 256;
 
-/// Segments must be fewer: workers draw their numbers from tickets, which are as many.
+/// There must be fewer segments than this, as [`Tickets::open`] asks.
 pub const SEGMENT_LIMIT: usize = 1 << 62;
 
-/// Replays all segments by 1 to 256 workers, each of whom draws the next segment that is left, and merges the pieces
-/// by halves. No more workers are started than there are segments, and one for which no thread can be started is
-/// replaced by the caller. Each change of drawer makes a piece, and all pieces are held until the last segment is
-/// replayed: so hand in few segments, one to four for each worker, of about one size. The result is the same however
-/// the batches are divided into segments, and whatever the workers' turns: the machine stands for all batches in
-/// order, exactly where effects are apart.
+/// Replays all segments by 1 to 256 workers, each of which draws the next segment that is left, and merges
+/// the pieces by halves. No more workers are started than there are segments; the caller does the work of
+/// one for which no thread can be started. Whenever the drawer changes, a piece begins, and all pieces are
+/// held until the last segment is replayed: so hand in few segments, one to four for each worker, of about
+/// one size. The result is the same however the batches are divided into segments, and whatever turns the
+/// workers take: the machine stands for all batches in order, and exactly if effects are apart. The
+/// machines that `factory` makes must stand for no batch.
 ///
 /// # Errors
 ///
-/// `InvalidArgument` for another number of workers, for 2^62 segments and more, and for a part of another
-/// queue; `Memory`; the factory's own. Any other comes only where a part isn't a sequence of readable batches or all
-/// batches, in order, can't be read.
+/// `InvalidArgument` for another number of workers, for 2^62 segments or more, and for a part of another
+/// queue; `Memory`; the factory's own. Any other comes only if a part isn't a sequence of readable batches,
+/// or all batches, in order, can't be read.
 pub fn replay_segments<M: ReplayMachine, F: Factory<M>, G: Gate, R: Threads + Sync>(
     rt: &R,
     alloc: Global,
@@ -54,11 +55,11 @@ pub fn replay_segments<M: ReplayMachine, F: Factory<M>, G: Gate, R: Threads + Sy
     replay_accepted(rt, alloc, factory, segments, queue, workers, gate)
 }
 
-/// Does what [`replay_segments`] does with arguments that were tested.
+/// Does what [`replay_segments`] does with arguments that [`check_arguments`] has tested.
 ///
 /// # Errors
 ///
-/// Those of [`replay_segments`] but for its arguments.
+/// Those of [`replay_segments`] other than for its arguments.
 #[doc(hidden)]
 pub fn replay_accepted<M: ReplayMachine, F: Factory<M>, G: Gate, R: Threads + Sync>(
     rt: &R,
@@ -84,12 +85,12 @@ pub fn replay_accepted<M: ReplayMachine, F: Factory<M>, G: Gate, R: Threads + Sy
     merge_at_once(rt, machines, &plan, queue, MAX_LEVELS)
 }
 
-/// Tests whether so many workers may replay these segments.
+/// Checks that `workers` workers may replay these segments of `queue`.
 ///
 /// # Errors
 ///
-/// `InvalidArgument` for another number of workers than 1 to 256, for a part of another queue and for 2^62 segments
-/// and more; `Memory` for the text.
+/// `InvalidArgument` for another number of workers than 1 to 256, for a part of another queue and for 2^62
+/// segments or more; `Memory` if there is none for the text.
 #[doc(hidden)]
 pub fn check_arguments(
     alloc: Global,
@@ -110,7 +111,8 @@ pub fn check_arguments(
     Ok(())
 }
 
-/// Returns why so many workers may not replay these segments of a queue, `None` where they may.
+/// Returns why this number of workers may not replay these segments of `queue`, in words, or `None` if it
+/// may.
 pub(crate) fn misuse(segments: &[Segment], queue: LogQueue, workers: usize) -> Option<&'static str>
     ensures none { IfNone result ((0 < workers) × (workers ≤ 256)
         × SegmentsAreOf queue segments.entry.now) }
@@ -126,7 +128,7 @@ pub(crate) fn misuse(segments: &[Segment], queue: LogQueue, workers: usize) -> O
     None
 }
 
-/// Returns the pieces that workers make of the segments, in no set order.
+/// Returns the pieces that `workers` workers make of `segments`, in no set order.
 ///
 /// # Errors
 ///
@@ -158,11 +160,11 @@ fn drawn_pieces<M: ReplayMachine, F: Factory<M>, G: Gate, R: Threads + Sync>(
     Ok(pieces)
 }
 
-/// Returns the seats of all workers, and all their pieces.
+/// Returns the seats of all workers, and all their pieces, from what each gave back (`worked`).
 ///
 /// # Errors
 ///
-/// The refusal of the first worker in order that was refused, and `Memory`.
+/// That of the first worker, in order, that had one, and `Memory`.
 fn gather<M: ReplayMachine>(worked: Vec<Worked<M>>) -> Result<(Vec<TicketSeat>, Vec<Piece<M>>)>
     ensures ok { (segments : List (Vec Part Global)) (tickets : Tickets)
         → All (IsBack M.stands_exactly segments tickets) worked.items
@@ -189,12 +191,11 @@ struct Worked<M: ReplayMachine> {
     pieces: Result<Vec<Piece<M>>>,
 }
 
-/// Has as many workers as there are seats replay segments at the same time, and returns what each
-/// did.
+/// Runs a worker for each of `seats`, all at the same time, and returns what each gives back.
 ///
 /// # Errors
 ///
-/// `Memory`. What a worker was refused stands in what it did.
+/// `Memory` alone. The error of a worker is in what it gives back.
 fn run_workers<M: ReplayMachine, F: Factory<M>, G: Gate, R: Threads + Sync>(
     rt: &R,
     alloc: Global,
@@ -224,12 +225,11 @@ fn run_workers<M: ReplayMachine, F: Factory<M>, G: Gate, R: Threads + Sync>(
     Ok(thread::map_vec(rt, seats, &one)?)
 }
 
-/// Replays segments that one worker draws, until none is left, and returns its pieces.
+/// Replays those of `segments` that one worker draws with `seat`, until none is left, and returns its pieces.
 ///
 /// # Errors
 ///
-/// The factory's own, those of [`replay_segment`], and `Memory`. The segments that are left are
-/// then not drawn by it.
+/// The factory's own, those of [`replay_segment`], and `Memory`. The worker draws no further segments then.
 fn replay_drawn<M: ReplayMachine, F: Factory<M>, G: Gate>(
     alloc: Global,
     factory: &F,

@@ -1,10 +1,5 @@
 -- Text that is made of pieces, one for each of some things.
-use Rattle.std.proofs.Common.{◌≡◌, ℕ, List, [], ◌∷◌, ◌++◌, refl, sym, ◌∙◌, ap, subst, append_assoc, append-nil}
-use Rattle.raft_listing.specs.Dumped.{Adds}
-use Rattle.raft_listing.specs.declared.selection.Selection.{Selection}
-use Rattle.raft_records.specs.FilePart.{Part}
-use Rattle.raft_records.specs.Item.{Item}
-use Rattle.raft_report.specs.JsonItems.{AreItemLines, IsSelectedItemLine}
+use Rattle.raft_report.proofs.Common.{◌≡◌, ℕ, List, [], ◌∷◌, ◌++◌, refl, sym, ◌∙◌, ap, subst, append_assoc, append-nil, Adds, Selection, Part, Item, AreItemLines, IsSelectedItemLine}
 
 -- the text so far: with that of what is left it is all
 pub record IsAdding {X : Type 0} (AreTexts : List X → List ℕ → Type 0) (all : List X) (old : List ℕ) (left : List X) (new : List ℕ) : Type 0 where

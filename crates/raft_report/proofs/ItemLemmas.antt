@@ -1,22 +1,8 @@
 -- What is appended of items says their data.
-use Rattle.std.proofs.Common.{◌≡◌, inl, inr, ℕ, Bool, true, false, List, [], ◌∷◌, ◌++◌, slice_get, Option, Some, None, MatchBool, refl, sym, ◌∙◌, ap, subst, append_assoc, append-nil, codes}
-use Rattle.raft_base.specs.declared.entry_index.EntryIndex.{EntryIndex}
-use Rattle.raft_listing.specs.Dumped.{Adds, MarksGroup, has_index}
-use Rattle.raft_listing.specs.ReadBlocks.{IsReadOf}
-use Rattle.raft_listing.specs.declared.blocks.BytesOfEntry.{BytesOfEntry}
-use Rattle.raft_listing.specs.declared.blocks.BytesOfEntry.TheVariants.{Read, Lost}
-use Rattle.raft_listing.specs.declared.selection.Selection.{Selection}
-use Rattle.raft_records.specs.FilePart.{Part}
-use Rattle.raft_records.specs.Item.{Item, Pair}
-use Rattle.raft_records.specs.declared.atomic_group.AtomicGroupStatus.{AtomicGroupStatus}
+use Rattle.raft_report.proofs.Common.{◌≡◌, inl, inr, ℕ, Bool, true, false, List, [], ◌∷◌, ◌++◌, slice_get, Option, Some, None, MatchBool, refl, sym, ◌∙◌, ap, subst, append_assoc, append-nil, codes, EntryIndex, Adds, MarksGroup, has_index, IsReadOf, BytesOfEntry, Read, Lost}
+use Rattle.raft_report.proofs.Common.{Selection, Part, Item, Pair, AtomicGroupStatus, MemberList, list_of, object_of, AreEntryData, IsChangeData, IsContentsMember, IsEntriesData, IsEntryData, block_member, bytes_member, change_data, entries_data, entries_member, entry_data}
+use Rattle.raft_report.proofs.Common.{group_member, index_members, key_member, last_index, length_member, op_member, value_member, AreJoined, AreTrailed, IsTextOf, member_text, trailed, serde_json_on_literals, Data, items_of, comma_if, compact_text, items_text}
 use Rattle.raft_report.proofs.JsonLemmas.{HaveText, last_member, more_members}
-use Rattle.raft_report.specs.JsonData.{MemberList, list_of, object_of}
-use Rattle.raft_report.specs.JsonItems.{AreEntryData, IsChangeData, IsContentsMember, IsEntriesData, IsEntryData, block_member, bytes_member, change_data, entries_data, entries_member, entry_data, group_member, index_members, key_member, last_index, length_member, op_member, value_member}
-use Rattle.raft_report.specs.JsonPieces.{AreJoined, AreTrailed, IsTextOf, member_text, trailed}
-use Rattle.serde_json.proofs.OnLiterals.{serde_json_on_literals}
-use Rattle.serde_json.specs.Data.{Data}
-use Rattle.serde_json.specs.View.{items_of}
-use Rattle.serde_json.specs.Written.{comma_if, compact_text, items_text}
 
 four_texts : (old a b c d : List ℕ) → (((old ++ a) ++ b) ++ c) ++ d ≡ old ++ (a ++ (b ++ (c ++ d)))
 four_texts old a b c d = append_assoc ((old ++ a) ++ b) c d ∙ append_assoc (old ++ a) b (c ++ d) ∙ append_assoc old a (b ++ (c ++ d))

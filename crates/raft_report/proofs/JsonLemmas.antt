@@ -1,9 +1,5 @@
 -- The text of lists and objects, piece by piece.
-use Rattle.std.proofs.Common.{◌≡◌, ℕ, true, false, List, [], ◌∷◌, ◌++◌, sym, subst, ◌∙◌, ap, append_assoc}
-use Rattle.serde_json.specs.Data.{Data, string}
-use Rattle.serde_json.specs.Written.{compact_text, members_text}
-use Rattle.raft_report.specs.JsonData.{MemberList, members_of}
-use Rattle.raft_report.specs.JsonPieces.{member_text, trailed}
+use Rattle.raft_report.proofs.Common.{◌≡◌, ℕ, true, false, List, [], ◌∷◌, ◌++◌, sym, subst, ◌∙◌, ap, append_assoc, Data, string, compact_text, members_text, MemberList, members_of, member_text, trailed}
 
 -- members have this text, with the closing bracket: it is the same behind others, with a comma
 pub record HaveText (ms : MemberList) (text : List ℕ) : Type 0 where

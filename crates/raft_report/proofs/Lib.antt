@@ -1,3 +1,4 @@
+mod Common
 mod JsonLemmas
 mod AddedLemmas
 mod TableLemmas

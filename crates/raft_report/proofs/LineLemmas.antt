@@ -1,26 +1,8 @@
 -- The lines of JSON, letter by letter.
-use Rattle.std.proofs.Common.{◌≡◌, ℕ, ◌+◌, List, ◌++◌, Option, refl, sym, ◌∙◌, ap, append_assoc, codes, decimal, map}
-use Rattle.hex.specs.Hex.{encode_lower}
-use Rattle.raft_accessor.specs.Accessor.{Accessor}
-use Rattle.raft_base.specs.declared.errors.Error.{Error}
-use Rattle.raft_base.specs.declared.pipe_log.LogQueue.{LogQueue}
-use Rattle.raft_base.specs.declared.pipe_log.LogQueue.TheVariants.{Append, Rewrite}
-use Rattle.raft_listing.specs.LossWords.{loss_words}
-use Rattle.raft_listing.specs.Reasons.{reason_text}
-use Rattle.raft_listing.specs.declared.damage.Loss.{Loss}
-use Rattle.raft_listing.specs.declared.scan.FileScan.{FileScan}
-use Rattle.raft_reading.specs.declared.queue_files.FileSize.{FileSize}
-use Rattle.raft_records.specs.FilePart.{Part}
+use Rattle.raft_report.proofs.Common.{◌≡◌, ℕ, ◌+◌, List, ◌++◌, Option, refl, sym, ◌∙◌, ap, append_assoc, codes, decimal, map, encode_lower, Accessor, Error, LogQueue, Append, Rewrite, loss_words, reason_text, Loss, FileScan, FileSize, Part, count, json_line, list_of, item_data}
+use Rattle.raft_report.proofs.Common.{lost_entry_data, place_data, read_data, damage_data, kept_data, key_value_data, live_in, lost_data, missing_data, no_files_data, queue_data, regions_of, scan_data, totals_data, unreadable_data, use_data, item_back, item_front, place_front}
+use Rattle.raft_report.proofs.Common.{FileUse, live, serde_json_on_literals, Data, string, compact_text}
 use Rattle.raft_report.proofs.PlainLemmas.{plain_line, plain_object}
-use Rattle.raft_report.specs.JsonData.{count, json_line, list_of}
-use Rattle.raft_report.specs.JsonItems.{item_data, lost_entry_data, place_data, read_data}
-use Rattle.raft_report.specs.JsonLines.{damage_data, kept_data, key_value_data, live_in, lost_data, missing_data, no_files_data, queue_data, regions_of, scan_data, totals_data, unreadable_data, use_data}
-use Rattle.raft_report.specs.JsonPieces.{item_back, item_front, place_front}
-use Rattle.raft_report.specs.declared.uses.FileUse.{FileUse}
-use Rattle.raft_table.specs.Counts.{live}
-use Rattle.serde_json.proofs.OnLiterals.{serde_json_on_literals}
-use Rattle.serde_json.specs.Data.{Data, string}
-use Rattle.serde_json.specs.Written.{compact_text}
 
 pub scan_is : (queue : LogQueue) (scan : FileScan) → json_line (scan_data queue scan)
     ≡ codes "{\"batches\":" ++ (decimal scan.batches ++ (codes ",\"bytes\":" ++ (decimal scan.len ++ (codes ",\"damage\":" ++ (compact_text (list_of (map damage_data scan.damages.items)) ++ (codes ",\"file\":" ++ (decimal scan.seq ++ (codes ",\"queue\":" ++ (compact_text (queue_data queue) ++ (codes ",\"read\":" ++ (decimal scan.read ++ (codes ",\"unseen\":" ++ (decimal scan.unseen ++ codes "}\n")))))))))))))

@@ -1,8 +1,5 @@
 -- The text of an object whose members have names that need no escape.
-use Rattle.std.proofs.Common.{◌≡◌, ℕ, Bool, true, false, List, [], ◌∷◌, ◌++◌, refl, sym, ◌∙◌, ap, append_assoc, append-nil, codes}
-use Rattle.serde_json.specs.Data.{Data, null, boolean, number, string, array, object, Members, no_members, member}
-use Rattle.serde_json.specs.Written.{comma_if, compact_text, members_text}
-use Rattle.raft_report.specs.JsonData.{json_line}
+use Rattle.raft_report.proofs.Common.{◌≡◌, ℕ, Bool, true, false, List, [], ◌∷◌, ◌++◌, refl, sym, ◌∙◌, ap, append_assoc, append-nil, codes, Data, null, boolean, number, string, array, object, Members, no_members, member, comma_if, compact_text, members_text, json_line}
 
 -- each name is quoted as it is
 abbrev pub ArePlain : Members → Type 0

@@ -1,9 +1,5 @@
 -- The first and the last index of a table.
-use Rattle.std.proofs.Common.{◌≡◌, ◌≢◌, ℕ, ◌+◌, List, [], ◌∷◌, Option, Some, None, MatchOption, refl, ap, arith}
-use Rattle.raft_base.specs.Runs.{end_of}
-use Rattle.raft_base.specs.declared.entry_index.EntryIndex.{EntryIndex}
-use Rattle.raft_table.specs.TableEntries.{start_of}
-use Rattle.raft_report.specs.JsonLines.{first_of, last_of}
+use Rattle.raft_report.proofs.Common.{◌≡◌, ◌≢◌, ℕ, ◌+◌, List, [], ◌∷◌, Option, Some, None, MatchOption, refl, ap, arith, end_of, EntryIndex, start_of, first_of, last_of}
 
 pub first_is : (es : List EntryIndex) (r : Option ℕ) → MatchOption r (es ≡ []) (λ i. (es ≢ []) × (i ≡ start_of es)) → r ≡ first_of es
 first_is [] None h = refl

@@ -1,7 +1,6 @@
 -- The lines of JSON of a dump: what stands in batches, by its data.
 use Rattle.std.specs.Prelude.{◌≡◌, ◌⊎◌, ℕ, ◌+◌, ◌-◌, if◌then◌else◌, List, [], ◌∷◌, ◌++◌, length, codes, option_map, unwrap_or, Option, Some, None}
 use Rattle.std.specs.Bool.{MatchBool}
-use Rattle.std.specs.Io.KnownBytes.{Appends}
 use Rattle.std.specs.List.{slice_get}
 use Rattle.hex.specs.Hex.{encode_lower}
 use Rattle.raft_base.specs.declared.entry_index.EntryIndex.{EntryIndex}
@@ -180,7 +179,3 @@ place_data part at e =
 abbrev pub IsMetJson : Selection → Part → ℕ → Met → List ℕ → Type 0
 IsMetJson s part at (batch items next) text = AreItemLines s part at items text
 IsMetJson s part at (damage next e) text = text ≡ json_line (place_data part at e)
-
--- it comes behind what was written, where that is known
-abbrev pub IsDumpedJson : Selection → Part → ℕ → Met → Option (List ℕ) → Option (List ℕ) → Type 0
-IsDumpedJson s part at met old new = (text : List ℕ) × IsMetJson s part at met text × Appends old new text

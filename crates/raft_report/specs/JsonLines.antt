@@ -17,6 +17,7 @@ use Rattle.raft_table.specs.Table.{Table}
 use Rattle.raft_table.specs.TableEntries.{start_of}
 use Rattle.raft_accessor.specs.Accessor.{Accessor}
 use Rattle.raft_reading.specs.declared.queue_files.FileSize.{FileSize}
+use Rattle.raft_recover.specs.TableLines.{AreByRegion}
 use Rattle.raft_replay.specs.Stops.{queue_text}
 use Rattle.raft_listing.specs.LossWords.{loss_words}
 use Rattle.raft_listing.specs.Missing.{missing_between}
@@ -121,10 +122,20 @@ abbrev pub IsRegionAdded : Table → Bool → List ℕ → List ℕ → Type 0
 IsRegionAdded t false old new = new ≡ old ++ region_json t (compact_text null)
 IsRegionAdded t true old new = (pairs : List ℕ) × (new ≡ old ++ region_json t pairs)
 
+-- the line of a table without its pairs
+abbrev pub table_json : Table → List ℕ
+table_json t = region_json t (compact_text null)
+
 -- the cleaned regions, and how many records are live in each queue
 abbrev pub totals_data : Accessor → Data
 totals_data accessor =
     object_of ((codes "cleaned", list_of (map count accessor.cleaned)) ∷ (codes "live_append", count (live Append accessor.counts)) ∷ (codes "live_rewrite", count (live Rewrite accessor.counts)) ∷ [])
+
+-- the lines of all tables by rising region, without their pairs, and the line of the cleaned regions and of how many records are live
+pub record IsJsonOfTables (accessor : Accessor) (text : List ℕ) : Type 0 where
+  pub tables : List Table
+  pub by_region : AreByRegion accessor.tables tables
+  pub lines : text ≡ flat_map table_json tables ++ json_line (totals_data accessor)
 
 -- ---- what tables need of files
 

@@ -1,4 +1,4 @@
-//! The words of lines of JSON.
+//! The words of lines of JSON. Each call fails for want of memory alone; one that appends may then have appended a part.
 
 ghost use Rattle.std.specs.Prelude.{◌≡◌, ◌++◌, map, string_bytes, IfOk, OnOk};
 ghost use Rattle.hex.specs.Hex.{encode_lower};
@@ -40,6 +40,10 @@ pub fn quoted_reason(alloc: Global, reason: &Error) -> AllocResult<String>
 }
 
 /// Returns bytes as a string of JSON of their digits in base 16, with its quotes.
+///
+/// # Errors
+///
+/// Want of memory.
 pub(crate) fn quoted_hex(alloc: Global, bytes: &[u8]) -> AllocResult<String>
     ensures { IfOk result (λ text. string_bytes text ≡ compact_text (string (encode_lower bytes.now))) }
 {
@@ -73,7 +77,7 @@ impl fmt::Display for QueueName {
     }
 }
 
-/// A number, if there is one: what is printed is it, or `null`.
+/// A number that is printed as it is, and as `null` where there is none.
 #[derive(Clone, Copy)]
 pub(crate) struct Nullable(pub(crate) Option<u64>);
 
@@ -92,7 +96,7 @@ impl fmt::Display for Nullable {
     }
 }
 
-/// Appends numbers as a list.
+/// Appends numbers as a list of JSON.
 pub(crate) fn append_numbers(numbers: &[u64], text: &mut String) -> AllocResult<()>
     ensures { OnOk result (string_bytes text.new
         ≡ string_bytes text.old ++ compact_text (list_of (map count numbers.now))) }
@@ -107,7 +111,7 @@ pub(crate) fn append_numbers(numbers: &[u64], text: &mut String) -> AllocResult<
     text.push(']')
 }
 
-/// Appends what stands between two elements of a list, if one is in front.
+/// Appends a comma where an element of a list is in front, as `later` says.
 pub(crate) fn append_comma(later: bool, text: &mut String) -> AllocResult<()>
     ensures { OnOk result (string_bytes text.new ≡ string_bytes text.old ++ comma_if later) }
 {

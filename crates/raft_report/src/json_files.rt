@@ -1,4 +1,4 @@
-//! What is found of log files, as lines of JSON.
+//! What is found of log files, as lines of JSON. Each call that appends fails for want of memory alone, and a part may then be appended.
 
 ghost use Rattle.std.specs.Prelude.{◌≡◌, ◌++◌, map, string_bytes, None, OnOk};
 ghost use Rattle.raft_report.specs.JsonData.{json_line, list_of};
@@ -11,7 +11,8 @@ use raft_listing::{Damage, DamageKind, FileScan, Loss, missing_between};
 use raft_reading::FileSize;
 use std::alloc::Global;
 
-/// Appends a line for the files that are missing before a file, if some are, and one for what a scan of it finds.
+/// Appends a line for the files that are missing between the one with the number `last`, `None` where it is the first, and the scanned one,
+/// if there is a gap, and a line for what the scan finds.
 ///
 /// # Errors
 ///
@@ -71,18 +72,18 @@ fn append_damage(alloc: Global, damage: &Damage, text: &mut String) -> AllocResu
     ensures { OnOk result (string_bytes text.new ≡ string_bytes text.old ++ compact_text (damage_data damage.now)) }
 {
     match &damage.kind {
-        DamageKind::Batch(reason) => append_unreadable(alloc, damage.offset, reason, text),
+        DamageKind::Batch(reason) => append_unreadable_batch(alloc, damage.offset, reason, text),
         DamageKind::Entries {
             region,
             first,
             last,
             loss,
-        } => append_lost(alloc, damage.offset, *region, (*first, *last), *loss, text),
+        } => append_lost_entries(alloc, damage.offset, *region, (*first, *last), *loss, text),
     }
 }
 
-/// Appends that no batch can be read at an offset, and why.
-fn append_unreadable(
+/// Appends the JSON object of a place at which no batch can be read: its `offset` in the file, and why.
+fn append_unreadable_batch(
     alloc: Global,
     offset: u64,
     reason: &Error,
@@ -98,8 +99,8 @@ fn append_unreadable(
     )
 }
 
-/// Appends that entries of a region, by the first and the last index, can't be read, and why.
-fn append_lost(
+/// Appends that `entries` of a region, by their first and last index, in the batch at an offset can't be read, and why.
+fn append_lost_entries(
     alloc: Global,
     offset: u64,
     region: u64,
@@ -118,7 +119,7 @@ fn append_lost(
     )
 }
 
-/// Appends a line for the files of a queue that are missing between each two, if some are.
+/// Appends a line for each gap between the numbers of a queue's files: the first and the last number that are missing there.
 ///
 /// # Errors
 ///
@@ -139,7 +140,7 @@ pub fn append_json_missing_files(
     Ok(())
 }
 
-/// Appends a line for files that are missing, if some are: from the first number to the last.
+/// Appends a line for files that are missing, by the first and the last of their `numbers`; nothing for `None`.
 fn append_json_missing(
     queue: LogQueue,
     numbers: Option<(FileSeq, FileSeq)>,
@@ -153,7 +154,7 @@ fn append_json_missing(
     }
 }
 
-/// Appends the line for the files that are missing from the first number to the last.
+/// Appends the line for the files that are missing, from the first of `numbers` to the last.
 fn append_json_numbers(
     queue: LogQueue,
     numbers: (FileSeq, FileSeq),
@@ -180,7 +181,7 @@ pub fn append_json_no_files(queue: LogQueue, text: &mut String) -> AllocResult<(
     writeln!(text, "{{\"files\":{files},\"queue\":{name}}}")
 }
 
-/// Appends the line of so many bytes that were cut off, which the file at a path keeps.
+/// Appends the line of `len` bytes that were cut off, which the file at `path` keeps.
 ///
 /// # Errors
 ///

@@ -1,4 +1,5 @@
-//! The items of batches, as lines of JSON.
+//! The items of batches, as lines of JSON. `known` is the entry block that was read already, so that it isn't read for each entry.
+//! Each call fails for want of memory alone, and a part of the text may have been appended then.
 
 ghost use Rattle.std.specs.Prelude.{◌≡◌, ◌≤◌, ◌++◌, true, codes, length, map, option_map, string_bytes, IfErr, IfOk, IfSome, OnOk};
 ghost use Rattle.std.specs.Bool.{MatchBool};
@@ -19,7 +20,7 @@ use raft_records::{
 };
 use std::alloc::Global;
 
-/// Appends a line for each item of the batch at a byte that is selected.
+/// Appends a line for each selected item of the batch at the byte `at` of a part.
 ///
 /// # Errors
 ///
@@ -38,13 +39,13 @@ pub(crate) fn append_json_items(
 {
     let block = needed_block(part, items, selection)?;
     for item in items {
-        append_if_selected(part, at, item, selection, block, text)?;
+        append_item_if_selected(part, at, item, selection, block, text)?;
     }
     Ok(())
 }
 
-/// Appends the line of an item of the batch at a byte, if it is selected.
-fn append_if_selected(
+/// Appends the line of an item of the batch at the byte `at`, if the item is selected.
+fn append_item_if_selected(
     part: &FilePart,
     at: usize,
     item: &LogItem,
@@ -64,7 +65,7 @@ fn append_if_selected(
     Ok(())
 }
 
-/// Appends the line of an item of the batch at a byte.
+/// Appends the line of an item of the batch at the byte `at`.
 fn append_json_item(
     part: &FilePart,
     at: usize,
@@ -80,19 +81,19 @@ fn append_json_item(
     ensures memory { IfErr result (λ e. e ≡ Error.Memory) }
 {
     append_item_front(part, text)?;
-    append_said(part, item, selection, known, text)?;
+    append_content(part, item, selection, known, text)?;
     append_item_back(part, at, item.raft_group_id, text)?;
     Ok(())
 }
 
-/// Appends the line of an item up to what it says.
+/// Appends the line of an item up to what it says: the number of the file.
 fn append_item_front(part: &FilePart, text: &mut String) -> AllocResult<()>
     ensures { OnOk result (string_bytes text.new ≡ string_bytes text.old ++ item_front part.now) }
 {
     write!(text, "{{\"file\":{},\"item\":", part.id().seq)
 }
 
-/// Appends the line of an item of this region in the batch at a byte, from behind what it says on.
+/// Appends the rest of the line of an item of a region, behind what it says: the offset of its batch, the queue and the region.
 fn append_item_back(part: &FilePart, at: usize, region: u64, text: &mut String) -> AllocResult<()>
     requires { at ≤ length part.now.bytes }
     ensures { OnOk result (string_bytes text.new ≡ string_bytes text.old ++ item_back part.now at region) }
@@ -104,8 +105,8 @@ fn append_item_back(part: &FilePart, at: usize, region: u64, text: &mut String) 
     )
 }
 
-/// Appends what an item says.
-fn append_said(
+/// Appends what an item says: entries, a command, or the change of a key.
+fn append_content(
     part: &FilePart,
     item: &LogItem,
     selection: &Selection,
@@ -160,7 +161,7 @@ fn append_change(
     Ok(())
 }
 
-/// Appends how many bytes a value has, if there is one, as the first member.
+/// Appends how many bytes a value has, if there is one, as the first member of an object.
 fn append_value_len(value: &Option<Vec<u8>>, text: &mut String) -> AllocResult<()>
     ensures { OnOk result (string_bytes text.new
         ≡ string_bytes text.old ++ (codes "{" ++ trailed (bytes_member (option_map (λ v. v.items) value.now)))) }
@@ -171,7 +172,7 @@ fn append_value_len(value: &Option<Vec<u8>>, text: &mut String) -> AllocResult<(
     }
 }
 
-/// Appends that an atomic group begins, goes on or ends, if one does.
+/// Appends that an atomic group begins, goes on or ends; nothing for `None`.
 fn append_group(status: Option<AtomicGroupStatus>, text: &mut String) -> AllocResult<()>
     ensures { OnOk result (string_bytes text.new ≡ string_bytes text.old ++ trailed (group_member status)) }
 {
@@ -191,7 +192,7 @@ fn append_key(alloc: Global, key: &[u8], text: &mut String) -> AllocResult<()>
     write!(text, "\"key\":{key},")
 }
 
-/// Appends a value in base 16, if there is one and it is asked for.
+/// Appends a value in base 16, if there is one and values are selected.
 fn append_value(
     alloc: Global,
     value: &Option<Vec<u8>>,
@@ -202,13 +203,13 @@ fn append_value(
         ≡ string_bytes text.old ++ trailed (value_member selection.now (option_map (λ v. v.items) value.now))) }
 {
     match value {
-        Some(value) if selection.values => append_bytes(alloc, value.as_slice(), text),
+        Some(value) if selection.values => append_value_bytes(alloc, value.as_slice(), text),
         _ => Ok(()),
     }
 }
 
 /// Appends the bytes of a value, in base 16.
-fn append_bytes(alloc: Global, value: &[u8], text: &mut String) -> AllocResult<()>
+fn append_value_bytes(alloc: Global, value: &[u8], text: &mut String) -> AllocResult<()>
     ensures { OnOk result (string_bytes text.new
         ≡ string_bytes text.old ++ trailed (shown_member value.now)) }
 {
@@ -216,7 +217,7 @@ fn append_bytes(alloc: Global, value: &[u8], text: &mut String) -> AllocResult<(
     write!(text, "\"value\":{value},")
 }
 
-/// Appends what is done to a key, as the last member.
+/// Appends what is done to a key, as the last member of an object.
 fn append_op(op_type: OpType, text: &mut String) -> AllocResult<()>
     ensures { OnOk result (string_bytes text.new ≡ string_bytes text.old ++ (member_text (op_member op_type) ++ codes "}")) }
 {
@@ -226,8 +227,8 @@ fn append_op(op_type: OpType, text: &mut String) -> AllocResult<()>
     }
 }
 
-/// Appends the entries of an item: the first and the last index, where their block stands, and where they are asked for the bytes
-/// of those that are selected.
+/// Appends the entries of an item: their first and last index, where their block stands, and, where values are selected, the bytes of the
+/// selected entries.
 fn append_entries(
     part: &FilePart,
     entries: &[EntryIndex],
@@ -245,14 +246,14 @@ fn append_entries(
         return Ok(());
     };
     append_block(&first.entries, text)?;
-    append_contents(part, entries, selection, known, text)?;
+    append_entries_if_asked(part, entries, selection, known, text)?;
     append_indexes(first.index, last_index(entries, first.index), text)?;
-    append_length(&first.entries, text)?;
+    append_block_length(&first.entries, text)?;
     append_entries_word(text)?;
     Ok(())
 }
 
-/// Returns the index of the last of some entries; without entries `first`.
+/// Returns the index of the last entry, or `first` where `entries` is empty.
 fn last_index(entries: &[EntryIndex], first: u64) -> u64
     ensures { result ≡ last_index entries.now first }
 {
@@ -262,7 +263,7 @@ fn last_index(entries: &[EntryIndex], first: u64) -> u64
     }
 }
 
-/// Appends where an entry block stands, as the first member, if there is one.
+/// Appends at which offset an entry block stands, as the first member of an object; no member for `None`.
 fn append_block(place: &Option<FileBlockHandle>, text: &mut String) -> AllocResult<()>
     ensures { OnOk result (string_bytes text.new ≡ string_bytes text.old ++ (codes "{" ++ trailed (block_member place.now))) }
 {
@@ -279,8 +280,8 @@ fn append_indexes(first: u64, last: u64, text: &mut String) -> AllocResult<()>
     write!(text, "\"first\":{first},\"last\":{last},")
 }
 
-/// Appends how many bytes an entry block has, if there is one.
-fn append_length(place: &Option<FileBlockHandle>, text: &mut String) -> AllocResult<()>
+/// Appends how many bytes an entry block has; nothing for `None`.
+fn append_block_length(place: &Option<FileBlockHandle>, text: &mut String) -> AllocResult<()>
     ensures { OnOk result (string_bytes text.new ≡ string_bytes text.old ++ trailed (length_member place.now)) }
 {
     match place {
@@ -289,15 +290,15 @@ fn append_length(place: &Option<FileBlockHandle>, text: &mut String) -> AllocRes
     }
 }
 
-/// Appends that they are entries, as the last member.
+/// Appends the word `entries`, as the last member of an object.
 fn append_entries_word(text: &mut String) -> AllocResult<()>
     ensures { OnOk result (string_bytes text.new ≡ string_bytes text.old ++ (member_text entries_member ++ codes "}")) }
 {
     text.push_str("\"what\":\"entries\"}")
 }
 
-/// Appends the bytes of the entries that are selected, where they are asked for.
-fn append_contents(
+/// Appends the bytes of the selected entries as a list, where values are selected.
+fn append_entries_if_asked(
     part: &FilePart,
     entries: &[EntryIndex],
     selection: &Selection,
@@ -313,13 +314,13 @@ fn append_contents(
         return Ok(());
     }
     text.push_str("\"entries\":[")?;
-    append_each_entry(part, entries, selection, known, text)?;
+    append_entry_list(part, entries, selection, known, text)?;
     text.push_str("],")?;
     Ok(())
 }
 
-/// Appends the bytes of the entries that are selected, with a comma between each two.
-fn append_each_entry(
+/// Appends the bytes of the selected entries, with a comma between each two.
+fn append_entry_list(
     part: &FilePart,
     entries: &[EntryIndex],
     selection: &Selection,
@@ -333,13 +334,14 @@ fn append_each_entry(
 {
     let mut later = false;
     for entry in entries {
-        later = append_if_asked(part, entry, selection, known, later, text)?;
+        later = append_entry_if_selected(part, entry, selection, known, later, text)?;
     }
     Ok(())
 }
 
-/// Appends the bytes of an entry, if it is selected, behind another one or as the first. Returns whether one is in front of the next.
-fn append_if_asked(
+/// Appends the bytes of an entry, if it is selected; `later` says whether another is in front. Returns whether one is in front of the next
+/// entry.
+fn append_entry_if_selected(
     part: &FilePart,
     entry: &EntryIndex,
     selection: &Selection,
@@ -362,7 +364,7 @@ fn append_if_asked(
     Ok(true)
 }
 
-/// Appends an entry with its bytes in base 16, or why they can't be read.
+/// Appends the entry with this index, with its bytes in base 16, or why they can't be read.
 fn append_entry(
     alloc: Global,
     index: u64,
@@ -372,21 +374,21 @@ fn append_entry(
     ensures { OnOk result (string_bytes text.new ≡ string_bytes text.old ++ compact_text (entry_data index read.entry)) }
 {
     match read {
-        BytesOfEntry::Read(bytes) => append_read(alloc, index, bytes, text),
-        BytesOfEntry::Lost(loss) => append_lost(alloc, index, loss, text),
+        BytesOfEntry::Read(bytes) => append_entry_bytes(alloc, index, bytes, text),
+        BytesOfEntry::Lost(loss) => append_entry_loss(alloc, index, loss, text),
     }
 }
 
-/// Appends an entry with its bytes in base 16.
-fn append_read(alloc: Global, index: u64, bytes: &[u8], text: &mut String) -> AllocResult<()>
+/// Appends the entry with this index, with its bytes in base 16.
+fn append_entry_bytes(alloc: Global, index: u64, bytes: &[u8], text: &mut String) -> AllocResult<()>
     ensures { OnOk result (string_bytes text.new ≡ string_bytes text.old ++ compact_text (read_data index bytes.now)) }
 {
     let bytes = quoted_hex(alloc, bytes)?;
     write!(text, "{{\"bytes\":{bytes},\"index\":{index}}}")
 }
 
-/// Appends why an entry can't be read.
-fn append_lost(alloc: Global, index: u64, loss: Loss, text: &mut String) -> AllocResult<()>
+/// Appends the JSON object of the entry `index`, without bytes (`null`), and why they can't be read.
+fn append_entry_loss(alloc: Global, index: u64, loss: Loss, text: &mut String) -> AllocResult<()>
     ensures { OnOk result (string_bytes text.new ≡ string_bytes text.old ++ compact_text (lost_entry_data index loss)) }
 {
     let why = quoted(alloc, loss.words())?;

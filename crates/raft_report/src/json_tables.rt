@@ -1,18 +1,20 @@
-//! Tables, and what they need of files, as lines of JSON.
+//! Tables, and what they need of files, as lines of JSON. Each call fails for want of memory alone; one that appends may then have
+//! appended a part.
 
-ghost use Rattle.std.specs.Prelude.{◌≡◌, ◌++◌, map, option_copied, string_bytes, IfErr, OnOk};
+ghost use Rattle.std.specs.Prelude.{◌≡◌, ◌++◌, flat_map, map, option_copied, string_bytes, IfErr, IfOk, OnOk};
 ghost use Rattle.raft_report.specs.JsonData.{count, json_line, list_of};
-ghost use Rattle.raft_report.specs.JsonLines.{IsRegionAdded, first_of, key_value_data, last_of, live_in, region_json, regions_of, table_back, table_front, totals_data, use_data, uses_json};
+ghost use Rattle.raft_report.specs.JsonLines.{IsJsonOfTables, IsRegionAdded, first_of, key_value_data, last_of, live_in, region_json, regions_of, table_back, table_front, table_json, totals_data, use_data, uses_json};
 ghost use Rattle.serde_json.specs.Written.{comma_if, compact_text};
 
 use crate::json::{Nullable, QueueName, append_comma, append_numbers, quoted_hex};
+use crate::region_order::sort_by_region;
 use crate::uses::{FileUse, FileUses, live_in};
 use raft_base::{AllocResult, Error, LogQueue, Result};
 use raft_reading::FileSize;
 use raft_recover::{MemTable, MemTableAccessor};
 use std::alloc::Global;
 
-/// Appends the line of a region; `keys` says whether its keys and their values are printed too, in base 16.
+/// Appends the line of the table of a region; `keys` says whether its keys and their values are printed too, in base 16.
 ///
 /// # Errors
 ///
@@ -27,13 +29,20 @@ pub fn append_json_region(
     ensures memory { IfErr result (λ e. e ≡ Error.Memory) }
 {
     if !keys {
-        return Ok(append_table(table, "null", text)?);
+        return Ok(append_bare_table(table, text)?);
     }
     let pairs = pairs_text(alloc, table)?;
     Ok(append_table(table, pairs.as_str(), text)?)
 }
 
-/// Appends the line of a table, with this text for its pairs.
+/// Appends the line of a table, without its pairs.
+fn append_bare_table(table: &MemTable, text: &mut String) -> AllocResult<()>
+    ensures { OnOk result (string_bytes text.new ≡ string_bytes text.old ++ table_json table.now) }
+{
+    append_table(table, "null", text)
+}
+
+/// Appends the line of a table, with the text `pairs` for its pairs.
 fn append_table(table: &MemTable, pairs: &str, text: &mut String) -> AllocResult<()>
     ensures { OnOk result (string_bytes text.new ≡ string_bytes text.old ++ region_json table.now pairs.now) }
 {
@@ -42,7 +51,7 @@ fn append_table(table: &MemTable, pairs: &str, text: &mut String) -> AllocResult
     append_table_back(table, text)
 }
 
-/// Appends the line of a table up to its pairs.
+/// Appends the line of a table up to its pairs: its oldest append file, its first and last index, and how many keys it has.
 fn append_table_front(table: &MemTable, text: &mut String) -> AllocResult<()>
     ensures { OnOk result (string_bytes text.new ≡ string_bytes text.old ++ table_front table.now) }
 {
@@ -55,7 +64,7 @@ fn append_table_front(table: &MemTable, text: &mut String) -> AllocResult<()>
     )
 }
 
-/// Appends the line of a table from behind its pairs on.
+/// Appends the rest of the line of a table, behind its pairs: its region, and its oldest rewrite file.
 fn append_table_back(table: &MemTable, text: &mut String) -> AllocResult<()>
     ensures { OnOk result (string_bytes text.new ≡ string_bytes text.old ++ table_back table.now) }
 {
@@ -64,14 +73,14 @@ fn append_table_back(table: &MemTable, text: &mut String) -> AllocResult<()>
     writeln!(text, ",\"region\":{region},\"rewrite\":{rewrite}}}")
 }
 
-/// Returns the first index of a table, if it has entries.
+/// Returns the first index of a table; `None` where it has no entries.
 fn first_of(table: &MemTable) -> Option<u64>
     ensures { result ≡ first_of table.now.entries }
 {
     table.first_index()
 }
 
-/// Returns the last index of a table, if it has entries.
+/// Returns the last index of a table; `None` where it has no entries.
 fn last_of(table: &MemTable) -> Option<u64>
     ensures { result ≡ last_of table.now.entries }
 {
@@ -103,7 +112,7 @@ fn pairs_text(alloc: Global, table: &MemTable) -> Result<String>
     }
 }
 
-/// Appends a key with its value, behind another one or as the first.
+/// Appends a key with its value; `later` says whether another pair is in front.
 fn append_pair(
     alloc: Global,
     later: bool,
@@ -119,12 +128,37 @@ fn append_pair(
     write!(text, "{{\"key\":{key},\"value\":{value}}}")
 }
 
-/// Appends the line of the cleaned regions and of how many records are live in each queue.
+/// Returns the lines of all tables, by rising region and without their pairs, and the line of the cleaned regions and of how many records
+/// are live in each queue.
 ///
 /// # Errors
 ///
-/// Want of memory. Some of it may then be appended.
-pub fn append_json_totals(accessor: &MemTableAccessor, text: &mut String) -> AllocResult<()>
+/// `Memory`.
+pub fn tables_as_json(alloc: Global, accessor: &MemTableAccessor) -> Result<String>
+    ensures ok { IfOk result (λ text. IsJsonOfTables accessor.now (string_bytes text)) }
+    ensures memory { IfErr result (λ e. e ≡ Error.Memory) }
+{
+    let mut tables = accessor.tables()?;
+    sort_by_region(&mut tables);
+    let mut text = String::new(alloc);
+    append_json_tables(tables.as_slice(), &mut text)?;
+    append_json_totals(accessor, &mut text)?;
+    Ok(text)
+}
+
+/// Appends the line of each table, without its pairs.
+fn append_json_tables(tables: &[&MemTable], text: &mut String) -> AllocResult<()>
+    ensures { OnOk result (string_bytes text.new
+        ≡ string_bytes text.old ++ flat_map table_json (map (λ t. t.now) tables.now)) }
+{
+    for table in tables {
+        append_bare_table(table, text)?;
+    }
+    Ok(())
+}
+
+/// Appends the line of the cleaned regions and of how many records are live in each queue.
+fn append_json_totals(accessor: &MemTableAccessor, text: &mut String) -> AllocResult<()>
     ensures { OnOk result (string_bytes text.new ≡ string_bytes text.old ++ json_line (totals_data accessor.now)) }
 {
     text.push_str("{\"cleaned\":")?;
@@ -151,13 +185,13 @@ pub fn append_json_uses(
     ensures { OnOk result (string_bytes text.new ≡ string_bytes text.old ++ uses_json queue uses.now sizes.now) }
 {
     for size in sizes {
-        append_json_use(queue, size, uses.get(&size.seq), text)?;
+        append_json_file_use(queue, size, uses.get(&size.seq), text)?;
     }
     Ok(())
 }
 
-/// Appends the line of a file.
-fn append_json_use(
+/// Appends the line of a file; `file_use` is `None` where no table needs it.
+fn append_json_file_use(
     queue: LogQueue,
     size: &FileSize,
     file_use: Option<&FileUse>,
@@ -174,7 +208,7 @@ fn append_json_use(
     text.push_str("}\n")
 }
 
-/// Appends the regions whose oldest file it is, as a list.
+/// Appends the regions whose oldest file it is, as a list; an empty one for `None`.
 fn append_region_numbers(file_use: Option<&FileUse>, text: &mut String) -> AllocResult<()>
     ensures { OnOk result (string_bytes text.new
         ≡ string_bytes text.old ++ compact_text (list_of (map count (regions_of (option_copied file_use.entry))))) }

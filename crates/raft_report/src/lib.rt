@@ -9,6 +9,7 @@ mod json_items;
 pub mod json_tables;
 pub mod picture;
 pub mod print_error;
+mod region_order;
 pub mod regions;
 pub mod uses;
 
@@ -18,8 +19,8 @@ pub use json_dump::JsonDump;
 pub use json_files::{
     append_json_kept, append_json_missing_files, append_json_no_files, append_json_scan,
 };
-pub use json_tables::{append_json_region, append_json_totals, append_json_uses};
+pub use json_tables::{append_json_region, append_json_uses, tables_as_json};
 pub use picture::append_picture;
 pub use print_error::{PrintError, PrintResult, write_text};
-pub use regions::{append_keys, append_region};
+pub use regions::append_keys;
 pub use uses::{FileUse, FileUses, append_uses, uses_of};

@@ -1,4 +1,4 @@
-//! The files of a folder as a picture.
+//! The files of both queues as a picture in SVG. Each call that appends fails for want of memory alone, and a part may then be appended.
 
 use crate::uses::{FileUse, FileUses, append_regions_of, live_in, share_of};
 use raft_base::{AllocResult, LogQueue};
@@ -50,7 +50,7 @@ pub fn append_picture(
     text.push_str("</svg>\n")
 }
 
-/// Returns how many bytes the largest file has.
+/// Returns how many bytes the largest file has; 0 without files.
 fn largest_of(sizes: &[FileSize]) -> u64 {
     let mut largest = 0;
     for size in sizes {
@@ -59,7 +59,7 @@ fn largest_of(sizes: &[FileSize]) -> u64 {
     largest
 }
 
-/// Appends the files of a queue, from this line on.
+/// Appends the files of a queue, one a line, from the line `first_line` on.
 fn append_files(
     queue: LogQueue,
     files: (&[FileSize], &FileUses),
@@ -75,7 +75,7 @@ fn append_files(
     Ok(())
 }
 
-/// Appends the bar of a file, and what is said of the file before and behind it.
+/// Appends the bar of a file on a line, with its name in front of it and what is live of it behind it.
 fn append_file(
     queue: LogQueue,
     size: &FileSize,
@@ -97,7 +97,7 @@ fn append_file(
     text.push_str("</text>\n")
 }
 
-/// Appends a bar as long as a file of so many bytes is beside the largest one, filled as far as so many of them are live.
+/// Appends a bar that is as long as `len` bytes beside `largest`, and filled as far as `live` of them are live; its top is at `y`.
 fn append_bar(
     queue: LogQueue,
     (len, live): (u64, u64),

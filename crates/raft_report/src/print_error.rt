@@ -56,7 +56,7 @@ impl<T: Drop> From<AllocFailed<T>> for PrintError {
     }
 }
 
-/// Writes a text.
+/// Writes a text to an output.
 ///
 /// # Errors
 ///

@@ -1,8 +1,10 @@
-//! How much of each file is live, and which regions hold it.
+//! How much of each file is live, and which regions hold it. Each call fails for want of memory alone; one that appends may then have
+//! appended a part.
 
 ghost use Rattle.std.specs.Prelude.{◌≡◌, option_copied};
 ghost use Rattle.raft_report.specs.JsonLines.{live_in};
 
+use crate::region_order::sort_by_region;
 use raft_base::{AllocResult, FileId, FileSeq, LogQueue, Result};
 use raft_reading::FileSize;
 use raft_recover::{MemTable, MemTableAccessor};
@@ -28,7 +30,8 @@ pub struct FileUse {
 /// What tables need of the files of a queue, by their numbers.
 pub type FileUses = BTreeMap<FileSeq, FileUse>;
 
-/// Returns what tables need of the files of a queue: those that hold an entry, or are the oldest one that a region needs.
+/// Returns which files of `queue` the tables need, by their numbers: how many bytes of live entries each file has, and which
+/// regions have their oldest record there. A file with neither isn't in the result.
 ///
 /// # Errors
 ///
@@ -36,14 +39,14 @@ pub type FileUses = BTreeMap<FileSeq, FileUse>;
 pub fn uses_of(alloc: Global, tables: &MemTableAccessor, queue: LogQueue) -> Result<FileUses> {
     let mut uses = BTreeMap::new(alloc);
     let mut tables = tables.tables()?;
-    tables.sort_unstable_by_key(|table: &&MemTable| -> u64 { table.region_id() });
+    sort_by_region(&mut tables);
     for table in tables {
         add_table(alloc, table, queue, &mut uses)?;
     }
     Ok(uses)
 }
 
-/// Adds what a table needs.
+/// Adds to `uses` what a table needs of the files of a queue.
 fn add_table(alloc: Global, table: &MemTable, queue: LogQueue, uses: &mut FileUses) -> Result<()> {
     for block in table.blocks() {
         if block.handle.id.queue == queue {
@@ -63,7 +66,7 @@ fn add_table(alloc: Global, table: &MemTable, queue: LogQueue, uses: &mut FileUs
     Ok(())
 }
 
-/// Adds live bytes of a file.
+/// Adds `live` bytes to those that are live in a file.
 fn add_live(alloc: Global, id: FileId, live: u64, uses: &mut FileUses) -> Result<()> {
     match uses.get_mut(&id.seq) {
         Some(file_use) => file_use.live = file_use.live.saturating_add(live),
@@ -92,7 +95,7 @@ pub fn append_uses(
     Ok(())
 }
 
-/// Appends the line of a file.
+/// Appends the line of a file; `file_use` is `None` where no table needs it.
 fn append_use(
     queue: LogQueue,
     size: &FileSize,
@@ -104,7 +107,7 @@ fn append_use(
     text.push('\n')
 }
 
-/// Returns how many bytes of entries are live in a file.
+/// Returns how many bytes of entries are live in a file; 0 for `None`.
 pub(crate) fn live_in(file_use: Option<&FileUse>) -> u64
     ensures { result ≡ live_in (option_copied file_use.entry) }
 {
@@ -114,7 +117,7 @@ pub(crate) fn live_in(file_use: Option<&FileUse>) -> u64
     }
 }
 
-/// Appends the line of a file as far as its share.
+/// Appends the beginning of the line of a file: its name, its size, a bar, and how much of it is live.
 fn append_bar(queue: LogQueue, size: &FileSize, live: u64, text: &mut String) -> AllocResult<()> {
     let name = queue_name(queue);
     write!(text, "{name:<7} {:>6} {:>12} B |", size.seq, size.len)?;
@@ -126,7 +129,7 @@ fn append_bar(queue: LogQueue, size: &FileSize, live: u64, text: &mut String) ->
     write!(text, "| {percent:>3} % live, {live} B of entries")
 }
 
-/// Returns how many of `parts` equal parts of a whole some of it fills.
+/// Returns how many of `parts` equal parts of `whole` are filled by `some` of it, all at most; 0 where the whole is 0.
 pub(crate) fn share_of(some: u64, whole: u64, parts: u64) -> u64 {
     match some.saturating_mul(parts).checked_div(whole) {
         Some(share) => share.min(parts),
@@ -134,7 +137,7 @@ pub(crate) fn share_of(some: u64, whole: u64, parts: u64) -> u64 {
     }
 }
 
-/// Appends the regions whose oldest file it is, if there are some.
+/// Appends the regions whose oldest file it is; nothing for `None`, and where there are no such regions.
 ///
 /// # Errors
 ///
@@ -146,7 +149,7 @@ pub(crate) fn append_regions_of(file_use: Option<&FileUse>, text: &mut String) -
     }
 }
 
-/// Appends regions whose oldest file it is.
+/// Appends regions whose oldest file it is, ten of them at most, and how many more there are.
 fn append_regions(regions: &[u64], text: &mut String) -> AllocResult<()> {
     if regions.is_empty() {
         return Ok(());

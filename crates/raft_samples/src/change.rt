@@ -31,7 +31,12 @@ pub enum Change {
 }
 
 impl Change {
-    /// Draws a change that a region with these records may have.
+    /// Draws a change that a region with `records` may have: mostly entries, else key values, compactions,
+    /// truncations and cleans.
+    ///
+    /// # Errors
+    ///
+    /// `Memory` alone.
     pub fn draw(alloc: Global, dice: &mut Dice, records: &Records) -> Result<Change> {
         let index = draw_index(dice, records);
         Ok(match dice.below(16) {
@@ -45,13 +50,23 @@ impl Change {
         })
     }
 
-    /// Draws entries in place of all of a region or all but the first, and a compaction to their end.
+    /// Draws entries in place of all that a region with `records` has, or all but the first, and a compaction
+    /// to their end.
+    ///
+    /// # Errors
+    ///
+    /// `Memory` alone.
     pub fn draw_replacement(alloc: Global, dice: &mut Dice, records: &Records) -> Result<Change> {
         let first = records.first().unwrap_or(1).saturating_add(dice.below(2));
         Ok(Change::Replace(draw_run(alloc, dice, first)?))
     }
 
-    /// Adds the change to a batch, and makes it in the records of its region.
+    /// Adds the change to an open batch for `region`, and makes it in `records`, those of that region.
+    ///
+    /// # Errors
+    ///
+    /// Those of the batch's call. The change may then have been made in the batch alone, or in `records`
+    /// alone.
     pub fn make(self, batch: &mut LogBatch, region: u64, records: &mut Records) -> Result<()>
         requires { batch.old.stage ≡ is_open }
         ensures { OnOk result (batch.new.stage ≡ is_open) }
@@ -93,7 +108,8 @@ impl Change {
     }
 }
 
-/// Draws an index of a region or the one past its last, often that; of a region without entries any.
+/// Draws an index from the first one of a region with `records` to the one behind its last, in one of four
+/// cases the latter. For a region without entries it draws one below 20.
 fn draw_index(dice: &mut Dice, records: &Records) -> u64 {
     let (first, end) = match records.first() {
         Some(first) => (first, records.end()),
@@ -108,13 +124,21 @@ fn draw_index(dice: &mut Dice, records: &Records) -> u64 {
     first.saturating_add(dice.below(end.saturating_sub(first).saturating_add(1)))
 }
 
-/// Draws one to five entries from an index on.
+/// Draws one to five entries, whose indexes rise from `first` on.
+///
+/// # Errors
+///
+/// `Memory` alone.
 fn draw_run(alloc: Global, dice: &mut Dice, first: u64) -> Result<Vec<Proposal>> {
     let end = first.saturating_add(dice.below(5)).saturating_add(1);
     draw_entries(alloc, dice, first, end)
 }
 
-/// Draws the entries from an index on and below another one.
+/// Draws an entry for each of the indexes `first..end`.
+///
+/// # Errors
+///
+/// `Memory` alone.
 pub fn draw_entries(alloc: Global, dice: &mut Dice, first: u64, end: u64) -> Result<Vec<Proposal>> {
     let mut entries = Vec::new(alloc);
     for index in first..end {
@@ -124,13 +148,21 @@ pub fn draw_entries(alloc: Global, dice: &mut Dice, first: u64, end: u64) -> Res
     Ok(entries)
 }
 
-/// Draws one of four keys.
+/// Draws one of the keys `k0` to `k3`.
+///
+/// # Errors
+///
+/// `Memory` alone.
 fn draw_key(alloc: Global, dice: &mut Dice) -> Result<Vec<u8>> {
     let text = format!(in alloc; "k{}", dice.below(4))?;
     Ok(Vec::from_slice(alloc, text.as_bytes())?)
 }
 
 /// Draws a text of up to 20 letters, which may be empty.
+///
+/// # Errors
+///
+/// `Memory` alone.
 fn draw_text(alloc: Global, dice: &mut Dice) -> Result<Vec<u8>> {
     let mut text = Vec::new(alloc);
     for _ in 0..dice.below(21) {

@@ -11,14 +11,14 @@ pub struct Dice {
 }
 
 impl Dice {
-    /// Makes dice that throw the same for the same seed.
+    /// Returns dice that throw the same numbers for the same `seed`.
     pub fn new(seed: u64) -> Dice {
         Dice {
             drawn: hash_u64(seed),
         }
     }
 
-    /// Returns the next number, below `end`.
+    /// Returns the next number, which is below `end`.
     pub fn below(&mut self, end: u64) -> u64
         requires { 0 < end }
         ensures { result < end }
@@ -27,14 +27,14 @@ impl Dice {
         hash_u64(self.drawn) % end
     }
 
-    /// Returns `true` once in so many times.
+    /// Returns `true` once in `times` throws, on average.
     pub fn hits(&mut self, times: u64) -> bool
         requires { 0 < times }
     {
         self.below(times) == 0
     }
 
-    /// Throws one of the letters.
+    /// Returns one of the letters `a` to `z`.
     pub fn letter(&mut self) -> u8 {
         b'a' + self.below(26) as u8
     }

@@ -12,11 +12,11 @@ pub struct Proposal {
     pub text: Vec<u8>,
 }
 
-/// Makes proposals of these texts, the first of them at an index.
+/// Returns proposals with these texts, whose indexes rise from `first` on.
 ///
 /// # Errors
 ///
-/// `Memory`.
+/// `Memory` alone.
 pub fn proposals_from(alloc: Global, first: u64, texts: &[&str]) -> Result<Vec<Proposal>> {
     let mut proposals = Vec::new(alloc);
     for (index, text) in (first..).zip(texts) {
@@ -31,6 +31,11 @@ impl Message for Proposal {
 
     ghost refuses = { λ proposal code. ⊥ };
 
+    /// Appends the text of the proposal.
+    ///
+    /// # Errors
+    ///
+    /// `Memory` alone. `buf` is unchanged then.
     fn write_to_vec(&self, buf: &mut Vec<u8>) -> std::result::Result<(), MessageError> {
         match buf.extend_from_slice(self.text.as_slice()) {
             Ok(()) => Ok(()),
@@ -47,6 +52,7 @@ impl MessageExt for Proposals {
 
     ghost index_of = { λ proposal. proposal.index };
 
+    /// Returns the index of `proposal` in its log.
     fn index(proposal: &Proposal) -> u64 {
         proposal.index
     }

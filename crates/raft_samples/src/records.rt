@@ -22,7 +22,7 @@ pub struct Records {
 const SHORT: usize = 40;
 
 impl Records {
-    /// Makes those of a region that has none.
+    /// Returns the records of a region that has none.
     pub fn new(alloc: Global) -> Records {
         Records {
             entries: BTreeMap::new(alloc),
@@ -30,7 +30,11 @@ impl Records {
         }
     }
 
-    /// Adds entries, each in place of the one that stood at its index.
+    /// Adds `proposals` as entries, each in place of the one at its index.
+    ///
+    /// # Errors
+    ///
+    /// `Memory` alone. Some of them may have been added then.
     pub fn push_entries(&mut self, proposals: Vec<Proposal>) -> Result<()> {
         for proposal in proposals {
             let _ = self.entries.insert(proposal.index, proposal.text)?;
@@ -38,7 +42,12 @@ impl Records {
         Ok(())
     }
 
-    /// Puts entries in place of those from the first one's index on; none change nothing.
+    /// Puts `proposals` in place of the entries from the first one's index on. If there are none, nothing
+    /// changes.
+    ///
+    /// # Errors
+    ///
+    /// `Memory` alone. Entries may be gone then, and some of the new ones added.
     pub(crate) fn replace_entries(&mut self, proposals: Vec<Proposal>) -> Result<()> {
         if let Some(first) = proposals.first() {
             self.truncate(first.index);
@@ -46,7 +55,11 @@ impl Records {
         self.push_entries(proposals)
     }
 
-    /// Adds copies of a table's key values, each in place of the one under its key.
+    /// Adds copies of the key values of `table`, each in place of the one under its key.
+    ///
+    /// # Errors
+    ///
+    /// `Memory` alone. Some of them may have been added then.
     pub fn push_pairs(&mut self, alloc: Global, table: &MemTable) -> Result<()> {
         let mut pairs = Vec::new(alloc);
         table.fetch_kvs_before(u64::MAX, &mut pairs)?;
@@ -57,12 +70,12 @@ impl Records {
         Ok(())
     }
 
-    /// Returns the least index; without entries `None`.
+    /// Returns the least index, or `None` without entries.
     pub(crate) fn first(&self) -> Option<u64> {
         Some(*self.entries.first_key_value()?.0)
     }
 
-    /// Returns the greatest index plus one; without entries 0.
+    /// Returns the greatest index plus one, or 0 without entries.
     pub fn end(&self) -> u64 {
         match self.entries.last_key_value() {
             Some((last, _)) => last.saturating_add(1),
@@ -70,25 +83,30 @@ impl Records {
         }
     }
 
-    /// Drops the entries from an index on.
+    /// Drops the entries at or above the index `first`.
     pub(crate) fn truncate(&mut self, first: u64) {
         self.entries
             .retain(|index: &u64, _: &mut Vec<u8>| *index < first);
     }
 
-    /// Drops the entries below an index.
+    /// Drops the entries below the index `first`.
     pub(crate) fn compact(&mut self, first: u64) {
         self.entries
             .retain(|index: &u64, _: &mut Vec<u8>| *index >= first);
     }
 
-    /// Drops all records.
+    /// Drops all entries and key values.
     pub(crate) fn clear(&mut self) {
         self.entries.clear();
         self.pairs.clear();
     }
 
-    /// Adds a line to a text: the region's entries, then its key values. No line where there are none.
+    /// Appends a line to `text`: `  region R:`, the region's entries, each as ` INDEX BYTES`, and its key
+    /// values, each as ` KEY=VALUE`. Appends nothing if it has neither.
+    ///
+    /// # Errors
+    ///
+    /// `Memory` alone. Some of the text may have been appended then.
     fn push_line(&self, region: u64, text: &mut String) -> Result<()> {
         if self.entries.is_empty() && self.pairs.is_empty() {
             return Ok(());
@@ -108,7 +126,11 @@ impl Records {
     }
 }
 
-/// Returns the records of a region, which has none at first.
+/// Returns the records of `region`, to be changed. A region that isn't there is added, without records.
+///
+/// # Errors
+///
+/// `Memory` alone.
 pub fn records_for(alloc: Global, contents: &mut Contents, region: u64) -> Result<&mut Records> {
     if !contents.contains_key(&region) {
         let _ = contents.insert(region, Records::new(alloc))?;
@@ -116,7 +138,11 @@ pub fn records_for(alloc: Global, contents: &mut Contents, region: u64) -> Resul
     contents.get_mut(&region).ok_or(Error::Failed)
 }
 
-/// Returns where the entries of a table are.
+/// Returns all entries of `table`, with their places.
+///
+/// # Errors
+///
+/// `Memory` alone.
 pub fn entries_of(alloc: Global, table: &MemTable) -> Result<Vec<EntryIndex>> {
     let mut entries = Vec::new(alloc);
     let first = table.first_index().unwrap_or(0);
@@ -124,8 +150,12 @@ pub fn entries_of(alloc: Global, table: &MemTable) -> Result<Vec<EntryIndex>> {
     Ok(entries)
 }
 
-/// Returns a line for each region that has records. It is the same for the same records alone, but for a checksum in place of long
-/// bytes.
+/// Returns a line for each region of `contents` that has records. Only the same records give the same text,
+/// but for bytes that are told by a checksum.
+///
+/// # Errors
+///
+/// `Memory` alone.
 pub fn text_of(alloc: Global, contents: &Contents) -> Result<String> {
     let mut text = String::new(alloc);
     for (region, records) in contents {
@@ -134,7 +164,12 @@ pub fn text_of(alloc: Global, contents: &Contents) -> Result<String> {
     Ok(text)
 }
 
-/// Adds bytes to a text: letters and digits as they are, if they are few, and in place of others their number and checksum.
+/// Appends `bytes` to `text`: as they are if they are at most 40 letters and digits, else their number and
+/// checksum, as `(300 bytes, 3421780262)`.
+///
+/// # Errors
+///
+/// `Memory` alone. Some of the text may have been appended then.
 fn push_bytes(bytes: &[u8], text: &mut String) -> Result<()> {
     if bytes.len() <= SHORT && bytes.iter().all(|byte| byte.is_ascii_alphanumeric()) {
         for byte in bytes {

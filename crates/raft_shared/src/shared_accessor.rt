@@ -24,7 +24,7 @@ pub struct SharedAccessor {
 }
 
 impl SharedAccessor {
-    /// Makes one without tables.
+    /// Returns an accessor of 128 slots without tables. It allocates nothing yet.
     pub fn new(alloc: Global) -> SharedAccessor {
         SharedAccessor {
             slots: std::array::from_fn(
@@ -36,11 +36,11 @@ impl SharedAccessor {
         }
     }
 
-    /// Shares the tables, the counts and the cleaned regions of an accessor.
+    /// Returns an accessor that has the tables, the counts and the cleaned regions of `core`.
     ///
     /// # Errors
     ///
-    /// `Memory`.
+    /// `Memory` alone. The tables are lost then.
     pub fn from_core(alloc: Global, core: MemTableAccessor) -> Result<SharedAccessor>
         ensures { IfErr result (λ e. e ≡ Error.Memory) }
     {
@@ -52,13 +52,13 @@ impl SharedAccessor {
         Ok(shared)
     }
 
-    /// Returns the tables, the counts and the cleaned regions in one accessor, as [`SharedAccessor::from_core`]
-    /// had them. The cleaned regions are in order within each slot.
+    /// Returns the tables, the counts and the cleaned regions in one accessor, the opposite of
+    /// [`SharedAccessor::from_core`]. The cleaned regions are in order within each slot.
     ///
     /// # Errors
     ///
-    /// `Memory`, and `Full` where more than 2^64 - 1 records of all slots together are live in a queue; `Failed`
-    /// where a slot has another number, which never happens. The tables are then gone.
+    /// `Memory`; `Full` if more than 2^64 - 1 records of all slots together are live in a queue; `Failed` if
+    /// a slot has another number, which never happens. The tables are lost then.
     pub fn into_core(self) -> Result<MemTableAccessor>
         ensures exact_counts { IfOk result (λ core. AreCountsOf core.tables core.counts) }
         ensures fault { IfErr result (λ e. IsLockFault e ⊎ (e ≡ Error.Full)) }
@@ -72,8 +72,8 @@ impl SharedAccessor {
         Ok(core)
     }
 
-    /// Calls `f` at the region's table, under the lock for reading, and returns what `f` returns;
-    /// `None` where the region has no table.
+    /// Calls `f` with the table of the region `id`, under the lock of its slot for reading, and returns what
+    /// `f` returns. Returns `None` if the region has no table.
     pub fn with_table<X: Drop, F: FnOnce(&MemTable) -> X, R: Wait>(
         &self,
         rt: &R,
@@ -94,14 +94,14 @@ impl SharedAccessor {
         answer_of(&slot, id, f)
     }
 
-    /// Does to a region's table the change that `f` returns for it, all under the lock for writing. `f`
-    /// sees an empty table where there is none, and the table is then made. The number is how many
-    /// entries a compaction or a truncation drops, else 0.
+    /// Calls `f` with the table of the region `id`, or with an empty one if it has none, and makes the change
+    /// that `f` returns, all under the lock of its slot for writing. The table is made if there is none.
+    /// Returns how many entries a compaction or a truncation dropped, and 0 for any other change.
     ///
     /// # Errors
     ///
-    /// Those of [`Slot::change`], and `Failed` where a slot has another number, which never happens. The
-    /// tables are then as they were.
+    /// Those of [`Slot::change`], and `Failed` if a slot has another number, which never happens. The tables
+    /// are unchanged then.
     pub fn with_table_mut<F: FnOnce(&MemTable) -> TableChange, R: Wait>(
         &self,
         rt: &R,
@@ -117,13 +117,13 @@ impl SharedAccessor {
         change_by(&mut *self.lock(rt, id)?, self.alloc, id, f)
     }
 
-    /// Does what a change says to a region's table, which is made where there is none. The number is
-    /// how many entries a compaction or a truncation drops, else 0.
+    /// Makes one change of the table of the region `id`, which is made if there is none. Returns how many
+    /// entries a compaction or a truncation dropped, and 0 for any other change.
     ///
     /// # Errors
     ///
-    /// Those of [`Slot::change`], and `Failed` where a slot has another number, which never happens. The
-    /// tables are then as they were.
+    /// Those of [`Slot::change`], and `Failed` if a slot has another number, which never happens. The tables
+    /// are unchanged then.
     #[tactic(auto, using(crate::proofs::SharedLemmas::number_of, crate::proofs::SharedLemmas::refusal_of))]
     pub fn change<R: Wait>(&self, rt: &R, id: u64, change: TableChange) -> Result<u64>
         ensures number { IfOk result (IsNumberOf change id) }
@@ -138,25 +138,25 @@ impl SharedAccessor {
         )
     }
 
-    /// Makes an empty table for a region that has none.
+    /// Makes an empty table for the region `id`, unless it has one.
     ///
     /// # Errors
     ///
-    /// `Memory`, and `Failed` where a slot has another number, which never happens. The tables are then as
-    /// they were.
+    /// `Memory`, and `Failed` if a slot has another number, which never happens. The tables are unchanged
+    /// then.
     pub fn get_or_insert<R: Wait>(&self, rt: &R, id: u64) -> Result<()>
         ensures { IfErr result IsLockFault }
     {
         self.lock(rt, id)?.get_or_insert(id)
     }
 
-    /// Puts a table under its region's id and counts its records. The table that stood there is handed
-    /// back.
+    /// Puts `table` under its region's id, in place of the one that is there, which is returned, and counts
+    /// the change.
     ///
     /// # Errors
     ///
-    /// Those of [`Slot::insert`], and `Failed` where a slot has another number, which never happens. The
-    /// tables are then as they were.
+    /// Those of [`Slot::insert`], and `Failed` if a slot has another number, which never happens. The tables
+    /// are unchanged then.
     pub fn insert<R: Wait>(&self, rt: &R, id: u64, table: MemTable) -> Result<Option<MemTable>>
         requires { table.region_id ≡ id }
         ensures handed_back { IfOk result (λ t. IfSome t (IsSlotTable (slot_of id) id)) }
@@ -165,13 +165,14 @@ impl SharedAccessor {
         self.lock(rt, id)?.insert(id, table)
     }
 
-    /// Takes a region's table away, and lists the region where that is asked for, also where it has
+    /// Removes the table of the region `id` and returns it, or `None` if it has none, and subtracts its
+    /// records from the live counts. With `record_tombstone` the region is listed as cleaned, even if it has
     /// no table.
     ///
     /// # Errors
     ///
-    /// `Memory`, where the region is to be listed, and `Failed` where a slot has another number, which never
-    /// happens. All is then as it was.
+    /// `Memory`, only if the region is to be listed, and `Failed` if a slot has another number, which never
+    /// happens. Nothing has changed then.
     pub fn remove<R: Wait>(
         &self,
         rt: &R,
@@ -185,14 +186,15 @@ impl SharedAccessor {
         self.lock(rt, id)?.remove(id, record_tombstone)
     }
 
-    /// Sets the first and the last file of a region's atomic group; its table is made where there is
-    /// none. It is called once the group's End is written, for each region that the group names (see
-    /// [`MemTable::apply_rewrite_atomic_group`]).
+    /// Sets the first and the last file of the atomic group of the region `id` to `start` and `end`, of
+    /// which `start` is the lesser or the same. Its table is made if there is none. Call it once the End of
+    /// the group is written, for each region that the group names ([`MemTable::apply_rewrite_atomic_group`]
+    /// says why).
     ///
     /// # Errors
     ///
-    /// `Memory`, and `Failed` where a slot has another number, which never happens. The tables are then as
-    /// they were.
+    /// `Memory`, and `Failed` if a slot has another number, which never happens. The tables are unchanged
+    /// then.
     pub fn apply_rewrite_atomic_group<R: Wait>(
         &self,
         rt: &R,
@@ -207,12 +209,13 @@ impl SharedAccessor {
             .apply_rewrite_atomic_group(id, start, end)
     }
 
-    /// Writes new items of the append queue to the tables, in order.
+    /// Writes `items`, new ones of the append queue, which must come to an end, to the tables of their
+    /// regions, in order. The lock of a slot is taken for each item.
     ///
     /// # Errors
     ///
-    /// Those of the call of [`Slot`] for the first item that is refused, and `Failed` where a slot has
-    /// another number, which never happens. The items in front of it are written.
+    /// Those of [`Slot::apply_append_write`] for the first item that is refused, and `Failed` if a slot has
+    /// another number, which never happens. The items before it are written.
     pub fn apply_append_writes<I: IntoIterator<Item = LogItem>, R: Wait>(
         &self,
         rt: &R,
@@ -230,14 +233,15 @@ impl SharedAccessor {
         self.write_items(rt, Writing::Appending, items)
     }
 
-    /// Writes items that were rewritten to the file of number `new_file` of the rewrite queue to the
-    /// tables, in order. `watermark` is the gate: with one, the places that move are those in append files
-    /// at or below it, without one those that are rewritten already.
+    /// Writes `items`, which must come to an end, to the tables of their regions, in order, as items that
+    /// were rewritten to the file numbered `new_file` of the rewrite queue. The lock of a slot is taken for
+    /// each item. `watermark` limits which places move: with one, those in append files numbered at or
+    /// below it; without one, those that are rewritten already.
     ///
     /// # Errors
     ///
-    /// Those of the call of [`Slot`] for the first item that is refused, and `Failed` where a slot has
-    /// another number, which never happens. The items in front of it are written.
+    /// Those of [`Slot::apply_rewrite_write`] for the first item that is refused, and `Failed` if a slot has
+    /// another number, which never happens. The items before it are written.
     pub fn apply_rewrite_writes<I: IntoIterator<Item = LogItem>, R: Wait>(
         &self,
         rt: &R,
@@ -257,15 +261,16 @@ impl SharedAccessor {
         self.write_items(rt, Writing::Rewriting(watermark, new_file), items)
     }
 
-    /// Moves the cleaned regions of all slots into an open batch as a `Clean` for each.
+    /// Adds a `Clean` for each region that is listed as cleaned to `logs`, an open batch, and empties the
+    /// lists, slot by slot.
     ///
     /// The batch belongs in the rewrite queue, once the append queue is synced. So does what else takes
-    /// rewritten records away, which is not listed: compactions, truncations, deletions of keys, and each run
+    /// rewritten records away, which isn't listed: compactions, truncations, deletions of keys, and each run
     /// that replaces entries, as the truncation at its first index.
     ///
     /// # Errors
     ///
-    /// `Memory`. Each cleaned region is then still listed, or in the batch.
+    /// `Memory` alone. Each cleaned region is still listed then, or in the batch.
     pub fn take_cleaned_region_logs<R: Wait>(&self, rt: &R, logs: &mut LogBatch) -> Result<()>
         requires { logs.old.stage ≡ is_open }
         ensures logs { HasCleans logs.old logs.new }
@@ -277,7 +282,7 @@ impl SharedAccessor {
         Ok(())
     }
 
-    /// Tests whether there are no tables.
+    /// Tests whether no region has a table, slot by slot: other threads may change one meanwhile.
     pub fn is_empty<R: Wait>(&self, rt: &R) -> bool {
         for slot in &self.slots {
             if !slot.read(rt).is_empty() {
@@ -287,7 +292,8 @@ impl SharedAccessor {
         true
     }
 
-    /// Returns what `f` makes of `init` and each table, one after another in no set order.
+    /// Returns what `f` makes of `init` and all tables: it is called with what it returned before, and each
+    /// table, in no set order. The lock of a slot is held for reading while `f` sees its tables.
     pub fn fold<B: Drop, F: FnMut(B, &MemTable) -> B, R: Wait>(
         &self,
         rt: &R,
@@ -307,11 +313,12 @@ impl SharedAccessor {
         answer
     }
 
-    /// Returns the ids of the tables at which `f` returns true, in no set order.
+    /// Returns the region ids of the tables for which `f` returns true, in no set order. The lock of a slot
+    /// is held for reading while `f` sees its tables.
     ///
     /// # Errors
     ///
-    /// `Memory`.
+    /// `Memory` alone.
     pub fn collect<F: FnMut(&MemTable) -> bool, R: Wait>(
         &self,
         rt: &R,
@@ -331,7 +338,8 @@ impl SharedAccessor {
         Ok(ids)
     }
 
-    /// Returns how many records of all tables are live in a queue.
+    /// Returns how many records of all tables are live in `queue`, slot by slot: other threads may change the
+    /// count meanwhile.
     pub fn live_entries<R: Wait>(&self, rt: &R, queue: LogQueue) -> u128 {
         let mut live: u128 = 0;
         for slot in &self.slots {
@@ -340,11 +348,12 @@ impl SharedAccessor {
         live
     }
 
-    /// Locks the slot of a region for writing. It waits for the lock.
+    /// Locks the slot of the region `id` for writing. It waits for the lock.
     ///
     /// # Errors
     ///
-    /// `Failed` where the slot has another number, which never happens.
+    /// `Failed` if the slot has another number, which never happens: locks promise nothing of what they
+    /// guard.
     fn lock<R: Wait>(&self, rt: &R, id: u64) -> Result<RwLockWriteGuard<'_, Slot>>
         ensures number { IfOk result (λ slot. (write_guard_value slot).number ≡ slot_of id) }
         ensures fault { IfErr result (λ e. e ≡ Error.Failed) }
@@ -357,12 +366,12 @@ impl SharedAccessor {
         Ok(slot)
     }
 
-    /// Writes items to the tables in order, as `how` says.
+    /// Writes items to the tables of their regions, in order, as `how` says.
     ///
     /// # Errors
     ///
-    /// Those of `write_item` at the first item that is refused. The items in front of it are
-    /// written.
+    /// Those of [`write_item`](SharedAccessor::write_item) for the first item that is refused. The items
+    /// before it are written.
     #[inline(always)]
     fn write_items<I: IntoIterator<Item = LogItem>, R: Wait>(
         &self,
@@ -385,12 +394,12 @@ impl SharedAccessor {
         Ok(())
     }
 
-    /// Writes an item to its region's table, as `how` says, under the lock for writing.
+    /// Writes one item to the table of its region, as `how` says, under the lock of its slot for writing.
     ///
     /// # Errors
     ///
-    /// Those of the call of [`Slot`], and `Failed` where the slot has another number, which never
-    /// happens.
+    /// Those of the call of [`Slot`], and `Failed` if the slot has another number, which never happens. The
+    /// tables are unchanged then.
     #[inline(always)]
     fn write_item<R: Wait>(&self, rt: &R, how: Writing, item: LogItem) -> Result<()>
         ensures ok { OnOk result (MayBeWritten (writing_shown how) (item_of item)) }
@@ -400,11 +409,13 @@ impl SharedAccessor {
     }
 }
 
-/// Divides tables and cleaned regions into 128 slots.
+/// Divides the tables and the cleaned regions of `core` among 128 slots, each at the index that is its
+/// number: a region goes to the slot that [`slot_of`] names. Cleaned regions keep their order within a
+/// slot.
 ///
 /// # Errors
 ///
-/// `Memory`. The tables are then gone.
+/// `Memory` alone. The tables are lost then.
 fn share_out(alloc: Global, core: MemTableAccessor) -> Result<Vec<Slot>>
     ensures shares { IfOk result (λ slots. HaveShares core.tables core.cleaned 0 slots.items) }
     ensures all { IfOk result (λ slots. length slots.items ≡ 128) }
@@ -419,11 +430,12 @@ fn share_out(alloc: Global, core: MemTableAccessor) -> Result<Vec<Slot>>
     Ok(slots)
 }
 
-/// Divides the tables into 128 slots. The cleaned regions stay with the accessor.
+/// Divides the tables of `core` among 128 slots, each at the index that is its number. The cleaned regions
+/// stay with `core`.
 ///
 /// # Errors
 ///
-/// `Memory`. Some tables are then gone.
+/// `Memory` alone. Some of the tables are lost then.
 fn share_tables(alloc: Global, core: &mut MemTableAccessor) -> Result<Vec<Slot>>
     ensures shares { IfOk result (λ slots. HaveShares core.old.tables [] 0 slots.items) }
     ensures all { IfOk result (λ slots. length slots.items ≡ 128) }
@@ -439,13 +451,14 @@ fn share_tables(alloc: Global, core: &mut MemTableAccessor) -> Result<Vec<Slot>>
     Ok(slots)
 }
 
-/// Moves the tables and cleaned regions of a slot into an accessor.
+/// Moves the tables of a slot into `core`, and lists the slot's cleaned regions there, behind those that
+/// are listed.
 ///
 /// # Errors
 ///
-/// `Memory`, and `Full` where more than 2^64 - 1 records would be live in a queue; `Failed` where
-/// the slot has a region of another number, which never happens. Some tables may then be moved, and
-/// one is lost.
+/// `Memory`; `Full` if more than 2^64 - 1 records would be live in a queue; `Failed` if the slot has a
+/// region that belongs to another slot, which never happens. Some of the cleaned regions may be listed and
+/// some of the tables moved then, and one table may be lost.
 fn move_slot(slot: &mut Slot, alloc: Global, core: &mut MemTableAccessor) -> Result<()>
     ensures tables { OnOk result
         (AreSlotTablesAdded slot.old core.old.tables core.new.tables) }
@@ -466,11 +479,11 @@ fn move_slot(slot: &mut Slot, alloc: Global, core: &mut MemTableAccessor) -> Res
     Ok(())
 }
 
-/// Lists these regions of one slot as cleaned.
+/// Lists the regions `ids`, which are those of the slot `number` that were cleaned, in `core`.
 ///
 /// # Errors
 ///
-/// `Memory`. Some of them may then be listed.
+/// `Memory` alone. Some of them may be listed then.
 fn list_cleaned(number: usize, ids: &[u64], core: &mut MemTableAccessor) -> Result<()>
     requires { AllByRecursion (λ id. slot_of id ≡ number) ids.now }
     ensures ok { OnOk result (core.new.cleaned ≡ core.old.cleaned ++ ids.now) }
@@ -486,12 +499,12 @@ fn list_cleaned(number: usize, ids: &[u64], core: &mut MemTableAccessor) -> Resu
     Ok(())
 }
 
-/// Moves the table of a region, if it has one, out of a slot into an accessor.
+/// Moves the table of the region `id`, if it has one, out of a slot into `core`.
 ///
 /// # Errors
 ///
-/// `Memory`, and `Full` where more than 2^64 - 1 records would be live in a queue; `Failed` where
-/// the slot has another number, which never happens. The table may then be lost.
+/// `Memory`; `Full` if more than 2^64 - 1 records would be live in a queue; `Failed` if the region belongs
+/// to another slot, which never happens. The table may be lost then.
 fn move_table(slot: &mut Slot, id: u64, core: &mut MemTableAccessor) -> Result<()>
     ensures moved { OnOk result ((t : Table) → finite.get slot.old.content.tables id ≡ Some t
         → core.new.tables ≡ finite.insert core.old.tables id t) }
@@ -512,7 +525,8 @@ fn move_table(slot: &mut Slot, id: u64, core: &mut MemTableAccessor) -> Result<(
     Ok(())
 }
 
-/// Returns what `f` returns of a region's table, `None` where the region has none.
+/// Calls `f` with the table of the region `id`, and returns what it returns, or `None` if the region has no
+/// table.
 fn answer_of<X: Drop, F: FnOnce(&MemTable) -> X>(slot: &Slot, id: u64, f: F) -> Option<X>
 where
     F: Drop,
@@ -525,11 +539,11 @@ where
     Some(f(table))
 }
 
-/// Does the change to a region's table that `f` returns of it.
+/// Makes the change that `f` returns for the table of the region `id`, or for an empty one if it has none.
 ///
 /// # Errors
 ///
-/// Those of [`Slot::change`]. The slot is then as it was.
+/// Those of [`Slot::change`]. The slot is unchanged then.
 fn change_by<F: FnOnce(&MemTable) -> TableChange>(
     slot: &mut Slot,
     alloc: Global,
@@ -547,7 +561,7 @@ where
     slot.change(id, change)
 }
 
-/// Returns what `f` returns of a region's table, or of an empty one where the region has none.
+/// Returns what `f` returns for the table of the region `id`, or for an empty one if it has none.
 fn answer_at<F: FnOnce(&MemTable) -> TableChange>(
     slot: &Slot,
     alloc: Global,

@@ -14,8 +14,9 @@ use raft_table::{GlobalStats, MemTable, TableChange};
 use std::alloc::Global;
 use std::marker::Model;
 
-/// The tables of the regions whose slot has one number, how many of their records are live, and those
-/// of them that were cleaned. Its calls do to these regions what the calls of `MemTableAccessor` do.
+/// The tables of the regions whose slot has one number, how many of their records are live, and those of
+/// them that were cleaned. Its calls do to these regions what the calls of `MemTableAccessor` do. A call
+/// may name a region of this slot alone.
 #[derive(Drop)]
 pub struct Slot {
     number: usize,
@@ -40,7 +41,7 @@ impl Model for Slot {
 }
 
 impl Slot {
-    /// Makes the slot of this number, without tables. It takes no memory.
+    /// Returns the slot numbered `number`, below 128, without tables. It allocates nothing.
     pub fn new(alloc: Global, number: usize) -> Slot
         requires { number < 128 }
         ensures number { result.number ≡ number }
@@ -56,14 +57,14 @@ impl Slot {
         }
     }
 
-    /// Returns the number of the slot.
+    /// Returns the number of the slot, from 0 to 127.
     pub fn number(&self) -> usize
         ensures { result ≡ self.now.number }
     {
         self.number
     }
 
-    /// Returns the table of a region.
+    /// Returns the table of the region `id`, or `None` if it has none.
     pub fn table(&self, id: u64) -> Option<&MemTable>
         ensures value { option_map (λ t. t.now) result ≡ finite.get self.now.content.tables id }
         ensures allowed { IfSome result (λ t. IsSlotTable self.now.number id t.now) }
@@ -71,14 +72,15 @@ impl Slot {
         self.tables.get(id)
     }
 
-    /// Tests whether the slot has no tables.
+    /// Tests whether no region of the slot has a table.
     pub fn is_empty(&self) -> bool
         ensures { IsTrue result ↔ (self.now.content.tables ≡ finite.empty) }
     {
         self.tables.is_empty()
     }
 
-    /// Returns what `f` makes of `init` and each table of the slot, in no set order.
+    /// Returns what `f` makes of `init` and all tables of the slot: it is called with what it returned
+    /// before, and each table once, in no set order.
     pub fn fold<B: Drop, F: FnMut(B, &MemTable) -> B>(&self, init: B, f: &mut F) -> B
         requires { (state : F) (x : _) (t : _) → F.pre state x t }
         ensures { (ts : List Table) × IsPermutation ts (finite.values self.now.content.tables)
@@ -87,11 +89,11 @@ impl Slot {
         self.tables.fold(init, f)
     }
 
-    /// Pushes the ids of the slot's tables at which `wanted` returns true, in no set order.
+    /// Appends the region ids of the tables for which `wanted` returns true to `ids`, in no set order.
     ///
     /// # Errors
     ///
-    /// `Memory`.
+    /// `Memory` alone. Some of the ids have been appended then.
     pub fn push_ids<F: FnMut(&MemTable) -> bool>(
         &self,
         wanted: &mut F,
@@ -121,20 +123,21 @@ impl Slot {
         self.cleaned.as_slice()
     }
 
-    /// States what every slot keeps: its tables stand under their own ids, which are of the slot as
-    /// the cleaned regions are, and are counted exactly. This is a law: it computes nothing.
+    /// States what every slot keeps: each table is under its region's id; all of these regions, and the
+    /// cleaned ones, are of this slot; and the live counts are those of its tables. This is a law: it
+    /// computes nothing.
     pub fn holds_own_tables(&self)
         ensures { HoldsOwnTables self.now }
     {
         self.tables.tables_are_own();
     }
 
-    /// Does what a change says to a region's table, which is made where there is none. The number is
-    /// how many entries a compaction or a truncation drops, else 0.
+    /// Makes one change of the table of the region `id`, which is made if there is none. Returns how many
+    /// entries a compaction or a truncation dropped, and 0 for any other change.
     ///
     /// # Errors
     ///
-    /// Those of [`MemTable::change`], and `Memory`. The tables are then as they were.
+    /// Those of [`MemTable::change`]; `Memory`. The tables are unchanged then.
     pub fn change(&mut self, id: u64, change: TableChange) -> Result<u64>
         requires { slot_of id ≡ self.old.number }
         ensures changed { IsTableChanged (after_change (table_in self.old.content.tables id) change)
@@ -150,11 +153,11 @@ impl Slot {
         self.tables.change(id, change, &mut self.stats)
     }
 
-    /// Makes an empty table for a region that has none.
+    /// Makes an empty table for the region `id`, unless it has one.
     ///
     /// # Errors
     ///
-    /// `Memory`. The tables are then as they were.
+    /// `Memory` alone. The tables are unchanged then.
     pub fn get_or_insert(&mut self, id: u64) -> Result<()>
         requires { slot_of id ≡ self.old.number }
         ensures made { IsTableChanged (Some (table_in self.old.content.tables id))
@@ -165,13 +168,14 @@ impl Slot {
         self.tables.make(id, &mut self.stats)
     }
 
-    /// Sets the first and the last file of a region's atomic group; its table is made where there is
-    /// none. It is called once the group's End is written, for each region that the group names (see
-    /// [`MemTable::apply_rewrite_atomic_group`]).
+    /// Sets the first and the last file of the atomic group of the region `id` to `start` and `end`, of
+    /// which `start` is the lesser or the same. Its table is made if there is none. Call it once the End of
+    /// the group is written, for each region that the group names ([`MemTable::apply_rewrite_atomic_group`]
+    /// says why).
     ///
     /// # Errors
     ///
-    /// `Memory`. The tables are then as they were.
+    /// `Memory` alone. The tables are unchanged then.
     pub fn apply_rewrite_atomic_group(
         &mut self,
         id: u64,
@@ -191,13 +195,13 @@ impl Slot {
             .apply_rewrite_atomic_group(id, start, end, &mut self.stats)
     }
 
-    /// Puts a table under its region's id and counts its records. The table that stood there is taken
-    /// off the counts and handed back.
+    /// Puts `table` under its region's id, in place of the one that is there, which is returned, and counts
+    /// the change.
     ///
     /// # Errors
     ///
-    /// `Full` where more than 2^64 - 1 records would be live in a queue beside the table that is
-    /// replaced, and `Memory`. The tables are then as they were.
+    /// `Full` if more than 2^64 - 1 records would be live in a queue beside those of the table that is
+    /// replaced; `Memory`. The tables are unchanged then, and `table` is dropped.
     pub fn insert(&mut self, id: u64, table: MemTable) -> Result<Option<MemTable>>
         requires slot { slot_of id ≡ self.old.number }
         requires region { table.region_id ≡ id }
@@ -220,8 +224,8 @@ impl Slot {
         self.tables.insert(id, table, &mut self.stats)
     }
 
-    /// Takes the tables of the slot's regions out of an accessor, into a slot that has none. The list of
-    /// cleaned regions stays with the accessor. It takes no memory; its time grows with these tables alone.
+    /// Takes the tables of the slot's regions out of `core`, into this slot, which has none. The list of
+    /// cleaned regions stays with `core`. It allocates nothing; its time grows with these tables alone.
     pub fn take_tables(&mut self, core: &mut MemTableAccessor)
         requires { self.old.content.tables ≡ finite.empty }
         ensures { AreTablesTaken self.old self.new core.old core.new }
@@ -231,12 +235,13 @@ impl Slot {
         self.stats = stats;
     }
 
-    /// Takes a region's table away, and lists the region where that is asked for, also where it has
+    /// Removes the table of the region `id` and returns it, or `None` if it has none, and subtracts its
+    /// records from the live counts. With `record_tombstone` the region is listed as cleaned, even if it has
     /// no table.
     ///
     /// # Errors
     ///
-    /// `Memory`, where the region is to be listed. The slot is then as it was.
+    /// `Memory` alone, and only if the region is to be listed. The slot is unchanged then.
     pub fn remove(&mut self, id: u64, record_tombstone: bool) -> Result<Option<MemTable>>
         requires { slot_of id ≡ self.old.number }
         ensures tables { OnOk result (self.new.content.tables ≡ finite.remove
@@ -258,12 +263,13 @@ impl Slot {
         Ok(self.take(id))
     }
 
-    /// Tests whether [`apply_append_write`](Slot::apply_append_write) would accept these items, one after another,
-    /// once their entries have a place and their key values a file in the append queue. It changes nothing.
+    /// Checks that [`apply_append_write`](Slot::apply_append_write) would accept these items, one after
+    /// another, once their entries have a place and their key values a file in the append queue. It changes
+    /// nothing.
     ///
     /// # Errors
     ///
-    /// `Corruption` where it would refuse an item: the text names the region, the index and the reason. `Memory`.
+    /// `Corruption` if it would refuse an item, with the region, the index and the reason; `Memory`.
     pub fn check_append_writes(&self, items: &[LogItem]) -> Result<()>
         ensures ok { OnOk result (AreAcceptedOncePlaced self.now.content.tables
             (map item_of items.now)) }
@@ -275,11 +281,11 @@ impl Slot {
         self.tables.check_append_items(items)
     }
 
-    /// Writes a new item of the append queue to its region's table.
+    /// Writes `item`, a new one of the append queue, to the table of its region.
     ///
     /// # Errors
     ///
-    /// Those of [`RegionTables::append_item`]. Tables and list are then as they were.
+    /// Those of [`RegionTables::append_item`]. Tables, counts and list are unchanged then.
     pub fn apply_append_write(&mut self, item: LogItem) -> Result<()>
         requires { slot_of item.raft_group_id ≡ self.old.number }
         ensures written { IsWritten Appending (item_of item) result self.old.content
@@ -289,13 +295,13 @@ impl Slot {
         self.write_item(Writing::Appending, item)
     }
 
-    /// Writes an item that was rewritten to the file of number `new_file` of the rewrite queue to its
-    /// region's table. `watermark` is the gate: with one, the places that move are those in append files
-    /// at or below it, without one those that are rewritten already.
+    /// Writes `item`, which was rewritten to the file numbered `new_file` of the rewrite queue, to the
+    /// table of its region. `watermark` limits which places move: with one, those in append files numbered
+    /// at or below it; without one, those that are rewritten already.
     ///
     /// # Errors
     ///
-    /// Those of [`RegionTables::rewrite_item`]. Tables and list are then as they were.
+    /// Those of [`RegionTables::rewrite_item`]. Tables, counts and list are unchanged then.
     pub fn apply_rewrite_write(
         &mut self,
         item: LogItem,
@@ -310,12 +316,11 @@ impl Slot {
         self.write_item(Writing::Rewriting(watermark, new_file), item)
     }
 
-    /// Writes an item to its region's table, as `how` says.
+    /// Writes one item to the table of its region, as `how` says.
     ///
     /// # Errors
     ///
-    /// Those of [`RegionTables::append_item`] or [`RegionTables::rewrite_item`]. The slot is then
-    /// as it was.
+    /// Those of [`RegionTables::append_item`] or [`RegionTables::rewrite_item`]. The slot is unchanged then.
     #[inline(always)]
     pub(crate) fn write_item(&mut self, how: Writing, item: LogItem) -> Result<()>
         requires { slot_of item.raft_group_id ≡ self.old.number }
@@ -327,16 +332,16 @@ impl Slot {
             .write_item(how, item, &mut self.stats, &mut self.cleaned)
     }
 
-    /// Moves the cleaned regions into an open batch as a `Clean` for each, in order. The list is then
-    /// empty.
+    /// Adds a `Clean` for each region that is listed as cleaned to `logs`, an open batch, in order, and
+    /// empties the list.
     ///
     /// The batch belongs in the rewrite queue, once the append queue is synced. So does what else takes
-    /// rewritten records away, which is not listed: compactions, truncations, deletions of keys, and each run
+    /// rewritten records away, which isn't listed: compactions, truncations, deletions of keys, and each run
     /// that replaces entries, as the truncation at its first index.
     ///
     /// # Errors
     ///
-    /// `Memory`. Slot and batch are then as they were.
+    /// `Memory` alone. Slot and batch are unchanged then.
     pub fn take_cleaned_region_logs(&mut self, logs: &mut LogBatch) -> Result<()>
         requires { logs.old.stage ≡ is_open }
         ensures logs { OnOk result (logs.new ≡ record logs.old {
@@ -354,11 +359,11 @@ impl Slot {
         Ok(())
     }
 
-    /// Lists a region as cleaned.
+    /// Lists the region `id` as cleaned.
     ///
     /// # Errors
     ///
-    /// `Memory`. The slot is then as it was.
+    /// `Memory` alone. The slot is unchanged then.
     pub(crate) fn list(&mut self, id: u64) -> Result<()>
         requires { slot_of id ≡ self.old.number }
         ensures ok { OnOk result (self.new ≡ record self.old {
@@ -371,7 +376,8 @@ impl Slot {
         Ok(())
     }
 
-    /// Takes a region's table away, and its records off the counts.
+    /// Removes the table of the region `id` and returns it, or `None` if it has none, and subtracts its
+    /// records from the live counts.
     fn take(&mut self, id: u64) -> Option<MemTable>
         requires { slot_of id ≡ self.old.number }
         ensures tables { self.new.content.tables ≡ finite.remove self.old.content.tables id }
@@ -386,11 +392,11 @@ impl Slot {
     }
 }
 
-/// Adds a `Clean` for each of these regions to an open batch, in order.
+/// Adds a `Clean` for each of the regions `ids` to an open batch, in order.
 ///
 /// # Errors
 ///
-/// `Memory`. The batch is then as it was.
+/// `Memory` alone. The batch is unchanged then.
 fn move_cleans(alloc: Global, ids: &[u64], logs: &mut LogBatch) -> Result<()>
     requires { logs.old.stage ≡ is_open }
     ensures ok { OnOk result (logs.new

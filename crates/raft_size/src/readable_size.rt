@@ -34,7 +34,7 @@ impl ReadableSize {
     ghost use Rattle.raft_size.specs.declared.readable_size.ReadableSize.{ReadableSize};
     ghost use Rattle.raft_size.specs.declared.size_text.SizeError.{SizeError};
 
-    /// Returns so many times 2^10 bytes.
+    /// Returns a size of `count` times 2^10 bytes, which must be below 2^64.
     pub const fn kb(count: u64) -> ReadableSize
         requires { count * 2 ^ 10 < 2 ^ 64 }
         ensures { result.0 ≡ count * 2 ^ 10 }
@@ -42,7 +42,7 @@ impl ReadableSize {
         ReadableSize(count * KIB)
     }
 
-    /// Returns so many times 2^20 bytes.
+    /// Returns a size of `count` times 2^20 bytes, which must be below 2^64.
     pub const fn mb(count: u64) -> ReadableSize
         requires { count * 2 ^ 20 < 2 ^ 64 }
         ensures { result.0 ≡ count * 2 ^ 20 }
@@ -50,7 +50,7 @@ impl ReadableSize {
         ReadableSize(count * MIB)
     }
 
-    /// Returns so many times 2^30 bytes.
+    /// Returns a size of `count` times 2^30 bytes, which must be below 2^64.
     pub const fn gb(count: u64) -> ReadableSize
         requires { count * 2 ^ 30 < 2 ^ 64 }
         ensures { result.0 ≡ count * 2 ^ 30 }
@@ -58,15 +58,15 @@ impl ReadableSize {
         ReadableSize(count * GIB)
     }
 
-    /// Returns how often 2^20 bytes fit into the size.
+    /// Returns how many times 2^20 bytes the size has, rounded down.
     pub const fn as_mb(self) -> u64
         ensures { result ≡ self.0 / 2 ^ 20 }
     {
         self.0 / MIB
     }
 
-    /// States the laws of texts: a text can be read in one way alone, what is printed of a size stands for that
-    /// size, and so it is read again as that size.
+    /// States the laws of sizes as texts. A text is read in one way only. What is printed of a size stands
+    /// for that size, so it is read back as that size.
     pub fn text_laws()
         ensures one_way { (text : List ℕ) (r s : Result ReadableSize SizeError) → IsReadAs text r
             → IsReadAs text s → r ≡ s }
@@ -75,8 +75,8 @@ impl ReadableSize {
             → IsReadAs (size_text n) r → r ≡ Ok (record { 0 = n }) }
     {}
 
-    /// Returns the count and the unit that a size is printed with: the largest unit that divides
-    /// it, and `KiB` for 0.
+    /// Returns the count and the unit that a size is printed with: the largest unit that divides it, or `KiB`
+    /// for 0.
     fn printed(self) -> (u64, &'static str)
         ensures text { size_text self.0 ≡ decimal result.0 ++ result.1.now }
         ensures unit { length result.1.now ≤ 3 }
@@ -108,12 +108,13 @@ impl Div<u64> for ReadableSize {
 
     ghost div_gives = { λ size divisor r. r.0 ≡ size.0 / divisor };
 
+    /// Returns the size divided by `rhs`, which isn't 0, rounded down to whole bytes.
     fn div(self, rhs: u64) -> ReadableSize {
         ReadableSize(self.0 / rhs)
     }
 }
 
-/// Returns how often a size fits into the size.
+/// How many times a size fits into another one.
 impl Div<ReadableSize> for ReadableSize {
     type Output = u64;
 
@@ -121,12 +122,13 @@ impl Div<ReadableSize> for ReadableSize {
 
     ghost div_gives = { λ size divisor r. r ≡ size.0 / divisor.0 };
 
+    /// Returns how many times the size `rhs`, which isn't 0, fits into this one.
     fn div(self, rhs: ReadableSize) -> u64 {
         self.0 / rhs.0
     }
 }
 
-/// Returns so many times the size.
+/// A size times a number.
 impl Mul<u64> for ReadableSize {
     type Output = ReadableSize;
 
@@ -134,6 +136,7 @@ impl Mul<u64> for ReadableSize {
 
     ghost mul_gives = { λ size count r. r.0 ≡ size.0 * count };
 
+    /// Returns the size times `rhs`, which must be below 2^64 bytes.
     fn mul(self, rhs: u64) -> ReadableSize {
         ReadableSize(self.0 * rhs)
     }
@@ -149,6 +152,13 @@ impl FromStr for ReadableSize {
 
     ghost from_str_gives = { IsReadAs };
 
+    /// Returns the size that the text `s` stands for, as ` 0.5 PiB` or `1e+1MB`: rounded down to whole bytes,
+    /// at least 0 and at most 2^64 - 1.
+    ///
+    /// # Errors
+    ///
+    /// `Empty`, `NotAscii`, `Unit`, `Number` or `Digits`: the first of these reasons why the text stands for
+    /// no size.
     fn from_str(s: &str) -> Result<ReadableSize, SizeError> {
         Ok(ReadableSize(parse_size(s)?))
     }
@@ -158,6 +168,11 @@ impl FromStr for ReadableSize {
 impl fmt::Display for ReadableSize {
     ghost output = { λ size. Some (size_text size.0) };
 
+    /// Prints the size in the largest unit that divides it, as `2KiB` or `1025B`.
+    ///
+    /// # Errors
+    ///
+    /// That of the writer.
     fn fmt<W: fmt::Write>(&self, f: &mut fmt::Formatter<W>) -> fmt::Result {
         let (count, unit) = self.printed();
         write!(f, "{count}{unit}")
@@ -170,6 +185,11 @@ impl Described for ReadableSize {
 
 /// Writes the size as its text.
 impl Serialize for ReadableSize {
+    /// Writes the size as its text, as `2KiB`.
+    ///
+    /// # Errors
+    ///
+    /// Those of `out`.
     fn serialize<S: Serializer>(&self, out: &mut S) -> Result<(), S::Error> {
         let (count, unit) = self.printed();
         let mut digits = Buffer::new();
@@ -182,6 +202,11 @@ impl Serialize for ReadableSize {
 
 /// Reads the size from a text.
 impl<'de> Deserialize<'de> for ReadableSize {
+    /// Reads the size from a text, as [`from_str`](ReadableSize::from_str) does.
+    ///
+    /// # Errors
+    ///
+    /// Those of `from`, and the reason why the text stands for no size.
     fn deserialize<F: Format>(
         alloc: Global,
         from: &mut Deserializer<'de, '_, F>,
@@ -193,6 +218,11 @@ impl<'de> Deserialize<'de> for ReadableSize {
 }
 
 impl DeserializeOwned for ReadableSize {
+    /// Reads the size from a text, as [`from_str`](ReadableSize::from_str) does.
+    ///
+    /// # Errors
+    ///
+    /// Those of `from`, and the reason why the text stands for no size.
     fn deserialize_owned<F: Format>(
         alloc: Global,
         from: &mut Deserializer<'_, '_, F>,
@@ -207,11 +237,12 @@ impl DeserializeOwned for ReadableSize {
     }
 }
 
-/// Returns the size that a setting gives: a text, or a whole number of bytes.
+/// Returns the size that `value` of a setting gives: a text, as `64MiB`, or a whole number of bytes.
 ///
 /// # Errors
 ///
-/// The fault of the text; `Kind` for a number below 0, and for any other value.
+/// Those of `from_str` for a text that stands for no size; `Kind` for a number below 0, and for a value of
+/// any other type.
 pub fn size_from_value(value: &Value) -> Result<ReadableSize, SizeError>
     ensures { IsValueReadAs (view value.now) result }
 {

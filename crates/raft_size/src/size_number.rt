@@ -10,6 +10,8 @@ const SIGNIFICAND_LIMIT: u128 = 100_000_000_000_000_000_000;
 /// A limit above the length of every text, by more than the digits that a size can have.
 const EXPONENT_LIMIT: u128 = 1 << 65;
 
+/// A number as a text spells it, in parts: the sign, the digits before and behind the point, and the
+/// exponent.
 #[derive(Clone, Copy)]
 pub(super) struct SizeNumber<'a> {
     is_negative: bool,
@@ -20,7 +22,8 @@ pub(super) struct SizeNumber<'a> {
 }
 
 impl<'a> SizeNumber<'a> {
-    /// Reads a number: sign, digits with a fraction, exponent. `None` where the text is none.
+    /// Returns the number that `text` spells: a sign, digits with a fraction, and an exponent, as `-0.5` or
+    /// `1e+1`. Returns `None` if it spells none.
     pub(super) fn parse(text: &'a [u8]) -> Option<SizeNumber<'a>>
         ensures number { IfSome result (λ number. IsNumber text.now (number_shown number)) }
         ensures digits { IfSome result (λ number. HasDigitsAlone (number_shown number)) }
@@ -42,8 +45,8 @@ impl<'a> SizeNumber<'a> {
         })
     }
 
-    /// Returns the number that the digits of whole part and fraction spell together, without the
-    /// point. `None` where it has more than 20 digits after its leading zeros.
+    /// Returns the number that the digits before and behind the point spell together, without the point.
+    /// Returns `None` if it has more than 20 digits behind its leading zeros.
     pub(super) fn significand(&self) -> Option<u128>
         requires { HasDigitsAlone (number_shown self.now) }
         ensures value { IfSome result (λ value. value ≡ digits_value 10
@@ -63,7 +66,9 @@ impl<'a> SizeNumber<'a> {
         }
     }
 
-    /// Returns the number times `factor`, rounded down to whole bytes and held from 0 to 2^64 - 1.
+    /// Returns the size in bytes: the number times `factor`, rounded down, 0 if it is negative, and 2^64 -
+    /// 1 if it would be more. `factor` is how many bytes the unit has, at most 2^50; `significand` is what
+    /// [`SizeNumber::significand`] returned for this number.
     pub(super) fn size(&self, significand: u128, factor: u64) -> u64
         requires digits { HasDigitsAlone (number_shown self.now) }
         requires significand { significand ≡ digits_value 10 (digits_of (number_shown self.now)) }
@@ -85,7 +90,7 @@ impl<'a> SizeNumber<'a> {
     }
 }
 
-/// Returns whether the text begins with a minus, and what follows the sign, if there is one.
+/// Returns whether `text` begins with a minus, and what is behind its sign, if it has one.
 fn split_sign(text: &[u8]) -> (bool, &[u8])
     ensures minus { result.0 ≡ has_minus text.now }
     ensures rest { result.1.now ≡ behind_sign text.now }
@@ -97,7 +102,7 @@ fn split_sign(text: &[u8]) -> (bool, &[u8])
     }
 }
 
-/// Returns the digits at the front of the text, and what follows them.
+/// Returns the digits at the start of `text`, and what is behind them.
 fn split_digits(text: &[u8]) -> (&[u8], &[u8])
     ensures split { text.now ≡ result.0.now ++ result.1.now }
     ensures digits { AllDigits 10 result.0.now }
@@ -111,8 +116,8 @@ fn split_digits(text: &[u8]) -> (&[u8], &[u8])
     text.split_at(text.len())
 }
 
-/// Returns the digits behind a point at the front of the text, and what follows them; none without
-/// a point.
+/// Returns the digits behind a point at the start of `behind`, what a number's text has behind its whole
+/// digits, and what follows them. Without a point there are none.
 fn split_fraction(behind: &[u8]) -> (&[u8], &[u8])
     requires { NoDigitFirst behind.now }
     ensures split { TakesFraction behind.now result.0.now result.1.now }
@@ -125,8 +130,8 @@ fn split_fraction(behind: &[u8]) -> (&[u8], &[u8])
     }
 }
 
-/// Returns whether an exponent is negative, and its digits: none where the text is empty. `None`
-/// where the text is no exponent.
+/// Returns whether an exponent, as `e-3`, is negative, and its digits. An empty text has none, and isn't
+/// negative. Returns `None` if the text is no exponent.
 fn parse_exponent(text: &[u8]) -> Option<(bool, &[u8])>
     ensures exponent { IfSome result (λ exponent. IsExponent text.now exponent.0 exponent.1.now) }
     ensures none { IfNone result ((minus : Bool) (digits : List ℕ) →
@@ -140,8 +145,8 @@ fn parse_exponent(text: &[u8]) -> Option<(bool, &[u8])>
     }
 }
 
-/// Returns whether the exponent behind its `e` is negative, and its digits. `None` where there are
-/// none, or more than digits.
+/// Returns whether `text`, the part of an exponent behind its `e`, is negative, and its digits. Returns
+/// `None` if there are none, or other characters.
 fn parse_power(text: &[u8]) -> Option<(bool, &[u8])>
     ensures minus { IfSome result (λ power. power.0 ≡ has_minus text.now) }
     ensures digits { IfSome result (λ power. power.1.now ≡ behind_sign text.now) }
@@ -156,7 +161,7 @@ fn parse_power(text: &[u8]) -> Option<(bool, &[u8])>
     Some((is_negative, digits))
 }
 
-/// Returns the number that digits spell behind `start`, or `limit` where it is above.
+/// Returns the number that `digits` spell behind those of `start`, or `limit` if it is above that.
 fn value_up_to(limit: u128, start: u128, digits: &[u8]) -> u128
     requires limit { limit < 2 ^ 100 }
     requires start { start ≤ limit }
@@ -170,7 +175,7 @@ fn value_up_to(limit: u128, start: u128, digits: &[u8]) -> u128
     value
 }
 
-/// Returns a value times 10^`up`, divided by 10^`down`, rounded down and held up to 2^64 - 1.
+/// Returns `value` times 10^`up`, divided by 10^`down`, rounded down, and at most 2^64 - 1.
 fn scaled(value: u128, up: u128, down: u128) -> u64
     requires { value < 2 ^ 120 }
     ensures { result ≡ scaled_size value up down }
@@ -182,7 +187,7 @@ fn scaled(value: u128, up: u128, down: u128) -> u64
     }
 }
 
-/// Returns a value divided by 10^`power`, rounded down and held up to 2^64 - 1.
+/// Returns `value` divided by 10^`power`, rounded down, and at most 2^64 - 1.
 fn lowered(value: u128, power: u128) -> u64
     requires { value < 2 ^ 120 }
     ensures { result ≡ scaled_size value 0 power }
@@ -194,7 +199,7 @@ fn lowered(value: u128, power: u128) -> u64
     }
 }
 
-/// Returns a value times 10^`power`, held up to 2^64 - 1.
+/// Returns `value` times 10^`power`, at most 2^64 - 1.
 fn raised(value: u128, power: u128) -> u64
     ensures { result ≡ scaled_size value power 0 }
 {
@@ -208,7 +213,7 @@ fn raised(value: u128, power: u128) -> u64
     }
 }
 
-/// Returns the number, or 2^64 - 1 where it is above.
+/// Returns `number`, or 2^64 - 1 if it is above that.
 fn held(number: u128) -> u64
     ensures { result ≡ min (2 ^ 64 - 1) number }
 {

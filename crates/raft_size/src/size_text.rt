@@ -30,11 +30,11 @@ pub enum SizeError {
     Kind,
 }
 
-/// Returns the size in bytes that a text stands for, white space around it left aside.
+/// Returns the size in bytes that `text` stands for. White space around it is ignored.
 ///
 /// # Errors
 ///
-/// The reason why it stands for none.
+/// `Empty`, `NotAscii`, `Unit`, `Number` or `Digits`: the first of these reasons why it stands for no size.
 pub(super) fn parse_size(text: &str) -> Result<u64, SizeError>
     ensures size { IfOk result (IsSizeText text.now) }
     ensures fault { IfErr result (IsSizeFault text.now) }
@@ -49,11 +49,11 @@ pub(super) fn parse_size(text: &str) -> Result<u64, SizeError>
     }
 }
 
-/// Returns the size in bytes that an ASCII text, which isn't empty, stands for.
+/// Returns the size in bytes that `text`, which is ASCII and not empty, stands for.
 ///
 /// # Errors
 ///
-/// `Unit`, `Number` or `Digits`, the first of them that holds.
+/// `Unit`, `Number` or `Digits`, the first of these that holds.
 fn parse_ascii(text: &str) -> Result<u64, SizeError>
     requires some_text { text.now ≢ [] }
     requires ascii { IsAscii text.now }
@@ -73,7 +73,7 @@ fn parse_ascii(text: &str) -> Result<u64, SizeError>
     Ok(number.size(significand, factor))
 }
 
-/// Returns how many bytes at the front of the text can be of a number.
+/// Returns how many bytes at the start of `text` may be of a number ([`is_number_byte`]).
 fn front_len(text: &[u8]) -> usize
     ensures { result ≡ number_len text.now }
 {
@@ -85,14 +85,14 @@ fn front_len(text: &[u8]) -> usize
     text.len()
 }
 
-/// Tests whether a byte can stand in a number.
+/// Tests whether the byte `c` may be in a number: a digit, a point, a sign, or the `e` of an exponent.
 fn is_number_byte(c: u8) -> bool
     ensures { result ≡ is_number_character c }
 {
     c.is_ascii_digit() || matches!(c, b'.' | b'e' | b'E' | b'-' | b'+')
 }
 
-/// Returns how many bytes a unit has; `None` of a text that is no unit.
+/// Returns how many bytes `unit` has, as 1024 for `KiB`, or `None` for a text that is no unit.
 fn unit_factor(unit: &str) -> Option<u64>
     ensures bound { IfSome result (λ factor. factor ≤ 2 ^ 50) }
     ensures known { IfSome result (IsUnit unit.now) }

@@ -1,12 +1,6 @@
 -- Refusals that are want of memory.
-use Rattle.std.proofs.Common.{◌≡◌, ◌≢◌, ℕ, List, inl, inr, refl}
-use Rattle.std.specs.declared.io.ErrorKind.{ErrorKind}
-use Rattle.raft_base.specs.declared.errors.Error.{Error}
+use Rattle.raft_survey.proofs.Common.{◌≡◌, ◌≢◌, ℕ, List, inl, inr, refl, ErrorKind, Error, IsIoError, IsReadFault, IoError, IsIoOfKind}
 use Rattle.raft_base.specs.declared.errors.Error.TheVariants as errors
-use Rattle.raft_records.specs.Lines.{IsIoError}
-use Rattle.raft_reading.specs.FilesRead.{IsReadFault}
-use Rattle.raft_reading.specs.IoErrors.{IoError}
-use Rattle.raft_replay.specs.Stops.{IsIoOfKind}
 
 -- one that is it if it is no other is it
 pub memory_at_last : (e : Error) → (e ≢ errors.Memory → e ≡ errors.Memory) → e ≡ errors.Memory

@@ -1,3 +1,4 @@
+mod Common
 pub mod WalkedLemmas
 pub mod SoundLemmas
 pub mod SeenLemmas

@@ -1,15 +1,5 @@
 -- What a walk through files shows a visitor, as it is seen from outside.
-use Rattle.std.proofs.Common.{ℕ, ◌+◌, List, [], ◌∷◌, ◌++◌, length, ap, subst}
-use Rattle.raft_base.specs.declared.pipe_log.FileId.{FileId}
-use Rattle.raft_base.specs.declared.pipe_log.LogFileContext.{LogFileContext}
-use Rattle.raft_base.specs.declared.pipe_log.LogQueue.{LogQueue}
-use Rattle.raft_base.specs.declared.pipe_log.LogQueue.TheVariants.{Append, Rewrite}
-use Rattle.raft_base.specs.declared.pipe_log.Version.{Version}
-use Rattle.raft_records.specs.FilePart.{Part, part_of}
-use Rattle.raft_reading.specs.QueueRead.{file_of}
-use Rattle.raft_reading.specs.declared.queue_files.FileSize.{FileSize}
-use Rattle.raft_listing.specs.Walks.{AreVisited, HasWalked, Met}
-use Rattle.raft_survey.specs.FileWalks.{AreBothWalked, AreFilesWalked, AreWalkedFrom, HasWalkedFile}
+use Rattle.raft_survey.proofs.Common.{ℕ, ◌+◌, List, [], ◌∷◌, ◌++◌, length, ap, subst, FileId, LogFileContext, LogQueue, Append, Rewrite, Version, Part, part_of, file_of, FileSize, AreVisited, HasWalked, Met, AreBothWalked, AreFilesWalked, AreWalkedFrom, HasWalkedFile}
 
 -- a visitor is seen so, and something holds of it that each visit keeps
 module _ {V U : Type 0} (see : V → U) (Holds : V → Type 0) (Visits : V → Part → ℕ → Met → V → Type 0) (Sees : U → Part → ℕ → Met → U → Type 0)

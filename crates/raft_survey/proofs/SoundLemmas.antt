@@ -1,25 +1,7 @@
 -- Files of which scans say nothing are sound.
-use Rattle.std.proofs.Common.{◌≡◌, ◌⊎◌, inl, inr, ℕ, ◌+◌, ◌-◌, arith, List, [], ◌∷◌, ◌++◌, length, refl, sym, ap, ◌∙◌, subst, append_assoc, append-nil}
-use Rattle.std.specs.List.{AllByRecursion}
-use Rattle.raft_base.specs.declared.pipe_log.FileId.{FileId}
-use Rattle.raft_base.specs.declared.pipe_log.LogFileContext.{LogFileContext}
-use Rattle.raft_base.specs.declared.pipe_log.LogQueue.{LogQueue}
-use Rattle.raft_base.specs.declared.pipe_log.Version.{Version}
-use Rattle.raft_records.specs.FilePart.{Part, part_of}
-use Rattle.raft_records.specs.Item.{Item, Content, entries, command, pair}
-use Rattle.raft_records.proofs.FramedAt.{framed_at}
-use Rattle.raft_records.proofs.PartLemmas.{batch_inside}
-use Rattle.raft_replay.proofs.CutPartLemmas.{batch_header, header_ends}
-use Rattle.raft_reading.specs.QueueRead.{file_of}
-use Rattle.raft_reading.specs.declared.queue_files.FileSize.{FileSize}
-use Rattle.raft_listing.specs.Scanned.{AreSaidOf, IsSaidOfContent, IsScanned}
-use Rattle.raft_listing.specs.SoundParts.{AreRead, IsContentRead, AreSoundBetween, IsSoundPart}
-use Rattle.raft_listing.specs.Walks.{AreVisited, IsWalkFrom, Met, batch, damage}
-use Rattle.raft_listing.specs.declared.damage.DamageKind.TheVariants.{Batch}
-use Rattle.raft_listing.specs.declared.scan.FileScan.{FileScan}
-use Rattle.raft_survey.specs.FileScans.{AreScansOf, IsScanOf}
-use Rattle.raft_survey.specs.FileWalks.{AreWalkedFrom, HasWalkedFile, LeadsNowhere}
-use Rattle.raft_survey.specs.SoundFiles.{AreSoundFiles, AreSoundParts, IsSoundFile}
+use Rattle.raft_survey.proofs.Common.{◌≡◌, ◌⊎◌, inl, inr, ℕ, ◌+◌, ◌-◌, arith, List, [], ◌∷◌, ◌++◌, length, refl, sym, ap, ◌∙◌, subst, append_assoc, append-nil, AllByRecursion, FileId, LogFileContext, LogQueue, Version, Part, part_of, Item, Content, entries, command, pair}
+use Rattle.raft_survey.proofs.Common.{framed_at, batch_inside, batch_header, header_ends, file_of, FileSize, AreSaidOf, IsSaidOfContent, IsScanned, AreRead, IsContentRead, AreSoundBetween, IsSoundPart, AreVisited, IsWalkFrom, Met, batch, damage, Batch, FileScan, AreScansOf}
+use Rattle.raft_survey.proofs.Common.{IsScanOf, AreWalkedFrom, HasWalkedFile, LeadsNowhere, AreSoundFiles, AreSoundParts, IsSoundFile}
 
 -- where nothing stands together, nothing stands in either part
 none_in_front : {X : Type 0} (xs ys : List X) → xs ++ ys ≡ [] → xs ≡ []

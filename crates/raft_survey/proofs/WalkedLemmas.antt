@@ -1,17 +1,8 @@
 -- A file that is walked through piece by piece, as far as it was read and shown.
-use Rattle.std.proofs.Common.{◌≡◌, ◌⊎◌, inl, inr, ℕ, ◌+◌, ◌<◌, ◌≤◌, List, [], ◌∷◌, ◌++◌, length, take, drop, take-append-drop, length-take-le, ◌-◌, refl, sym, ap, ◌∙◌, subst, arith, append_assoc, append-nil, length-append}
-use Rattle.std.proofs.Math.Seq.{take-append-add}
-use Rattle.std.specs.List.{AllByRecursion}
-use Rattle.raft_base.specs.declared.errors.Error.{Error}
-use Rattle.raft_base.specs.declared.pipe_log.LogFileContext.{LogFileContext}
-use Rattle.raft_records.specs.FilePart.{HasHeader, Part, part_of}
-use Rattle.raft_records.proofs.BufferLemmas.{header_len}
-use Rattle.raft_reading.specs.FilesRead.{AreRead, IsAppended, IsReadFault, IsUnread, joined}
-use Rattle.raft_reading.specs.IoErrors.{IoError}
-use Rattle.raft_reading.proofs.PieceLemmas.{none_read, read_more}
-use Rattle.raft_listing.specs.Walks.{HasWalked, Met}
-use Rattle.raft_prefix.specs.Pieces.{IsDecided}
-use Rattle.raft_survey.specs.FileWalks.{AreBatchesByHeader, AreWalkedFrom, HasNoWhole, HasWalkedFile, IsBatchByHeader, IsPrefixWalked, LeadsNowhere}
+use Rattle.raft_survey.proofs.Common.{◌≡◌, ◌⊎◌, inl, inr, ℕ, ◌+◌, ◌<◌, ◌≤◌, List, [], ◌∷◌, ◌++◌, length, take, drop, take-append-drop, length-take-le, ◌-◌, refl, sym, ap, ◌∙◌, subst, arith, append_assoc, append-nil, length-append, take-append-add, AllByRecursion, Error}
+use Rattle.raft_survey.proofs.Common.{LogFileContext, HasHeader, Part, part_of, header_len, IsAppended, IsReadFault, IsUnread, joined, IoError, none_read, read_more, HasWalked, Met, IsDecided, AreBatchesByHeader, AreWalkedFrom, HasNoWhole, HasWalkedFile, IsBatchByHeader}
+use Rattle.raft_survey.proofs.Common.{IsPrefixWalked, LeadsNowhere}
+use Rattle.raft_reading.specs.FilesRead.{AreRead}
 
 -- bytes are their first ones, and behind them the others
 pub split_again : (whole : ℕ) (old mid rest front left : List ℕ) → mid ≡ take whole old → rest ≡ drop whole old → front ≡ mid → left ≡ rest → old ≡ front ++ left

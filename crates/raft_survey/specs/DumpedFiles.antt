@@ -14,12 +14,12 @@ pub record DumpSoFar : Type 0 where
   pub written : Option (List ℕ)
   pub is_damaged : Bool
 
--- what is dumped of what is met at a byte comes behind it
-abbrev pub IsAddedToDump : Selection → DumpSoFar → Part → ℕ → Met → DumpSoFar → Type 0
-IsAddedToDump s old part at met new =
-    IsDumped s part at met old.written new.written × (new.is_damaged ≡ is_damaged_after met old.is_damaged)
+-- what is said of what is met at a byte comes behind it
+abbrev pub IsAddedToDump : (Selection → Part → ℕ → Met → List ℕ → Type 0) → Selection → DumpSoFar → Part → ℕ → Met → DumpSoFar → Type 0
+IsAddedToDump Says s old part at met new =
+    IsDumped Says s part at met old.written new.written × (new.is_damaged ≡ is_damaged_after met old.is_damaged)
 
--- all that stands in the files of both queues was dumped behind what was written, in order
-abbrev pub AreDumped : (FileId → ℕ → List ℕ → Type 0) → Version → List FileSize → List FileSize → Selection → Option (List ℕ) → Option (List ℕ) → Bool → Type 0
-AreDumped Gives version append rewrite s old new is_damaged =
-    AreBothWalked (IsAddedToDump s) Gives version append rewrite (record { written = old; is_damaged = false }) (record { written = new; is_damaged = is_damaged })
+-- all that stands in the files of both queues was dumped behind what was written, in order, in a form that says so
+abbrev pub AreDumped : (Selection → Part → ℕ → Met → List ℕ → Type 0) → (FileId → ℕ → List ℕ → Type 0) → Version → List FileSize → List FileSize → Selection → Option (List ℕ) → Option (List ℕ) → Bool → Type 0
+AreDumped Says Gives version append rewrite s old new is_damaged =
+    AreBothWalked (IsAddedToDump Says s) Gives version append rewrite (record { written = old; is_damaged = false }) (record { written = new; is_damaged = is_damaged })

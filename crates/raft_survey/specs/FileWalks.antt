@@ -28,11 +28,11 @@ IsBatchByHeader bytes = (offset : ℕ) × HasHeader bytes offset (length bytes)
 abbrev pub AreBatchesByHeader : List ℕ → Type 0
 AreBatchesByHeader bytes = (batches : List (List ℕ)) × AllByRecursion IsBatchByHeader batches × (joined batches ≡ bytes)
 
--- no header stands in front of these bytes by which a batch ends within them
+-- no header stands at the start of these bytes by which a batch ends within them
 pub record HasNoWhole (bytes : List ℕ) : Type 0 where
   pub none : (offset len : ℕ) → HasHeader bytes offset len → length bytes < len
 
--- there is room for a header in front of these bytes, but none stands there by which a batch ends within them and so many bytes behind
+-- there is room for a header at the start of these bytes, but none stands there by which a batch ends within them and so many bytes behind
 pub record LeadsNowhere (bytes : List ℕ) (left : ℕ) : Type 0 where
   pub room : 16 ≤ length bytes
   pub nowhere : (offset len : ℕ) → HasHeader bytes offset len → length bytes + left < len

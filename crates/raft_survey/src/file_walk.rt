@@ -11,18 +11,20 @@ ghost use Rattle.raft_survey.specs.FileWalks.{AreBatchesByHeader, AreBothWalked,
 use crate::sizes::BothSizes;
 use raft_base::{Error, FileId, LogFileContext, LogQueue, Result, Version};
 use raft_listing::{PartVisitor, walk_part};
-use raft_prefix::pieces::{bytes_wanted, read_behind};
+use raft_prefix::pieces::bytes_wanted;
+use raft_reading::file_pieces::read_behind;
 use raft_reading::{FileSize, ReadFiles};
 use raft_records::FilePart;
 use raft_replay::cutting::batch_length;
 use std::alloc::Global;
 use std::mem;
 
-/// Shows a visitor what stands in the files of both queues: those of the append queue, then those of the rewrite queue, oldest first.
+/// Shows `visitor` what stands in the files of both queues: the append queue's, then the rewrite queue's, oldest first. `sizes`
+/// names the files and says how many bytes of each are read; all are of `version`, and `source` reads them.
 ///
 /// # Errors
 ///
-/// Those of [`walk_file`]. Some of it was shown then.
+/// Those of [`walk_file`]. The visitor was shown what stands before the place of the error.
 pub fn walk_files<V: PartVisitor, S: ReadFiles>(
     alloc: Global,
     source: &S,
@@ -41,7 +43,11 @@ pub fn walk_files<V: PartVisitor, S: ReadFiles>(
     walk_queue(alloc, source, LogQueue::Rewrite, version, rewrite, visitor)
 }
 
-/// Shows a visitor what stands in the files of a queue, oldest first.
+/// Shows `visitor` what stands in the files of `queue` that `sizes` names, oldest first.
+///
+/// # Errors
+///
+/// Those of [`walk_file`].
 fn walk_queue<V: PartVisitor, S: ReadFiles>(
     alloc: Global,
     source: &S,
@@ -57,13 +63,17 @@ fn walk_queue<V: PartVisitor, S: ReadFiles>(
         → IsOneUnread (S.gives source.now) (S.may_fail source.now) queue sizes.now e) }
 {
     for size in sizes {
-        walk_sized(alloc, source, queue, version, size, visitor)?;
+        walk_sized_file(alloc, source, queue, version, size, visitor)?;
     }
     Ok(())
 }
 
-/// Shows a visitor what stands in the file of a queue with this number and size.
-fn walk_sized<V: PartVisitor, S: ReadFiles>(
+/// Shows `visitor` what stands in the file of `queue` with the number in `size`, as far as the length there goes.
+///
+/// # Errors
+///
+/// Those of [`walk_file`].
+fn walk_sized_file<V: PartVisitor, S: ReadFiles>(
     alloc: Global,
     source: &S,
     queue: LogQueue,
@@ -81,13 +91,14 @@ fn walk_sized<V: PartVisitor, S: ReadFiles>(
     walk_file(alloc, source, &file, size.len, visitor)
 }
 
-/// Shows a visitor what stands in a file of `len` bytes, part by part. The file is read piece by piece, up to where no header leads on:
-/// what is in memory are a piece and the longest batch.
+/// Shows `visitor` what stands in `file`, part by part. The file has `len` bytes and is read from `source` piece by piece, up to
+/// where no header says how long the next batch is; what was read behind that is the last part. One piece and the longest batch
+/// are in memory at once.
 ///
 /// # Errors
 ///
 /// `Io`, whose text begins with the queue, the file and the offset, where a read fails, or gives another number of bytes than it
-/// was asked for; the visitor's; `Memory`. Some of it was shown then.
+/// was asked for; the visitor's; `Memory`. The visitor was shown what stands before the place of the error.
 pub fn walk_file<V: PartVisitor, S: ReadFiles>(
     alloc: Global,
     source: &S,
@@ -103,7 +114,7 @@ pub fn walk_file<V: PartVisitor, S: ReadFiles>(
     let mut piece = Vec::new(alloc);
     let mut at = 0;
     loop {
-        at = walk_whole(file, at, &mut piece, visitor)?;
+        at = walk_whole_batches(file, at, &mut piece, visitor)?;
         let left = len - at - piece.len() as u64;
         let wanted = bytes_wanted(alloc, piece.as_slice(), left);
         if wanted == 0 {
@@ -113,9 +124,13 @@ pub fn walk_file<V: PartVisitor, S: ReadFiles>(
     }
 }
 
-/// Shows a visitor the batches that are whole in the piece, which begins at `at` in the file, and lets them go. Returns where
-/// the piece then begins.
-fn walk_whole<V: PartVisitor>(
+/// Shows `visitor` the batches that are whole in `piece`, which begins at `at` in the file, and takes them off it. Returns the
+/// offset in the file at which `piece` begins then.
+///
+/// # Errors
+///
+/// The visitor's; `Memory`.
+fn walk_whole_batches<V: PartVisitor>(
     file: &LogFileContext,
     at: u64,
     piece: &mut Vec<u8>,
@@ -126,15 +141,19 @@ fn walk_whole<V: PartVisitor>(
     ensures none { OnOk result (HasNoWhole piece.new.items) }
     ensures fault { IfErr result (λ e. e ≢ Error.Memory → V.may_fail e) }
 {
-    let prefix = take_whole(piece)?;
+    let prefix = take_whole_batches(piece)?;
     let count = prefix.len();
     walk_piece(file, at, prefix, visitor)?;
     Ok(at + count as u64)
 }
 
-/// Takes the batches off the piece that are whole in it, from its first byte on, and returns them.
+/// Takes off `piece` the batches at its start that are whole in it, by their headers, and returns their bytes.
+///
+/// # Errors
+///
+/// `Memory` alone.
 #[tactic(auto, using(crate::proofs::WalkedLemmas::split_again, crate::proofs::WalkedLemmas::cut_again, crate::proofs::WalkedLemmas::none_again))]
-fn take_whole(piece: &mut Vec<u8>) -> Result<Vec<u8>>
+fn take_whole_batches(piece: &mut Vec<u8>) -> Result<Vec<u8>>
     ensures split { IfOk result (λ prefix. piece.old.items ≡ prefix.items ++ piece.new.items) }
     ensures cut { IfOk result (λ prefix. AreBatchesByHeader prefix.items) }
     ensures none { OnOk result (HasNoWhole piece.new.items) }
@@ -146,7 +165,11 @@ fn take_whole(piece: &mut Vec<u8>) -> Result<Vec<u8>>
     Ok(mem::replace(piece, rest))
 }
 
-/// Shows a visitor what stands in a piece, which begins at `at` in the file.
+/// Shows `visitor` what stands in `piece`, which begins at `at` in the file.
+///
+/// # Errors
+///
+/// The visitor's; `Memory`.
 fn walk_piece<V: PartVisitor>(
     file: &LogFileContext,
     at: u64,
@@ -161,7 +184,7 @@ fn walk_piece<V: PartVisitor>(
     walk_part(&part, visitor)
 }
 
-/// Returns how many bytes the batches have that are whole in these bytes, by their headers.
+/// Returns how many of `bytes`, from the first one on, belong to batches that are whole in them by their headers.
 fn whole_batches(alloc: Global, bytes: &[u8]) -> usize
     ensures inside { result ≤ length bytes.now }
     ensures whole { AreBatchesByHeader (take result bytes.now) }

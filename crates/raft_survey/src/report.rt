@@ -1,4 +1,5 @@
-//! The lines of a check: what a scan of a file finds, and which files are missing.
+//! The lines of a check: what a scan of a file finds, and which files are missing. Each call that appends fails for want of memory alone,
+//! and a part may then be appended.
 
 ghost use Rattle.std.specs.Fmt.{decimal};
 ghost use Rattle.std.specs.Prelude.{◌≡◌, ◌++◌, codes, map, string_bytes, None, OnOk};
@@ -10,9 +11,9 @@ use raft_listing::{Damage, DamageKind, FileScan, Loss, append_reason, missing_be
 use raft_reading::FileSize;
 use raft_replay::segment::queue_name;
 
-/// Appends the lines of a scan of a file: which files are missing between `last`, the number of the file before it, and this one; how many
-/// bytes it has, how many batches of it can be read, and up to which byte from its first one on; and one for each place in it where
-/// something can't be read.
+/// Appends the lines of a scan of a file: which files are missing between the one with the number `last`, `None` where it is the first,
+/// and it; how many bytes it has, how many batches of it can be read, and up to which byte from its first one on; one for each place in it
+/// where something can't be read; and one for the bytes at its end that weren't searched.
 ///
 /// # Errors
 ///
@@ -26,30 +27,30 @@ pub fn append_scan(
     ensures { OnOk result (string_bytes text.new ≡ string_bytes text.old ++ scan_text queue last scan.now) }
 {
     append_missing(queue, missing_between(last, scan.seq), text)?;
-    append_file(queue, scan, text)?;
+    append_file_line(queue, scan, text)?;
     append_damages(queue, scan.seq, scan.len, scan.damages.as_slice(), text)?;
-    append_unseen(queue, scan, text)
+    append_unsearched_if_any(queue, scan, text)
 }
 
 /// Appends a line for the bytes at the end of a file that weren't searched for batches, if there are some.
-fn append_unseen(queue: LogQueue, scan: &FileScan, text: &mut String) -> AllocResult<()>
+fn append_unsearched_if_any(queue: LogQueue, scan: &FileScan, text: &mut String) -> AllocResult<()>
     ensures { OnOk result (string_bytes text.new ≡ string_bytes text.old ++ unseen_line queue scan.now) }
 {
     if scan.unseen == 0 {
         return Ok(());
     }
-    append_unsearched(queue, scan, text)
+    append_unsearched_line(queue, scan, text)
 }
 
 /// Appends the line of the bytes at the end of a file that weren't searched for batches.
-fn append_unsearched(queue: LogQueue, scan: &FileScan, text: &mut String) -> AllocResult<()>
+fn append_unsearched_line(queue: LogQueue, scan: &FileScan, text: &mut String) -> AllocResult<()>
     ensures { OnOk result (string_bytes text.new ≡ string_bytes text.old ++ unsearched_line queue scan.now) }
 {
     append_place(queue, scan.seq, scan.len.saturating_sub(scan.unseen), text)?;
     append_unsearched_words(scan.unseen, text)
 }
 
-/// Appends that so many bytes weren't searched for batches.
+/// Appends that `count` bytes weren't searched for batches.
 fn append_unsearched_words(count: u64, text: &mut String) -> AllocResult<()>
     ensures { OnOk result (string_bytes text.new ≡ string_bytes text.old ++ unsearched_words count) }
 {
@@ -60,31 +61,31 @@ fn append_unsearched_words(count: u64, text: &mut String) -> AllocResult<()>
 }
 
 /// Appends the line of a file.
-fn append_file(queue: LogQueue, scan: &FileScan, text: &mut String) -> AllocResult<()>
+fn append_file_line(queue: LogQueue, scan: &FileScan, text: &mut String) -> AllocResult<()>
     ensures { OnOk result (string_bytes text.new ≡ string_bytes text.old ++ file_line queue scan.now) }
 {
-    append_length(queue, scan.seq, scan.len, text)?;
-    append_batches(scan.batches, text)?;
-    append_end(scan.read, text)
+    append_file_length(queue, scan.seq, scan.len, text)?;
+    append_batch_count(scan.batches, text)?;
+    append_read_end(scan.read, text)
 }
 
-/// Appends up to which byte from its first one on a file can be read.
-fn append_end(read: u64, text: &mut String) -> AllocResult<()>
+/// Appends that a file can be read from its first byte up to `read`.
+fn append_read_end(read: u64, text: &mut String) -> AllocResult<()>
     ensures { OnOk result (string_bytes text.new ≡ string_bytes text.old ++ end_words read) }
 {
     writeln!(text, ", read from offset 0 to {read}")
 }
 
-/// Appends the number of a file, and how many bytes it has.
-fn append_length(queue: LogQueue, seq: FileSeq, len: u64, text: &mut String) -> AllocResult<()>
+/// Appends the number `seq` of a file, and that it has `len` bytes.
+fn append_file_length(queue: LogQueue, seq: FileSeq, len: u64, text: &mut String) -> AllocResult<()>
     ensures { OnOk result (string_bytes text.new ≡ string_bytes text.old ++ length_words queue seq len) }
 {
     let name = queue_name(queue);
     write!(text, "{name} file {seq}: {len} bytes, ")
 }
 
-/// Appends how many batches there are.
-fn append_batches(count: u64, text: &mut String) -> AllocResult<()>
+/// Appends that there are `count` batches.
+fn append_batch_count(count: u64, text: &mut String) -> AllocResult<()>
     ensures { OnOk result (string_bytes text.new ≡ string_bytes text.old ++ batches_words count) }
 {
     if count == 1 {
@@ -105,13 +106,13 @@ fn append_damages(
         ≡ string_bytes text.old ++ flat_map (damage_line queue seq len) damages.now) }
 {
     for damage in damages {
-        append_damage(queue, seq, len, damage, text)?;
+        append_damage_line(queue, seq, len, damage, text)?;
     }
     Ok(())
 }
 
 /// Appends the line of a place in a file where something can't be read.
-fn append_damage(
+fn append_damage_line(
     queue: LogQueue,
     seq: FileSeq,
     len: u64,
@@ -147,11 +148,11 @@ fn append_damage_words(len: u64, damage: &Damage, text: &mut String) -> AllocRes
             first,
             last,
             loss,
-        } => append_lost(*region, *first, *last, *loss, text),
+        } => append_lost_entries(*region, *first, *last, *loss, text),
     }
 }
 
-/// Appends that no batch can be read so many bytes before the end of a file.
+/// Appends that no batch can be read `left` bytes before the end of a file, and why.
 fn append_unreadable(left: u64, reason: &Error, text: &mut String) -> AllocResult<()>
     ensures { OnOk result (string_bytes text.new ≡ string_bytes text.old ++ unreadable_words left reason.now) }
 {
@@ -162,8 +163,14 @@ fn append_unreadable(left: u64, reason: &Error, text: &mut String) -> AllocResul
     append_reason(reason, text)
 }
 
-/// Appends that some of these entries of a region can't be read.
-fn append_lost(region: u64, first: u64, last: u64, loss: Loss, text: &mut String) -> AllocResult<()>
+/// Appends that the entries of a region from the index `first` to the index `last` can't be read, and why.
+fn append_lost_entries(
+    region: u64,
+    first: u64,
+    last: u64,
+    loss: Loss,
+    text: &mut String,
+) -> AllocResult<()>
     ensures { OnOk result (string_bytes text.new ≡ string_bytes text.old ++ lost_words region first last loss) }
 {
     append_entries(first, last, text)?;
@@ -171,7 +178,7 @@ fn append_lost(region: u64, first: u64, last: u64, loss: Loss, text: &mut String
     append_of_region(region, why, text)
 }
 
-/// Appends that entries of a region can't be read, for this reason.
+/// Appends that they are entries of a region that can't be read, and `why`.
 fn append_of_region(region: u64, why: &str, text: &mut String) -> AllocResult<()>
     ensures { OnOk result (string_bytes text.new
         ≡ string_bytes text.old ++ (codes " of region " ++ (decimal region ++ (codes " can't be read: " ++ why.now)))) }
@@ -179,7 +186,7 @@ fn append_of_region(region: u64, why: &str, text: &mut String) -> AllocResult<()
     write!(text, " of region {region} can't be read: {why}")
 }
 
-/// Appends the first and the last index of entries.
+/// Appends the first and the last index of entries; one alone where they are the same.
 fn append_entries(first: u64, last: u64, text: &mut String) -> AllocResult<()>
     ensures { OnOk result (string_bytes text.new ≡ string_bytes text.old ++ entries_words first last) }
 {
@@ -189,7 +196,7 @@ fn append_entries(first: u64, last: u64, text: &mut String) -> AllocResult<()>
     write!(text, "entries {first} to {last}")
 }
 
-/// Appends a line for files that are missing, if some are: from the first number to the last.
+/// Appends a line for files that are missing, by the first and the last of their `numbers`; nothing for `None`.
 fn append_missing(
     queue: LogQueue,
     numbers: Option<(FileSeq, FileSeq)>,
@@ -204,7 +211,7 @@ fn append_missing(
     append_missing_words(first, last, text)
 }
 
-/// Appends that the files with these numbers are missing.
+/// Appends that the files with the numbers `first` to `last` are missing.
 fn append_missing_words(first: FileSeq, last: FileSeq, text: &mut String) -> AllocResult<()>
     ensures { OnOk result (string_bytes text.new ≡ string_bytes text.old ++ missing_words first last) }
 {
@@ -214,7 +221,7 @@ fn append_missing_words(first: FileSeq, last: FileSeq, text: &mut String) -> All
     writeln!(text, " files {first} to {last}: missing")
 }
 
-/// Appends a line for the files of a queue that are missing between each two, if some are.
+/// Appends a line for each gap between the numbers of a queue's files: the first and the last number that are missing there.
 ///
 /// # Errors
 ///

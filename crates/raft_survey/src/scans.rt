@@ -12,7 +12,7 @@ use raft_listing::FileScan;
 use raft_reading::{FileSize, ReadFiles};
 use std::alloc::Global;
 
-/// Scans a file, which is read in pieces.
+/// Scans the file of a queue that has the number and the size of `size`; it is read in pieces.
 ///
 /// # Errors
 ///
@@ -35,7 +35,7 @@ pub fn scan_file<S: ReadFiles>(
     Ok(scan)
 }
 
-/// Tests whether nothing is damaged in all of these files.
+/// Tests whether no scan has found damage.
 pub fn are_undamaged(scans: &[FileScan]) -> bool
     ensures { IsTrue result ↔ AllByRecursion (λ s. s.damages.items ≡ []) scans.now }
 {

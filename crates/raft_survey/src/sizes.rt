@@ -5,7 +5,7 @@ ghost use Rattle.std.specs.Prelude.{◌≡◌};
 use raft_base::LogQueue;
 use raft_reading::FileSize;
 
-/// The files of both queues, oldest first, by their numbers and how many bytes each has.
+/// The files of both queues, oldest first, each by its number and its size in bytes.
 #[derive(Drop)]
 pub struct BothSizes {
     pub append: Vec<FileSize>,

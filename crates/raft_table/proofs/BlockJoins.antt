@@ -5,7 +5,7 @@ use Rattle.raft_table.proofs.Common.{is_same, Append, Rewrite, zero, suc, ◌-�
 use Rattle.raft_table.proofs.Common.{take-take, take_at, drop_at, take-map, get_or_default, take_more, take_all, map-append}
 use Rattle.raft_table.proofs.BlockLemmas.{spread-append, length-expanded, count-append, expanded-append, starts-append}
 use Rattle.raft_table.proofs.BlockCuts.{IsFront, Differs-same}
-use Rattle.std.proofs.lemmas.List.{drop-map, map-set, get_or-map, take_more_set, length-set, drop-set-lt}
+use Rattle.std.proofs.lemmas.List.{drop-map, map-set, get_or-map, take_more_set, length-set, drop-set-lt, take-append-drop}
 use Rattle.std.proofs.Math.Seq.{take-append-add}
 
 same_queue : (q r : LogQueue) → is_same q r ≡ true → q ≡ r
@@ -167,6 +167,23 @@ spliced kept rest n xs more a b c d k l e f g h j =
     j ∙ ap (λ ys. drop n ys ++ take n ys) whole
     ∙ ap (λ ys. ys ++ take n (drop rest xs ++ (take kept xs ++ more))) (drop_at (drop rest xs) (take kept xs ++ more) n m)
     ∙ ap (λ ys. (take kept xs ++ more) ++ ys) (take_at (drop rest xs) (take kept xs ++ more) n m)
+
+-- one item more is put in place of another, in front of k that are still to be put
+pub replaced_more : {X : Type 0} (at k : ℕ) (d m w : List X) (x : X) → at < length d → take at d ++ (x ∷ m) ++ drop (at + suc k) d ≡ w →
+    take (at + 1) (set d at x) ++ m ++ drop (at + 1 + k) (set d at x) ≡ w
+replaced_more at k d m w x l h =
+    let n : at + 1 + k ≡ at + suc k = omega arith in
+    ap (λ ys. (ys ++ m) ++ drop (at + 1 + k) (set d at x)) (take_more_set d at x l)
+    ∙ ap (λ ys. ys ++ drop (at + 1 + k) (set d at x)) (append_assoc (take at d) (x ∷ []) m)
+    ∙ ap (λ r. (take at d ++ (x ∷ m)) ++ r) (drop-set-lt (at + 1 + k) d at x (omega arith) ∙ ap (λ j. drop j d) n)
+    ∙ h
+
+-- none are left to be put
+pub replaced_all : {X : Type 0} (at k : ℕ) (d m w : List X) → m ≡ [] → k ≡ 0 → take at d ++ m ++ drop (at + k) d ≡ w → d ≡ w
+replaced_all at k d m w e z h =
+    let n : at ≡ at + k = omega (arith, z) in
+    sym (take-append-drop at d) ∙ ap (λ j. take at d ++ drop j d) n
+    ∙ ap (λ ys. ys ++ drop (at + k) d) (sym (append-nil (take at d)) ∙ ap (λ ys. take at d ++ ys) (sym e)) ∙ h
 
 pub spliced_round : {X : Type 0} (kept rest n w : ℕ) (xs more a b c d : List X) → kept ≤ rest → rest ≤ length xs → n ≡ length xs - rest →
     w ≡ length c - kept → a ≡ drop rest xs ++ take rest xs → b ≡ take (n + kept) a → c ≡ more ++ b → d ≡ drop w c ++ take w c →

@@ -13,7 +13,7 @@ unfoldable pub use Rattle.raft_table.proofs.Common.{below, from}
 pub use Rattle.raft_table.proofs.AloneLemmas.{key_moves, moved_alone, moved_by_index, none_moved}
 pub use Rattle.raft_table.proofs.BlockCuts.{found, front_of, index_of, kept_bounded, kept_cut, kept_drop, kept_facts, kept_front, kept_length, kept_nil, kept_with, part_of, shown_len, starts_dropped, starts_kept, starts_length}
 pub use Rattle.raft_table.proofs.BlockCuts.{starts_taken, within_of}
-pub use Rattle.raft_table.proofs.BlockJoins.{AreMet, block_at, block_within, drop_front_blocks_shown, keep_front_blocks_shown, met_other, met_same, one_block, pushed_other, pushed_same, rest_set, set_same, shown_at, shown_three, spliced}
+pub use Rattle.raft_table.proofs.BlockJoins.{AreMet, block_at, block_within, drop_front_blocks_shown, keep_front_blocks_shown, met_other, met_same, one_block, pushed_other, pushed_same, replaced_all, replaced_more, rest_set, set_same, shown_at, shown_three, spliced}
 pub use Rattle.raft_table.proofs.BlockJoins.{spliced_round, spot_inside}
 pub use Rattle.raft_table.proofs.BlockKept.{IsKeptAs, IsPushed, between_fits, blocks_filled, cut_order, joined_fits, joined_some, kept_join, kept_join_few, kept_push, one_left, pushed_count, pushed_fits, pushed_length, put_between}
 pub use Rattle.raft_table.proofs.BlockLemmas.{at_start, count_front, count_take_more, entry_at_spot, entry_of, found_some, index_rises, index_some, length-expanded, length-spread, length-starts, rises_expanded, starts_more, walked_more}

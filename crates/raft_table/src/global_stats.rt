@@ -36,6 +36,7 @@ impl Model for GlobalStats {
 impl Default for GlobalStats {
     ghost is_default = { λ s. s ≡ record { append = 0; written = 0; deleted = 0 } };
 
+    /// Returns counts in which no record of either queue is live.
     fn default() -> GlobalStats {
         GlobalStats {
             live_append_entries: 0,
@@ -46,15 +47,15 @@ impl Default for GlobalStats {
 }
 
 impl GlobalStats {
-    /// Counts `count` more records of `queue`.
+    /// Counts `count` more live records of `queue`.
     ///
-    /// Where the number written to the rewrite queue would pass 2^64 - 1, the deleted records are
-    /// first taken off it.
+    /// If the number written to the rewrite queue would pass 2^64 - 1, the deleted records are first
+    /// subtracted from it ([`GlobalStats::reset_rewrite_counters`]).
     ///
     /// # Errors
     ///
-    /// `Full` where more than 2^64 - 1 records would be live in `queue`. No live count has then
-    /// changed.
+    /// `Full` if more than 2^64 - 1 records would be live in `queue`. No live count has changed then; the
+    /// numbers of the rewrite queue may have been reset.
     pub fn add(&mut self, queue: LogQueue, count: usize) -> Result<()>
         ensures ok { OnOk result (self.new ≡ with_added queue count self.old) }
         ensures live { OnOk result ((q : LogQueue) →
@@ -79,7 +80,8 @@ impl GlobalStats {
         Ok(())
     }
 
-    /// Tests whether `count` more records can be live in `queue`.
+    /// Tests whether `count` more records of `queue` can be counted as live: no more than 2^64 - 1 are live
+    /// in a queue.
     pub fn can_add(&self, queue: LogQueue, count: usize) -> bool
         ensures { MatchBool result (live queue self.now + count < 2 ^ 64)
             (2 ^ 64 ≤ live queue self.now + count) }
@@ -87,7 +89,8 @@ impl GlobalStats {
         count <= usize::MAX - self.live_entries(queue)
     }
 
-    /// Counts `count` more records of `queue`, of which the caller knows that they can be live.
+    /// Counts `count` more live records of `queue`. It can't fail: the caller has made sure, as by
+    /// [`GlobalStats::can_add`], that no more than 2^64 - 1 are live then.
     pub(crate) fn add_fitting(&mut self, queue: LogQueue, count: usize)
         requires { live queue self.old + count < 2 ^ 64 }
         ensures after { self.new ≡ with_added queue count self.old }
@@ -98,13 +101,13 @@ impl GlobalStats {
         }
     }
 
-    /// Counts `count` records that were written to the rewrite queue and moved nothing: as written,
-    /// and as deleted again. No live count changes.
+    /// Counts `count` records that were written to the rewrite queue and to which nothing moved: as written
+    /// and, at once, as deleted. No live count changes.
     ///
     /// # Errors
     ///
-    /// `Full` where they would pass 2^64 - 1 together with the live records of the rewrite queue.
-    /// The counts are then as they were.
+    /// `Full` if `count` and the live records of the rewrite queue together pass 2^64 - 1. The counts are
+    /// unchanged then.
     pub(crate) fn add_unmoved(&mut self, count: usize) -> Result<()>
         ensures ok { OnOk result (self.new
             ≡ with_deleted Rewrite count (with_added Rewrite count self.old)) }
@@ -121,7 +124,8 @@ impl GlobalStats {
         Ok(())
     }
 
-    /// Takes `count` live records of `queue` off.
+    /// Counts `count` records of `queue`, which are counted as live, as no longer live. In the rewrite queue
+    /// they are counted as deleted.
     pub fn delete(&mut self, queue: LogQueue, count: usize)
         requires { count ≤ live queue self.old }
         ensures after { self.new ≡ with_deleted queue count self.old }
@@ -133,11 +137,11 @@ impl GlobalStats {
         }
     }
 
-    /// Counts all records of a table.
+    /// Counts all records of `table` as live, each in the queue that it is in.
     ///
     /// # Errors
     ///
-    /// `Full` where more than 2^64 - 1 records would be live in a queue. Nothing has then changed.
+    /// `Full` if more than 2^64 - 1 records would be live in a queue. The counts are unchanged then.
     pub fn add_table(&mut self, table: &MemTable) -> Result<()>
         ensures ok { OnOk result (self.new ≡ with_table_added table.now self.old) }
         ensures live { OnOk result ((q : LogQueue) →
@@ -156,7 +160,8 @@ impl GlobalStats {
         Ok(())
     }
 
-    /// Takes all records of a table off the live counts of their queues.
+    /// Counts all records of `table`, which are counted as live, as no longer live, each in the queue that it
+    /// is in.
     pub fn delete_table(&mut self, table: &MemTable)
         requires { IsCounted table.now self.old }
         ensures after { self.new ≡ with_table_deleted table.now self.old }
@@ -166,7 +171,8 @@ impl GlobalStats {
         self.delete_records(table, LogQueue::Rewrite);
     }
 
-    /// Tests whether all records of a table can be counted beside those that are live.
+    /// Tests whether [`GlobalStats::add_table`] can count all records of `table`: in neither queue more than
+    /// 2^64 - 1 records would be live.
     pub fn has_room(&self, table: &MemTable) -> bool
         ensures { MatchBool result
             ((q : LogQueue) → live q self.now + live_of q table.now < 2 ^ 64)
@@ -175,8 +181,8 @@ impl GlobalStats {
         self.has_room_in(table, LogQueue::Append) && self.has_room_in(table, LogQueue::Rewrite)
     }
 
-    /// Tests whether the records that a table has in `queue` can be counted beside those that are
-    /// live there.
+    /// Tests whether the records that `table` has in `queue` can be counted as live: no more than 2^64 - 1
+    /// would be live in it.
     fn has_room_in(&self, table: &MemTable, queue: LogQueue) -> bool
         ensures { MatchBool result (live queue self.now + live_of queue table.now < 2 ^ 64)
             (2 ^ 64 ≤ live queue self.now + live_of queue table.now) }
@@ -184,7 +190,7 @@ impl GlobalStats {
         table.records(queue) <= (usize::MAX - self.live_entries(queue)) as u128
     }
 
-    /// Takes the records that a table has in `queue` off.
+    /// Counts the records that `table` has in `queue`, which are counted as live, as no longer live.
     fn delete_records(&mut self, table: &MemTable, queue: LogQueue)
         requires { live_of queue table.now ≤ live queue self.old }
         ensures after { self.new ≡ with_deleted queue (live_of queue table.now) self.old }
@@ -197,7 +203,7 @@ impl GlobalStats {
         self.delete(queue, count as usize);
     }
 
-    /// Returns how many records are live in `queue`.
+    /// Returns how many records, entries and key values, are live in `queue`.
     pub fn live_entries(&self, queue: LogQueue) -> usize
         ensures { result ≡ live queue self.now }
     {
@@ -207,22 +213,23 @@ impl GlobalStats {
         }
     }
 
-    /// Returns how many records were written to the rewrite queue, those that were deleted again
-    /// included.
+    /// Returns how many records were written to the rewrite queue: those that are live, and those that were
+    /// deleted since the deleted ones were last taken off ([`GlobalStats::reset_rewrite_counters`]).
     pub fn rewrite_entries(&self) -> usize
         ensures { result ≡ self.now.written }
     {
         self.rewrite_entries
     }
 
-    /// Returns how many of the records that were written to the rewrite queue were deleted again.
+    /// Returns how many of the records that [`GlobalStats::rewrite_entries`] counts were deleted again.
     pub fn deleted_rewrite_entries(&self) -> usize
         ensures { result ≡ self.now.deleted }
     {
         self.deleted_rewrite_entries
     }
 
-    /// Takes the deleted records off both numbers of the rewrite queue.
+    /// Subtracts the deleted records of the rewrite queue from those that were written to it, and sets their
+    /// number to 0. No live count changes.
     pub fn reset_rewrite_counters(&mut self)
         ensures after { self.new ≡ without_deleted self.old }
         ensures live { (q : LogQueue) → live q self.new ≡ live q self.old }
@@ -232,11 +239,11 @@ impl GlobalStats {
     }
 }
 
-/// Adds two counts.
+/// Returns the sum of the counts `a` and `b`.
 ///
 /// # Errors
 ///
-/// `Full` where the sum passes 2^64 - 1.
+/// `Full` if it passes 2^64 - 1.
 fn sum(a: usize, b: usize) -> Result<usize>
     ensures ok { IfOk result (λ s. s ≡ a + b) }
     ensures accepted { a + b < 2 ^ 64 → IsOk result }

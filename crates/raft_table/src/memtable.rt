@@ -42,7 +42,8 @@ use std::alloc::Global;
 use std::collections::VecDeque;
 use std::marker::Model;
 
-/// The table of a region.
+/// The table of a region: where its entries are, its key values, and the files of its atomic group. Calls
+/// that change its records also change the live counts `stats`, in which these records must be counted.
 #[derive(Drop)]
 pub struct MemTable {
     region_id: u64,
@@ -65,7 +66,7 @@ impl Model for MemTable {
 }
 
 impl MemTable {
-    /// Makes the table of the region `region_id`, without records.
+    /// Returns the table of the region `region_id` without records, which will allocate from `alloc`.
     pub fn new(alloc: Global, region_id: u64) -> MemTable
         ensures empty { result ≡ empty_table region_id }
         ensures counted { (counts : Counts) → IsCounted result counts }
@@ -78,29 +79,29 @@ impl MemTable {
         }
     }
 
-    /// States that a table's entries are one run without gaps, each has a place, and the rewritten
-    /// ones stand in front of the appended ones. This is a law: it computes nothing.
+    /// States that a table's entries are one run without gaps, each has a place, and the rewritten ones come
+    /// before the appended ones. This is a law: it computes nothing.
     pub fn holds_one_run(&self)
         ensures { AreTableEntries self.now.entries }
     {
         self.entries.holds_one_run();
     }
 
-    /// Returns the region's id.
+    /// Returns the id of the region that the table is of.
     pub fn region_id(&self) -> u64
         ensures { result ≡ self.now.region_id }
     {
         self.region_id
     }
 
-    /// Returns how many entries are rewritten.
+    /// Returns the number of entries whose place is in the rewrite queue.
     pub fn rewrite_count(&self) -> usize
         ensures { result ≡ entry_count Rewrite self.now.entries }
     {
         self.entries.count_in(LogQueue::Rewrite)
     }
 
-    /// Returns the least index, `None` without entries.
+    /// Returns the index of the first entry, or `None` without entries.
     pub fn first_index(&self) -> Option<u64>
         ensures { MatchOption result (self.now.entries ≡ [])
             (λ i. (self.now.entries ≢ []) × (i ≡ start_of self.now.entries)) }
@@ -108,7 +109,7 @@ impl MemTable {
         self.entries.first_index()
     }
 
-    /// Returns the greatest index, `None` without entries.
+    /// Returns the index of the last entry, or `None` without entries.
     pub fn last_index(&self) -> Option<u64>
         ensures { MatchOption result (self.now.entries ≡ [])
             (λ i. i + 1 ≡ end_of self.now.entries) }
@@ -127,46 +128,46 @@ impl MemTable {
         self.entries.blocks()
     }
 
-    /// Returns the first and the last file of the region's atomic group, if one was applied.
+    /// Returns the numbers of the first and the last file of the region's atomic group in the rewrite queue,
+    /// or `None` if none was applied.
     pub fn atomic_group(&self) -> Option<(FileSeq, FileSeq)>
         ensures { result ≡ self.now.atomic_group }
     {
         self.atomic_group
     }
 
-    /// Returns how many entries and key values have their place or file in `queue`.
+    /// Returns the number of entries and key values whose place or file is in `queue`.
     pub fn records(&self, queue: LogQueue) -> u128
         ensures { result ≡ live_of queue self.now }
     {
         self.entries.count_in(queue) as u128 + self.keys.count_in(queue) as u128
     }
 
-    /// Returns the entry with this index.
+    /// Returns the entry at `index`, with its place, or `None` if the table has none there.
     pub fn get_entry(&self, index: u64) -> Option<EntryIndex>
         ensures { result ≡ entry_at index self.now.entries }
     {
         self.entries.get(index)
     }
 
-    /// Returns the value of `key`, `None` where it has none.
+    /// Returns the value of `key`, or `None` if it has none.
     pub fn get(&self, key: &[u8]) -> Option<&[u8]>
         ensures { option_map (λ v. v.now) result ≡ value_at self.now.keys key.now }
     {
         self.keys.get(key)
     }
 
-    /// Puts a new run of the append queue after the entries below its start. All others go; an empty run
-    /// changes nothing.
+    /// Puts `run`, a new one of the append queue, behind the entries below its start, in place of all others.
+    /// A run without entries changes nothing.
     ///
-    /// Entries that go and stand in the rewrite queue stay in its files. Where the append file with the run is
-    /// purged before the rewrite queue has a truncation at the run's start, a recovery may give them back.
+    /// Rewritten entries that go stay in the files of the rewrite queue. If the append file with the run is
+    /// purged before the rewrite queue has a truncation at the run's start, a recovery may bring them back.
     ///
     /// # Errors
     ///
-    /// `Corruption` where the run starts below all entries or leaves a hole after them, which names the
-    /// region, where the run starts and the end of the entries; `Full`
-    /// where more than 2^64 - 1 records would be live in the append queue, `Memory`. The table and the
-    /// counts are then as they were.
+    /// `Corruption` if the run starts below the first entry or leaves a hole after the last one; of a hole
+    /// the text names the region, where the run starts and where the entries end. `Full` if more than 2^64 -
+    /// 1 records would be live in the append queue. `Memory`. The table and the counts are unchanged then.
     pub fn append(&mut self, run: Vec<EntryIndex>, stats: &mut GlobalStats) -> Result<()>
         requires run { IsRunIn Append run.items }
         requires counted { IsCounted self.old stats.old }
@@ -182,14 +183,13 @@ impl MemTable {
         self.entries.append(self.region_id, run, stats)
     }
 
-    /// Puts a run that is read again from the append queue after the entries below its start. All others
-    /// go; an empty run changes nothing.
+    /// Puts `run`, which was read from the append queue, behind the entries below its start, in place of all
+    /// others. A run that starts below the first entry replaces all. A run without entries changes nothing.
     ///
     /// # Errors
     ///
-    /// `Corruption` where the run leaves a hole after the entries, `Full` where more than
-    /// 2^64 - 1 records would be live in the append queue, `Memory`. The table and the counts are then as
-    /// they were.
+    /// `Corruption` if the run leaves a hole after the last entry; `Full` if more than 2^64 - 1 records would
+    /// be live in the append queue; `Memory`. The table and the counts are unchanged then.
     pub fn replay_append(&mut self, run: Vec<EntryIndex>, stats: &mut GlobalStats) -> Result<()>
         requires run { IsRunIn Append run.items }
         requires counted { IsCounted self.old stats.old }
@@ -206,13 +206,14 @@ impl MemTable {
             .replay_run(self.region_id, &run, LogQueue::Append, stats)
     }
 
-    /// Puts a run that is read again from the rewrite queue after the entries below its start, or in place
-    /// of all entries where it leaves a hole after them. All others go; an empty run changes nothing.
+    /// Puts `run`, which was read from the rewrite queue, behind the entries below its start, in place of all
+    /// others. A run that starts below the first entry, or leaves a hole after the last one, replaces all. A
+    /// run without entries changes nothing.
     ///
     /// # Errors
     ///
-    /// `Full` where more than 2^64 - 1 records would be live in the rewrite queue, `Memory`. The table and
-    /// the counts are then as they were.
+    /// `Full` if more than 2^64 - 1 records would be live in the rewrite queue; `Memory`. The table and the
+    /// counts are unchanged then.
     pub fn replay_rewrite(&mut self, run: Vec<EntryIndex>, stats: &mut GlobalStats) -> Result<()>
         requires run { IsRunIn Rewrite run.items }
         requires rewritten { live_of Append self.old ≡ 0 }
@@ -230,9 +231,10 @@ impl MemTable {
             .replay_run(self.region_id, &run, LogQueue::Rewrite, stats)
     }
 
-    /// Puts a run of `queue` as [`MemTable::replay_append`] and [`MemTable::replay_rewrite`] do, and
-    /// returns whether it did. It does not where those refuse, nor where the table has records of the
-    /// other queue. The table and the counts are then as they were.
+    /// Puts a run of `queue` as [`MemTable::replay_append`] or [`MemTable::replay_rewrite`] does, and returns
+    /// whether it did. It doesn't if that call would be refused, or the table has records of the other queue;
+    /// the table and the counts are unchanged then. Recovery tries this first, and makes the error by the
+    /// slower call.
     #[doc(hidden)]
     #[inline(always)]
     pub fn try_replay(&mut self, queue: LogQueue, run: &Run<'_>, stats: &mut GlobalStats) -> bool
@@ -258,17 +260,19 @@ impl MemTable {
         self.entries.put_run_behind(keep, run, queue, stats).is_ok()
     }
 
-    /// Gives the entries the places of a run of the rewrite queue, from the first shared index on
-    /// and as far as they may move: with a gate those in files at or below it, without one those
-    /// that are rewritten already. Indexes, keys and values stay. A run without entries changes
-    /// nothing.
+    /// Gives entries the places of a run of the rewrite queue that has their indexes, from the first index
+    /// that both have on, up to the first entry that may not move: with a `gate`, entries in files numbered
+    /// at or below it may; without one, those that are rewritten already. Indexes, and key values, stay. A
+    /// run without entries changes nothing.
+    ///
+    /// The whole run is counted as written to the rewrite queue. What of it moved nothing, and the old places
+    /// of what moved, are no longer live.
     ///
     /// # Errors
     ///
-    /// `Corruption` where more entries stand below the first shared index than are rewritten, and
-    /// with a gate also where fewer do; `Full` where the live count of the rewrite queue and the
-    /// run together would pass 2^64 - 1; `Memory` where blocks have to be divided or added. The
-    /// table and the counts are then as they were.
+    /// `Corruption` if more entries are below the first common index than are rewritten or, with a `gate`,
+    /// fewer; `Full` if the live records of the rewrite queue and the run together would pass 2^64 - 1;
+    /// `Memory` if blocks have to be divided or added. The table and the counts are unchanged then.
     pub fn rewrite(
         &mut self,
         run: Vec<EntryIndex>,
@@ -292,7 +296,7 @@ impl MemTable {
         self.entries.rewrite(&run, gate, stats)
     }
 
-    /// Drops the entries below an index, and returns how many those were.
+    /// Drops the entries below `index`, subtracts them from the live counts, and returns how many they were.
     pub fn compact_to(&mut self, index: u64, stats: &mut GlobalStats) -> u64
         requires { IsCounted self.old stats.old }
         ensures compacted { self.new ≡ record self.old { entries = from index self.old.entries } }
@@ -304,10 +308,11 @@ impl MemTable {
         self.entries.compact_to(index, stats)
     }
 
-    /// Drops the entries at or above an index, and returns how many those were.
+    /// Drops the entries at or above `index`, subtracts them from the live counts, and returns how many they
+    /// were.
     ///
-    /// Entries that stand in the rewrite queue stay in its files. Where the append file with the
-    /// truncation is purged before the rewrite queue has the same command, a recovery gives them back.
+    /// Rewritten entries that go stay in the files of the rewrite queue. If the append file with the
+    /// truncation is purged before the rewrite queue has the same command, a recovery brings them back.
     pub fn truncate_from(&mut self, index: u64, stats: &mut GlobalStats) -> u64
         requires { IsCounted self.old stats.old }
         ensures truncated { self.new ≡ record self.old { entries = below index self.old.entries } }
@@ -319,13 +324,13 @@ impl MemTable {
         self.entries.truncate_from(index, stats)
     }
 
-    /// Puts a key with its value, which were written to `file_id`, in place of the pair that the key
+    /// Gives `key` the value `value`, which was written to the file `file_id`, in place of the value that it
     /// had.
     ///
     /// # Errors
     ///
-    /// `Full` where more than 2^64 - 1 records would be live in the file's queue, `Memory`. The table and the
-    /// counts are then as they were.
+    /// `Full` if more than 2^64 - 1 records would be live in the file's queue; `Memory`. The table and the
+    /// counts are unchanged then.
     #[inline(always)]
     pub fn put(
         &mut self,
@@ -359,7 +364,8 @@ impl MemTable {
         stats.add(file_id.queue, 1)
     }
 
-    /// Deletes a key and its value.
+    /// Removes `key` with its value, and subtracts it from the live counts. Nothing changes if it has no
+    /// value.
     pub fn delete(&mut self, key: &[u8], stats: &mut GlobalStats)
         requires { IsCounted self.old stats.old }
         ensures deleted { self.new
@@ -373,14 +379,16 @@ impl MemTable {
         }
     }
 
-    /// Moves the pair of `key` to the file of number `seq` of the rewrite queue: one in the append
-    /// queue where there is a gate and its file is at or below it, one in the rewrite queue always.
+    /// Moves the value of `key` to the file numbered `seq` of the rewrite queue: from the append queue only
+    /// if there is a `gate` and the value's file is numbered at or below it, within the rewrite queue always.
+    /// One record is counted as written to the rewrite queue even if nothing moves, and the live counts
+    /// follow the value.
     ///
     /// # Errors
     ///
-    /// `Corruption` where the pair is in the rewrite queue in a file of a number above `seq`, `Full`
-    /// where the live count of the rewrite queue and one more would pass 2^64 - 1, `Memory` for the
-    /// text of `Corruption` alone. The table and the counts are then as they were.
+    /// `Corruption` if the value is in a file of the rewrite queue numbered above `seq`; `Full` if the live
+    /// count of the rewrite queue and one more would pass 2^64 - 1; `Memory` only for want of the text of
+    /// `Corruption`. The table and the counts are unchanged then.
     pub fn rewrite_key(
         &mut self,
         key: Vec<u8>,
@@ -432,13 +440,13 @@ impl MemTable {
         }
     }
 
-    /// Sets the first and the last file of the region's atomic group in the rewrite queue.
+    /// Sets the first and the last file of the region's atomic group in the rewrite queue to `start` and
+    /// `end`. `start` is at most `end`.
     ///
     /// A recovery takes a group whole or not at all. So whoever writes one calls this once its End is
-    /// written, for each region that the group names: [`MemTable::min_file_seq`] then keeps the files
-    /// from its Begin on, as long as the table needs one up to its End. The table remembers one group:
-    /// none may begin that leaves records of the region in an older one, whose Begin would no longer be
-    /// kept.
+    /// written, for each region that the group names: [`MemTable::min_file_seq`] then keeps the files from
+    /// its Begin on, as long as the table needs one up to its End. The table remembers one group: none may
+    /// begin that leaves records of the region in an older one, whose Begin would no longer be kept.
     pub fn apply_rewrite_atomic_group(&mut self, start: FileSeq, end: FileSeq)
         requires { start ≤ end }
         ensures group { self.new ≡ record self.old { atomic_group = Some (start, end) } }

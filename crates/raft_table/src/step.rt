@@ -38,7 +38,7 @@ pub enum Step {
 }
 
 impl Step {
-    /// Tests whether the region has no table after the step.
+    /// Tests whether the step leaves its region without a table, as [`Step::Clean`] alone does.
     pub fn is_clean(&self) -> bool
         ensures { MatchBool result (step_shown self.now ≡ Clean) (LeavesTable (step_shown
             self.now)) }

@@ -1,32 +1,8 @@
 -- On batches that are broken off.
-use Rattle.std.proofs.Common.{◌≡◌, ◌≢◌, ℕ, ◌+◌, ◌^◌, ◌<◌, ◌≤◌, List, [], ◌∷◌, ◌++◌, Option, length, map, drop, take, inl, inr, refl, sym, ap, ◌∙◌, subst, arith, append_assoc, append-nil, length-append}
-use Rattle.std.proofs.lemmas.Bool.{cases_lt}
-use Rattle.std.proofs.lemmas.List.{length-drop, drop-append-le, drop_at, take-append-drop, take-append-le, take_at}
-use Rattle.raft_codec.proofs.ReadingLemmas.{pair_one_front}
-use Rattle.raft_codec.proofs.SequenceLemmas.{sequence_one_front}
-use Rattle.raft_codec.proofs.VarintLemmas.{varint_one_front}
-use Rattle.raft_codec.specs.Reading.{HasOneFront}
-use Rattle.raft_codec.specs.Varint.{IsVarint, varint}
-use Rattle.raft_base.specs.declared.compression_type.CompressionType.{CompressionType}
-use Rattle.raft_base.specs.declared.compression_type.CompressionType.TheVariants.{None as uncompressed}
-use Rattle.std.specs.List.{flat_map}
-use Rattle.raft_records.specs.FilePart.{HasHeader}
-use Rattle.raft_records.specs.Grammar.{IsItem, end_of_content}
-use Rattle.raft_records.specs.Header.{IsHeader}
-use Rattle.raft_records.specs.Item.{Item, bare}
-use Rattle.raft_records.specs.ItemBatch.{AreItems, IsItemBatch, checksum_bytes, signed_crc}
-unfoldable use Rattle.raft_records.specs.ItemBatch.{item_batch_bytes}
-use Rattle.raft_records.specs.Spelling.{item_bytes}
-use Rattle.raft_checksum.specs.Checksum.{crc32_of}
-use Rattle.raft_records.specs.LogBatch.{IsBatchOf, IsLaidOut, encoded_length, entry_block, header_bytes, item_offset, log_batch_bytes, unsealed_bytes}
-use Rattle.raft_records.specs.Range.{AreInRange}
-use Rattle.raft_records.proofs.BufferLemmas.{header_len}
-use Rattle.raft_records.proofs.ContentLemmas.{item_one_front}
-use Rattle.raft_records.proofs.FrameLemmas.{count_le, header_one, log_batch_length}
-use Rattle.raft_records.proofs.SealLemmas.{four}
-use Rattle.raft_records.proofs.WrittenLemmas.{batch_spelled}
-use Rattle.raft_tail.specs.Passing.{AreCounted}
-use Rattle.raft_tail.specs.Tails.{AreWhole, IsBroken}
+use Rattle.raft_tail.proofs.Common.{◌≡◌, ◌≢◌, ℕ, ◌+◌, ◌^◌, ◌<◌, ◌≤◌, List, [], ◌∷◌, ◌++◌, Option, length, map, drop, take, inl, inr, refl, sym, ap, ◌∙◌, subst, arith, append_assoc, append-nil, length-append, cases_lt, length-drop, drop-append-le, drop_at, take-append-drop}
+use Rattle.raft_tail.proofs.Common.{take-append-le, take_at, pair_one_front, sequence_one_front, varint_one_front, HasOneFront, IsVarint, varint, CompressionType, uncompressed, flat_map, HasHeader, IsItem, end_of_content, IsHeader, Item, bare, AreItems, IsItemBatch}
+use Rattle.raft_tail.proofs.Common.{checksum_bytes, signed_crc, item_batch_bytes, item_bytes, crc32_of, IsBatchOf, IsLaidOut, encoded_length, entry_block, header_bytes, item_offset, log_batch_bytes, unsealed_bytes, AreInRange, header_len, item_one_front, count_le, header_one}
+use Rattle.raft_tail.proofs.Common.{log_batch_length, four, batch_spelled, AreCounted, AreWhole, IsBroken}
 
 -- ---- whole items
 

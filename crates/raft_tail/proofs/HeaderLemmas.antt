@@ -1,11 +1,5 @@
 -- On headers that are looked at.
-use Rattle.std.proofs.Common.{◌≡◌, ◌≢◌, ℕ, ◌/◌, ◌%◌, ◌<◌, ◌≤◌, ◌⊎◌, List, inl, inr}
-use Rattle.raft_base.specs.declared.compression_type.CompressionType.TheVariants.{None as uncompressed}
-use Rattle.raft_codec.specs.Fixed.{IsBig}
-use Rattle.raft_codec.specs.Reading.{HasNoFront, Reads}
-use Rattle.raft_records.proofs.HeaderLemmas.{header_read, offset_in_header, offset_past_end, unknown_type}
-use Rattle.raft_records.specs.FilePart.{HasHeader}
-use Rattle.raft_records.specs.Header.{IsHeader}
+use Rattle.raft_tail.proofs.Common.{◌≡◌, ◌≢◌, ℕ, ◌/◌, ◌%◌, ◌<◌, ◌≤◌, ◌⊎◌, List, inl, inr, uncompressed, IsBig, HasNoFront, Reads, header_read, offset_in_header, offset_past_end, unknown_type, HasHeader, IsHeader}
 
 pub header_seen : {bytes behind rest : List ℕ} {first second : ℕ} → Reads (IsBig 8) bytes behind first → Reads (IsBig 8) behind rest second →
     first % 256 ≡ 0 → second ≤ first / 256 → 16 ≤ second → HasHeader bytes second (first / 256)

@@ -1,3 +1,4 @@
+mod Common
 pub mod BrokenLemmas
 pub mod HeaderLemmas
 pub mod PassingLemmas

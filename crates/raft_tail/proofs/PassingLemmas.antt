@@ -1,18 +1,7 @@
 -- On items that are passed over.
-use Rattle.std.proofs.Common.{◌≡◌, ℕ, ◌+◌, ◌-◌, ◌^◌, ◌<◌, ◌≤◌, List, [], ◌∷◌, ◌++◌, length, Option, Some, None, Result, Ok, Err, IfOk, refl, sym, ap, ◌∙◌, arith}
-use Rattle.std.specs.Option.{MatchOption}
-use Rattle.std.proofs.lemmas.List.{length_push}
-use Rattle.raft_codec.specs.Reading.{HasNoFront, IsSequence, Reads}
-use Rattle.raft_codec.specs.Varint.{IsVarint}
-use Rattle.raft_base.specs.declared.entry_index.EntryIndex.{EntryIndex}
-use Rattle.raft_records.specs.Entries.{entry_between}
-use Rattle.raft_records.specs.Grammar.{AreTails, IsCommand, IsItem, IsKeyValue, IsTail, end_of_content}
-use Rattle.raft_records.specs.Item.{Item, command, entries, pair}
-use Rattle.raft_records.specs.ItemBatch.{AreItems, end_of_items}
-use Rattle.raft_records.proofs.BatchLemmas.{counted_read, end_push, no_more_items, one_more_item}
-use Rattle.raft_records.proofs.ContentLemmas.{command_content, entries_content, item_read, pair_content}
-use Rattle.raft_records.proofs.EntryLemmas.{AreReadSoFar, end_is, entries_read, no_more_tails, one_more_tail, run_read}
-use Rattle.raft_tail.specs.Passing.{AreCounted, ContentPasses, EntriesPass, ItemPasses, Passes, TailsPass}
+use Rattle.raft_tail.proofs.Common.{◌≡◌, ℕ, ◌+◌, ◌-◌, ◌^◌, ◌<◌, ◌≤◌, List, [], ◌∷◌, ◌++◌, length, Option, Some, None, Result, Ok, Err, IfOk, refl, sym, ap, ◌∙◌, arith, MatchOption, length_push, HasNoFront, IsSequence, Reads, IsVarint, EntryIndex, entry_between, AreTails}
+use Rattle.raft_tail.proofs.Common.{IsCommand, IsItem, IsKeyValue, IsTail, end_of_content, Item, command, entries, pair, AreItems, end_of_items, counted_read, end_push, no_more_items, one_more_item, command_content, entries_content, item_read, pair_content, AreReadSoFar, end_is}
+use Rattle.raft_tail.proofs.Common.{entries_read, no_more_tails, one_more_tail, run_read, AreCounted, ContentPasses, EntriesPass, ItemPasses, Passes, TailsPass}
 
 -- what is there is another thing, and where nothing is, another thing holds
 pub option_as : {X A B : Type 0} {P Q : X → Type 0} → (o : Option X) → (A → B) → ((x : X) → P x → Q x) → MatchOption o A P → MatchOption o B Q

@@ -1,17 +1,6 @@
 -- On bytes that are looked at one after the other.
-use Rattle.std.proofs.Common.{◌≡◌, ◌≢◌, ◌↔◌, ℕ, ◌+◌, ◌^◌, ◌<◌, ◌≤◌, false, List, length, map, drop, Option, Some, None, IsTrue, inl, inr, refl, sym, ap, ◌∙◌, subst, arith}
-use Rattle.std.proofs.lemmas.Bool.{cases_lt}
-use Rattle.raft_base.specs.Signature.{signature_in}
-use Rattle.raft_base.specs.declared.pipe_log.Version.{Version}
-use Rattle.raft_base.specs.declared.pipe_log.Version.TheVariants.{V1, V2}
-use Rattle.raft_codec.specs.Reading.{HasNoFront}
-use Rattle.raft_records.proofs.PartLemmas.{batch_inside, cut_short, no_header}
-use Rattle.raft_records.specs.FilePart.{HasHeader, Part}
-use Rattle.raft_records.specs.Header.{IsHeader}
-use Rattle.raft_records.specs.ItemBatch.{placed_item}
-use Rattle.raft_records.specs.LogBatch.{IsLaidOut, IsReadable}
-use Rattle.raft_tail.specs.Passing.{IsSigner}
-use Rattle.raft_tail.specs.Tails.{IsElsewhere, IsNowhere, IsSignedFor, IsSoundAt, in_file}
+use Rattle.raft_tail.proofs.Common.{◌≡◌, ◌≢◌, ◌↔◌, ℕ, ◌+◌, ◌^◌, ◌<◌, ◌≤◌, false, List, length, map, drop, Option, Some, None, IsTrue, inl, inr, refl, sym, ap, ◌∙◌, subst, arith, cases_lt, signature_in, Version, V1, V2, HasNoFront, batch_inside, cut_short, no_header, HasHeader}
+use Rattle.raft_tail.proofs.Common.{Part, IsHeader, placed_item, IsLaidOut, IsReadable, IsSigner, IsElsewhere, IsNowhere, IsSignedFor, IsSoundAt, in_file}
 
 -- ---- walks
 

@@ -1,20 +1,6 @@
 -- On the signature that a checksum tells.
-use Rattle.std.proofs.Common.{◌≡◌, ℕ, ◌-◌, ◌^◌, ◌<◌, List, [], ◌++◌, length, drop, take, Option, Some, refl, sym, ap, ◌∙◌, subst, arith, bit_xor, length-append}
-use Rattle.std.proofs.lemmas.List.{append_cancel_left, length-drop, take-append-drop}
-use Rattle.std.proofs.lemmas.Nat.{xor_of_32}
-use Rattle.std.specs.Int.Bits.{xor_assoc, xor_self, xor_zero_l}
-use Rattle.byteorder.specs.Endian.{little_bytes}
-use Rattle.raft_checksum.specs.Checksum.{crc32_of}
-use Rattle.raft_codec.proofs.FixedLemmas.{IsReadAgain-little_bytes}
-use Rattle.raft_codec.specs.Fixed.{IsLittle}
-use Rattle.raft_codec.specs.Reading.{HasNoFront, Reads}
-use Rattle.raft_records.proofs.ItemLemmas.{same_length}
-use Rattle.raft_records.proofs.PartLemmas.{cut_short, no_header, no_item_batch}
-use Rattle.raft_records.proofs.SealLemmas.{all_four, four}
-use Rattle.raft_records.specs.FilePart.{HasHeader}
-use Rattle.raft_records.specs.Header.{IsHeader}
-use Rattle.raft_records.specs.ItemBatch.{IsItemBatch, checksum_bytes, signed_crc}
-use Rattle.raft_tail.specs.Passing.{IsItemSigner, IsSigner}
+use Rattle.raft_tail.proofs.Common.{◌≡◌, ℕ, ◌-◌, ◌^◌, ◌<◌, List, [], ◌++◌, length, drop, take, Option, Some, refl, sym, ap, ◌∙◌, subst, arith, bit_xor, length-append, append_cancel_left, length-drop, take-append-drop, xor_of_32, xor_assoc, xor_self, xor_zero_l, little_bytes}
+use Rattle.raft_tail.proofs.Common.{crc32_of, IsReadAgain-little_bytes, IsLittle, HasNoFront, Reads, same_length, cut_short, no_header, no_item_batch, all_four, four, HasHeader, IsHeader, IsItemBatch, checksum_bytes, signed_crc, IsItemSigner, IsSigner}
 
 -- four bytes are one number
 little_one : (m n : ℕ) → m < 2 ^ 32 → n < 2 ^ 32 → (more rest : List ℕ) → little_bytes 4 m ++ more ≡ little_bytes 4 n ++ rest → m ≡ n

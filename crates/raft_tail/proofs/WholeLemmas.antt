@@ -1,21 +1,7 @@
 -- On whole items, and on what is cut.
-use Rattle.std.proofs.Common.{◌≡◌, ◌↔◌, ℕ, ◌-◌, ◌^◌, ◌<◌, ◌≤◌, Bool, true, false, List, ◌++◌, length, drop, take, Option, IsTrue, inl, inr, refl, sym, ap, ◌∙◌, subst, arith, append_assoc, append-nil, length-append, nat_eq, not}
-use Rattle.std.proofs.lemmas.Bool.{eqb-true, eq-eqb}
-use Rattle.std.proofs.lemmas.List.{append_cancel_left, length-drop, take_at}
-use Rattle.byteorder.specs.Endian.{little_bytes}
-use Rattle.raft_base.specs.declared.compression_type.CompressionType.{CompressionType}
-use Rattle.raft_checksum.specs.Checksum.{crc32_of}
-use Rattle.raft_codec.proofs.FixedLemmas.{IsReadAgain-little_bytes}
-use Rattle.raft_codec.specs.Fixed.{IsLittle}
-use Rattle.raft_codec.specs.Reading.{HasNoFront, Reads}
-use Rattle.raft_records.proofs.FrameLemmas.{header_one}
-use Rattle.raft_records.proofs.SealLemmas.{four}
-use Rattle.raft_records.specs.FilePart.{HasHeader}
-use Rattle.raft_records.specs.Header.{IsHeader}
-use Rattle.raft_records.specs.ItemBatch.{checksum_bytes, signed_crc}
+use Rattle.raft_tail.proofs.Common.{◌≡◌, ◌↔◌, ℕ, ◌-◌, ◌^◌, ◌<◌, ◌≤◌, Bool, true, false, List, ◌++◌, length, drop, take, Option, IsTrue, inl, inr, refl, sym, ap, ◌∙◌, subst, arith, append_assoc, append-nil, length-append, nat_eq, not, eqb-true, eq-eqb, append_cancel_left}
+use Rattle.raft_tail.proofs.Common.{length-drop, take_at, little_bytes, CompressionType, crc32_of, IsReadAgain-little_bytes, IsLittle, HasNoFront, Reads, header_one, four, HasHeader, IsHeader, checksum_bytes, signed_crc, AreCounted, BeginsWhole, Passes, AreWhole, IsBroken}
 use Rattle.raft_tail.proofs.BrokenLemmas.{counted_one_front, whole_length, whole_split}
-use Rattle.raft_tail.specs.Passing.{AreCounted, BeginsWhole, Passes}
-use Rattle.raft_tail.specs.Tails.{AreWhole, IsBroken}
 
 -- ---- whole items
 

@@ -1,4 +1,4 @@
--- What contracts of private functions say: how spellings in front of bytes are passed over, and which signature a batch there has.
+-- What contracts of private functions say: how spellings at the start of bytes are passed over, and which signature a batch there has.
 use Rattle.std.specs.Prelude.{◌≡◌, ◌≢◌, ℕ, ◌^◌, ◌<◌, List, length, Option, Some}
 use Rattle.raft_codec.specs.Reading.{HasNoFront, IsFollowedBy, Reads}
 use Rattle.raft_codec.specs.Varint.{IsVarint}
@@ -17,7 +17,7 @@ Passes {X} IsSpelling old new = (x : X) × Reads IsSpelling old new x
 abbrev pub AreCounted : List ℕ → List Item → Type 0
 AreCounted bytes items = IsFollowedBy IsVarint AreItems bytes (length items) items
 
--- whole items stand in front of the bytes
+-- whole items stand at the start of the bytes
 abbrev pub BeginsWhole : Option ℕ → List ℕ → Type 0
 BeginsWhole signature bytes = (rest : List ℕ) × Passes (AreWhole signature) bytes rest
 
@@ -45,7 +45,7 @@ pub record ItemPasses (start : ℕ) (old new : List ℕ) (end : ℕ) : Type 0 wh
   pub reads : Reads (IsItem start) old new read
   pub ends : end ≡ end_of_content start read.content
 
--- a batch that stands in front of these bytes with a signature has this one
+-- a batch that stands at the start of these bytes with a signature has this one
 abbrev pub IsSigner : List ℕ → Option ℕ → Type 0
 IsSigner bytes signer = (signature : ℕ) → signature < 2 ^ 32 → signer ≢ Some signature → HasNoFront (λ front. IsReadable front (Some signature)) bytes
 

@@ -10,11 +10,12 @@ use raft_base::{Error, LogFileContext, Result};
 use raft_records::FilePart;
 use std::alloc::Global;
 
-/// Tests whether what stands from a byte to the end of a part can be all that is left of one batch, as a crash leaves it.
+/// Tests whether the bytes from position `at` of a part to its end can be all that is left of one batch, as
+/// a crash leaves it. `at` must be at most the number of bytes.
 ///
 /// # Errors
 ///
-/// `Memory`.
+/// `Memory` alone.
 pub fn is_broken_off(part: &FilePart, at: usize) -> Result<bool>
     requires { at ≤ length part.now.bytes }
     ensures ok { IfOk result (λ broken. IsTrue broken ↔ IsBrokenOff part.now at) }
@@ -25,11 +26,13 @@ pub fn is_broken_off(part: &FilePart, at: usize) -> Result<bool>
     is_broken(part.allocator(), rest, file.get_signature())
 }
 
-/// Tests whether bytes can be all that is left of one batch.
+/// Tests whether `bytes` can be all that is left of one batch, which was to be signed with `signature`:
+/// either they are too few for a header, or they have one, are fewer than it says, and don't have whole items
+/// where it says.
 ///
 /// # Errors
 ///
-/// `Memory`.
+/// `Memory` alone.
 fn is_broken(alloc: Global, bytes: &[u8], signature: Option<u32>) -> Result<bool>
     ensures ok { IfOk result (λ broken. IsTrue broken ↔ IsBroken signature bytes.now) }
     ensures memory { IfErr result (λ e. e ≡ Error.Memory) }
@@ -43,11 +46,12 @@ fn is_broken(alloc: Global, bytes: &[u8], signature: Option<u32>) -> Result<bool
     }
 }
 
-/// Tests whether no whole items stand at `offset`.
+/// Tests whether there are no whole items at `offset` of `bytes`, with their checksum signed with `signature`
+/// right behind them.
 ///
 /// # Errors
 ///
-/// `Memory`.
+/// `Memory` alone.
 fn is_unfinished(alloc: Global, bytes: &[u8], offset: usize, signature: Option<u32>) -> Result<bool>
     ensures ok { IfOk result (λ unfinished. IsTrue unfinished ↔ HasNoFront (AreWhole signature) (drop offset bytes.now)) }
     ensures memory { IfErr result (λ e. e ≡ Error.Memory) }

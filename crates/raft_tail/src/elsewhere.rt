@@ -12,21 +12,22 @@ use raft_checksum::crc32;
 use raft_codec::codec;
 use raft_records::{FilePart, next_in};
 
-/// The least number of a file that isn't looked for: bytes by chance may give any number of 32 bits.
+/// Files with this number or above aren't looked for: bytes may give any number of 32 bits by chance.
 const SEQ_LIMIT: FileSeq = 1 << 24;
 
-/// How many bytes a checksum takes.
+/// The length of a checksum in bytes.
 const LOG_BATCH_CHECKSUM_LEN: usize = 4;
 
-/// Returns the first byte from `from` on at which a batch stands that isn't readable in the part's file, but in another one
-/// of version 2, and that one's number, which is below 2^24. In version 1 no batch says which file it was written for.
+/// Returns the first position from `from` on at which there is a batch that can't be read in the part's file,
+/// but in another file of version 2, with the number of that file, which is below 2^24. Returns `None` if
+/// there is none. In version 1 no batch says which file it was written for.
 ///
-/// Each byte costs a look at the 16 bytes there; where these can be a header of a batch that ends within the part, its
-/// items are summed up.
+/// Each position costs a look at the 16 bytes there. If these can be the header of a batch that ends within
+/// the part, the checksum of its items is computed.
 ///
 /// # Errors
 ///
-/// `Memory`.
+/// `Memory` alone.
 pub fn signed_elsewhere(part: &FilePart, from: usize) -> Result<Option<(usize, FileSeq)>>
     ensures ok { IfOk result (IsNextElsewhere part.now from) }
     ensures memory { IfErr result (λ e. e ≡ Error.Memory) }
@@ -43,12 +44,12 @@ pub fn signed_elsewhere(part: &FilePart, from: usize) -> Result<Option<(usize, F
     Ok(None)
 }
 
-/// Returns the number of the other file that a batch at a byte is signed for, if one stands there. `own` is the signature of
-/// the part's file.
+/// Returns the number of the other file that the batch at position `at` was signed for, or `None` if there is
+/// no such batch. `own` is the signature of the part's file.
 ///
 /// # Errors
 ///
-/// `Memory`.
+/// `Memory` alone.
 #[inline(always)]
 fn other_file_at(part: &FilePart, own: u32, at: usize) -> Result<Option<FileSeq>>
     requires inside { at < length part.now.bytes }
@@ -72,7 +73,8 @@ fn other_file_at(part: &FilePart, own: u32, at: usize) -> Result<Option<FileSeq>
     }
 }
 
-/// Returns the only signature that a batch in front of `bytes` can have, by its checksum.
+/// Returns the only signature that a batch at the start of `bytes` can have, by the checksum of its items, or
+/// `None` if no batch can be there.
 #[inline(always)]
 fn signer_in(bytes: &[u8]) -> Option<u32>
     ensures { IsSigner bytes.now result }
@@ -87,7 +89,9 @@ fn signer_in(bytes: &[u8]) -> Option<u32>
     }
 }
 
-/// Returns the only signature that an item batch which the whole slice is can have.
+/// Takes all of `bytes` for an item batch, whose last 4 bytes are its checksum, and returns the signature with which that
+/// checksum is right: the CRC-32 of the other bytes, combined by exclusive or with the checksum that stands there. Whether the
+/// items can be read isn't tested. `None` if there are no bytes before a checksum.
 #[inline(never)]
 fn signer_of(bytes: &[u8]) -> Option<u32>
     ensures { IsItemSigner bytes.now result }
@@ -102,11 +106,11 @@ fn signer_of(bytes: &[u8]) -> Option<u32>
     }
 }
 
-/// Tests whether a batch stands at a byte that is readable in the file with the number `seq`.
+/// Tests whether there is a batch at position `at` that can be read in the file numbered `seq`.
 ///
 /// # Errors
 ///
-/// `Memory`.
+/// `Memory` alone.
 fn is_readable_in(part: &FilePart, seq: FileSeq, at: usize) -> Result<bool>
     requires { at < length part.now.bytes }
     ensures ok { IfOk result (λ readable. IsTrue readable ↔ IsSoundAt (in_file seq part.now) at) }

@@ -4,11 +4,11 @@ ghost use Rattle.std.specs.Prelude.{◌≡◌, ◌≢◌, IfErr, OnOk};
 
 use raft_base::{Error, Result};
 
-/// Returns `Memory` again, and no other refusal.
+/// Returns `Ok` for any refusal of a reading other than want of memory: only that one has to be passed on.
 ///
 /// # Errors
 ///
-/// `Memory`.
+/// `Memory`, if `error` is that.
 pub(crate) fn unless_memory(error: Error) -> Result<()>
     ensures ok { OnOk result (error ≢ Error.Memory) }
     ensures memory { IfErr result (λ e. e ≡ Error.Memory) }

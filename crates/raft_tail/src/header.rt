@@ -8,11 +8,12 @@ ghost use Rattle.raft_records.specs.Header.{IsHeader};
 
 use raft_codec::codec;
 
-/// How many bytes a header takes.
+/// The length of the header of a log batch, in bytes.
 pub(crate) const LOG_BATCH_HEADER_LEN: usize = 16;
 
-/// Returns where the items begin by the header in front of `bytes`, and how long its batch is by it; nothing where no header
-/// stands there.
+/// Returns the offset of the item batch and the length of the batch, both in bytes, from the header at the
+/// start of `bytes`. Returns `None` if there is no header. Unlike `LogBatch::decode_header` it makes no
+/// error, which a look at each byte of a file would pay for.
 #[inline(always)]
 pub(crate) fn header_in(bytes: &[u8]) -> Option<(usize, usize)>
     ensures some { IfSome result (λ header. HasHeader bytes.now header.0 header.1) }
@@ -30,7 +31,8 @@ pub(crate) fn header_in(bytes: &[u8]) -> Option<(usize, usize)>
     Some((offset as usize, len as usize))
 }
 
-/// Reads a number of eight bytes, the highest first, and returns what follows it too.
+/// Reads a number of eight bytes, the highest first, from the start of `bytes`, and returns it with the bytes
+/// behind it. There are at least eight.
 #[inline(always)]
 fn parse_u64(bytes: &[u8]) -> (u64, &[u8])
     requires { 8 ≤ length bytes.now }

@@ -1,4 +1,4 @@
-//! Items that are passed over in front of bytes whose end isn't known. Nothing is kept of them.
+//! Items at the start of bytes whose end isn't known: they are passed over, and nothing is kept of them.
 
 ghost use Rattle.std.specs.Prelude.{◌≡◌, ◌↔◌, ◌-◌, ◌^◌, ◌<◌, ◌≤◌, IfErr, IfOk, IfSome, IsTrue, MatchOption, OnSome};
 ghost use Rattle.raft_codec.specs.Reading.{HasNoFront, Reads};
@@ -23,11 +23,12 @@ const TYPE_COMMAND: u8 = 2;
 /// The type byte of an item of a change of a key.
 const TYPE_KV: u8 = 3;
 
-/// Tests whether items stand in front of `bytes`, with their signed checksum right behind them.
+/// Tests whether there are items at the start of `bytes`, with their count before them and their checksum,
+/// signed with `signature`, right behind them.
 ///
 /// # Errors
 ///
-/// `Memory`.
+/// `Memory` alone.
 pub(crate) fn are_whole(alloc: Global, bytes: &[u8], signature: Option<u32>) -> Result<bool>
     ensures ok { IfOk result (λ whole. IsTrue whole ↔ BeginsWhole signature bytes.now) }
     ensures memory { IfErr result (λ e. e ≡ Error.Memory) }
@@ -42,7 +43,8 @@ pub(crate) fn are_whole(alloc: Global, bytes: &[u8], signature: Option<u32>) -> 
     }
 }
 
-/// Signs a checksum by a file's signature, or takes it off again; without one it stays.
+/// Signs `checksum` by an exclusive or with `signature`, or takes that signature off again: both are the
+/// same. Without a signature it returns `checksum`.
 fn sign(checksum: u32, signature: Option<u32>) -> u32
     ensures { result ≡ signed_crc signature checksum }
 {
@@ -52,11 +54,12 @@ fn sign(checksum: u32, signature: Option<u32>) -> u32
     }
 }
 
-/// Returns what follows a count of items and the items; nothing where they don't stand there.
+/// Returns the bytes behind a count of items and that many items, or `None` if there are none at the start of
+/// `bytes`.
 ///
 /// # Errors
 ///
-/// `Memory`.
+/// `Memory` alone.
 fn pass_count_and_items(alloc: Global, bytes: &[u8]) -> Result<Option<&[u8]>>
     ensures ok { IfOk result (λ passed. MatchOption passed (HasNoFront AreCounted bytes.now)
         (λ rest. Passes AreCounted bytes.now rest.now)) }
@@ -68,11 +71,11 @@ fn pass_count_and_items(alloc: Global, bytes: &[u8]) -> Result<Option<&[u8]>>
     }
 }
 
-/// Returns what follows that many items; nothing where they don't stand there.
+/// Returns the bytes behind `count` items, or `None` if there aren't as many at the start of `bytes`.
 ///
 /// # Errors
 ///
-/// `Memory`.
+/// `Memory` alone.
 fn pass_items(alloc: Global, bytes: &[u8], count: u64) -> Result<Option<&[u8]>>
     ensures ok { IfOk result (λ passed. MatchOption passed (HasNoFront (AreItems count) bytes.now)
         (λ rest. Passes (AreItems count) bytes.now rest.now)) }
@@ -90,11 +93,12 @@ fn pass_items(alloc: Global, bytes: &[u8], count: u64) -> Result<Option<&[u8]>>
     Ok(Some(rest))
 }
 
-/// Returns the end of the entries' bytes of the item in front, and what follows it; nothing where no item stands there.
+/// Returns where the bytes of the entries of one item end, which begin at `start`, and the bytes behind the
+/// item. Returns `None` if there is no item at the start of `bytes`.
 ///
 /// # Errors
 ///
-/// `Memory`.
+/// `Memory` alone.
 fn pass_item(alloc: Global, bytes: &[u8], start: u32) -> Result<Option<(u32, &[u8])>>
     ensures ok { IfOk result (λ passed. MatchOption passed (HasNoFront (IsItem start) bytes.now)
         (λ item. ItemPasses start bytes.now item.1.now item.0)) }
@@ -106,11 +110,11 @@ fn pass_item(alloc: Global, bytes: &[u8], start: u32) -> Result<Option<(u32, &[u
     }
 }
 
-/// Does what [`pass_item`] does, of what follows the region.
+/// Does what [`pass_item`] does, if `bytes` begin behind an item's region id.
 ///
 /// # Errors
 ///
-/// `Memory`.
+/// `Memory` alone.
 fn pass_content(alloc: Global, bytes: &[u8], start: u32) -> Result<Option<(u32, &[u8])>>
     ensures ok { IfOk result (λ passed. MatchOption passed (HasNoFront (IsContent start) bytes.now)
         (λ content. ContentPasses start bytes.now content.1.now content.0)) }
@@ -133,7 +137,7 @@ fn pass_content(alloc: Global, bytes: &[u8], start: u32) -> Result<Option<(u32, 
     }
 }
 
-/// Returns what follows the command in front; nothing where none stands there.
+/// Returns the bytes behind a command, or `None` if there is none at the start of `bytes`.
 fn pass_command(alloc: Global, bytes: &[u8]) -> Option<&[u8]>
     ensures { MatchOption result (HasNoFront IsCommand bytes.now)
         (λ rest. Passes IsCommand bytes.now rest.now) }
@@ -145,11 +149,11 @@ fn pass_command(alloc: Global, bytes: &[u8]) -> Option<&[u8]>
     }
 }
 
-/// Returns what follows the change of a key in front; nothing where none stands there.
+/// Returns the bytes behind a change of a key, or `None` if there is none at the start of `bytes`.
 ///
 /// # Errors
 ///
-/// `Memory`.
+/// `Memory` alone.
 fn pass_change(alloc: Global, bytes: &[u8]) -> Result<Option<&[u8]>>
     ensures ok { IfOk result (λ passed. MatchOption passed (HasNoFront IsKeyValue bytes.now)
         (λ rest. Passes IsKeyValue bytes.now rest.now)) }
@@ -163,7 +167,8 @@ fn pass_change(alloc: Global, bytes: &[u8]) -> Result<Option<&[u8]>>
     }
 }
 
-/// Returns the end of the bytes of the entries in front, and what follows them; nothing where none stand there.
+/// Returns where the bytes of the entries of an item end, which begin at `start`, and the bytes behind these
+/// entries. Returns `None` if there are none at the start of `bytes`.
 fn pass_entries(bytes: &[u8], start: u32) -> Option<(u32, &[u8])>
     ensures { MatchOption result (HasNoFront (IsEntries start) bytes.now)
         (λ entries. EntriesPass start bytes.now entries.1.now entries.0) }
@@ -176,7 +181,9 @@ fn pass_entries(bytes: &[u8], start: u32) -> Option<(u32, &[u8])>
     pass_tails(tails, count, first, start)
 }
 
-/// Returns the last one of that many tail offsets, and what follows it; nothing where they don't stand there.
+/// Returns the last one of `count` tail offsets of entries, whose indexes rise from `first` on and whose
+/// bytes begin at `start`, and the bytes behind them. Returns `None` if there aren't as many at the start of
+/// `bytes`.
 fn pass_tails(bytes: &[u8], count: u64, first: u64, start: u32) -> Option<(u32, &[u8])>
     ensures { MatchOption result (HasNoFront (AreTails count (first, start)) bytes.now)
         (λ tails. TailsPass count (first, start) bytes.now tails.1.now tails.0) }
@@ -193,7 +200,9 @@ fn pass_tails(bytes: &[u8], count: u64, first: u64, start: u32) -> Option<(u32, 
     Some((offset, rest))
 }
 
-/// Returns the tail offset of an entry, and what follows it; nothing where none stands there.
+/// Returns the tail offset of the entry `index`, whose bytes begin at `offset`, and the bytes behind it.
+/// Returns `None` if there is none at the start of `bytes`, it is below `offset` or above 2^32 - 1, or the
+/// index is 2^64 - 1.
 fn pass_tail(bytes: &[u8], index: u64, offset: u32) -> Option<(u32, &[u8])>
     ensures tail { MatchOption result (HasNoFront (IsTail (index, offset)) bytes.now) (λ tail.
         Reads (IsTail (index, offset)) bytes.now tail.1.now (entry_between index offset tail.0)) }
@@ -210,7 +219,8 @@ fn pass_tail(bytes: &[u8], index: u64, offset: u32) -> Option<(u32, &[u8])>
     Some((tail as u32, rest))
 }
 
-/// Returns the number in front, and what follows it; nothing where none stands there.
+/// Returns the number in base 128 at the start of `bytes`, and the bytes behind it, or `None` if there is
+/// none.
 #[inline(always)]
 fn number_in(bytes: &[u8]) -> Option<(u64, &[u8])>
     ensures { MatchOption result (HasNoFront IsVarint bytes.now)

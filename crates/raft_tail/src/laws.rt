@@ -8,9 +8,10 @@ ghost use Rattle.raft_records.specs.LogBatch.{IsBatchOf, IsLaidOut, encoded_leng
 ghost use Rattle.raft_records.specs.Range.{AreInRange};
 ghost use Rattle.raft_tail.specs.Tails.{AreWhole, IsBroken};
 
-/// States that a proper prefix of the bytes of a written batch is broken off, whatever its entries, keys and values hold, and
-/// so is that of every readable batch that has nothing between its items and their checksum; that a prefix of bytes that are
-/// broken off is so too; and that bytes aren't broken off where whole items stand as a header says, whatever length it gives.
+/// States what is broken off. A proper prefix of the bytes of a written batch is, whatever its entries, keys
+/// and values are; so is that of every readable batch that has nothing between its items and their checksum.
+/// A prefix of bytes that are broken off is so too. Bytes aren't broken off if there are whole items where a
+/// header says, whatever length it gives.
 #[tactic(auto, using(crate::proofs::BrokenLemmas::less_broken))]
 pub fn parts_of_batches_are_broken_off()
     ensures written { (bytes part rest : List ℕ) (signature other : Option ℕ) (items : List Item) (entry_bytes : List ℕ)

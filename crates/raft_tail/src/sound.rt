@@ -8,14 +8,15 @@ use crate::header::header_in;
 use raft_base::{Error, Result};
 use raft_records::{FilePart, next_batch};
 
-/// Returns the first byte from `from` on at which a batch stands that is readable in the part's file.
+/// Returns the first position from `from` on at which there is a batch that can be read in the part's file,
+/// or `None` if there is none.
 ///
-/// Each byte costs a look at the 16 bytes there; where these can be a header of a batch that ends within the part, its
-/// items are read.
+/// Each position costs a look at the 16 bytes there. If these can be the header of a batch that ends within
+/// the part, its items are read.
 ///
 /// # Errors
 ///
-/// `Memory`.
+/// `Memory` alone.
 pub fn next_sound(part: &FilePart, from: usize) -> Result<Option<usize>>
     ensures ok { IfOk result (IsNextSound part.now from) }
     ensures memory { IfErr result (λ e. e ≡ Error.Memory) }
@@ -28,11 +29,12 @@ pub fn next_sound(part: &FilePart, from: usize) -> Result<Option<usize>>
     Ok(None)
 }
 
-/// Tests whether a batch stands at a byte that is readable in the part's file.
+/// Tests whether there is a batch at position `at` that can be read in the part's file. Bytes that are no
+/// header are refused at once.
 ///
 /// # Errors
 ///
-/// `Memory`.
+/// `Memory` alone.
 #[inline(always)]
 fn is_sound(part: &FilePart, at: usize) -> Result<bool>
     requires { at < length part.now.bytes }
@@ -46,11 +48,11 @@ fn is_sound(part: &FilePart, at: usize) -> Result<bool>
     }
 }
 
-/// Does what `is_sound` does, by reading the batch.
+/// Does what [`is_sound`] does, by reading the batch at position `at`.
 ///
 /// # Errors
 ///
-/// `Memory`.
+/// `Memory` alone.
 #[inline(never)]
 fn is_readable(part: &FilePart, at: usize) -> Result<bool>
     requires { at < length part.now.bytes }

@@ -11,7 +11,8 @@ use raft_base::{Error, Result};
 use std::alloc::Global;
 use std::marker::Model;
 
-/// The limit that numbers and seats stay below: the word never passes twice as much, so it can't wrap.
+/// The limit that numbers and seats stay below, so that the counter, which never passes twice as much, can't
+/// wrap.
 const LIMIT: usize = 1 << 62;
 
 /// The numbers from 0 on, each to be drawn once, by some seat. Those below the total are returned.
@@ -36,11 +37,11 @@ impl Model for Tickets {
 }
 
 impl Tickets {
-    /// Returns tickets of the numbers below `total`, and this many seats, which have drawn nothing.
+    /// Returns tickets of the numbers below `total`, and `seats` seats, which have drawn nothing.
     ///
     /// # Errors
     ///
-    /// `InvalidArgument` for no seats, and for 2^62 numbers or seats and more; `Memory`.
+    /// `InvalidArgument` for no seats, and for 2^62 numbers or seats or more; `Memory`.
     pub fn open(alloc: Global, total: usize, seats: usize) -> Result<(Tickets, Vec<TicketSeat>)>
         ensures tickets { IfOk result (λ r. (r.0.total ≡ total) × (r.0.seats ≡ seats)) }
         ensures seats { IfOk result (λ r. (vec_len r.1 ≡ seats) × All (IsNewSeatOf r.0) r.1.items) }
@@ -65,9 +66,9 @@ impl Tickets {
         Ok((tickets, drawers))
     }
 
-    /// Draws the next number by one step on the word, and returns it where it is below the total. Returns
-    /// nothing once all numbers below the total are drawn. A seat that got nothing draws no more, and takes no
-    /// step.
+    /// Draws the next number, by one atomic addition to the counter, and returns it if it is below the total.
+    /// Returns `None` once all numbers below the total are drawn. A seat that got `None` draws no more, and
+    /// leaves the counter alone.
     pub fn draw(&self, seat: &mut TicketSeat) -> Option<usize>
         requires { IsSeatOf self.now seat.old }
         ensures same { IsSeatOf self.now seat.new }
@@ -86,7 +87,8 @@ impl Tickets {
         }
     }
 
-    /// Returns how many numbers were drawn, once all seats are back.
+    /// Returns how many numbers were drawn by all seats; `seats` has all of them, given back. Numbers at or
+    /// above the total, which were drawn in vain, count too.
     pub fn close(self, mut seats: Vec<TicketSeat>) -> usize
         requires { (vec_len seats ≡ self.seats) × All (IsSeatOf self) seats.items }
         ensures { (x : ℕ) → weigh (λ s. occurrences x s.drawn) seats.items ≡ once_below x result }
@@ -109,7 +111,7 @@ impl Tickets {
 ///
 /// # Errors
 ///
-/// `Memory`.
+/// `Memory` alone.
 fn split_seats(
     alloc: Global,
     shared: &Word,
@@ -133,7 +135,7 @@ fn split_seats(
     Ok(seats)
 }
 
-/// Makes the seat of a drawer who has drawn nothing.
+/// Returns a ticket seat over `seat`, of numbers below `total`, which has drawn nothing.
 fn new_seat(seat: Seat<(), Lists>, total: u64) -> TicketSeat
     requires { seat.me ≡ ([] ∷ [], []) }
     ensures { (result.table ≡ seat.table_id) × (result.total ≡ total) × (result.drawn ≡ []) }
@@ -145,7 +147,7 @@ fn new_seat(seat: Seat<(), Lists>, total: u64) -> TicketSeat
     }
 }
 
-/// Joins seats that are back into one, which then has drawn all that they drew.
+/// Joins seats that were given back into `seat`, which then has drawn everything that they drew.
 fn join_seats(shared: &Word, seat: &mut Seat<(), Lists>, mut seats: Vec<TicketSeat>)
     requires word { 0 < shared.now.table_id.words }
     requires seat { seat.old.table_id ≡ shared.now.table_id }
@@ -159,7 +161,7 @@ fn join_seats(shared: &Word, seat: &mut Seat<(), Lists>, mut seats: Vec<TicketSe
     }
 }
 
-/// Joins a seat that is back into another one.
+/// Joins a seat that was given back into `seat`, which then has drawn everything that both drew.
 fn join_seat(shared: &Word, seat: &mut Seat<(), Lists>, other: TicketSeat)
     requires word { 0 < shared.now.table_id.words }
     requires seat { seat.old.table_id ≡ shared.now.table_id }

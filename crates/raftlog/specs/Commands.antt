@@ -9,8 +9,14 @@ use Rattle.raft_reading.specs.declared.queue_files.FileSize.{FileSize}
 use Rattle.raft_recover.specs.FileRecovery.{AreSizesOf, NamedGives}
 use Rattle.raft_recover.specs.Requests.{NumberedPath}
 use Rattle.raft_recover.specs.TableLines.{PrintsTables}
+use Rattle.raft_records.specs.FilePart.{Part}
+use Rattle.raft_listing.specs.Dumped.{IsMetText}
+use Rattle.raft_listing.specs.Walks.{Met}
 use Rattle.raft_listing.specs.declared.selection.Selection.{Selection}
+use Rattle.raft_report.specs.JsonItems.{IsMetJson}
+use Rattle.raft_report.specs.JsonLines.{IsJsonOfTables}
 use Rattle.raft_report.specs.declared.form.Form.{Form}
+use Rattle.raft_report.specs.declared.form.Form.TheVariants.{Text, Json}
 use Rattle.raft_survey.specs.DumpedFiles.{AreDumped}
 use Rattle.raft_inspect.specs.Checked.{IsChecked}
 use Rattle.raft_inspect.specs.Openings.{AreTablesOf, HoldsOfRead}
@@ -42,17 +48,33 @@ pub record AreFilesChecked (Gives : List ℕ → ℕ → List ℕ → Type 0) (s
   pub checked : IsChecked (λ file. NamedGives Gives (of_queue file.queue append rewrite) file) (λ file offset e. Unit {0}) version workers append_sizes rewrite_sizes found
   pub verdict : (status ≡ 0) ↔ (verdict_word found ≡ codes "sound")
 
--- what stands in files of these sizes was dumped to lines, as text, and all of these are in the output
-pub record IsDumpDone (Gives : FileId → ℕ → List ℕ → Type 0) (version : Version) (append rewrite : List FileSize) (selection : Selection) (before after : Option (List ℕ)) (is_damaged : Bool) : Type 0 where
+-- this text says, in a form, what is met at a byte of a part, as far as it is selected
+abbrev pub IsSaidIn : Form → Selection → Part → ℕ → Met → List ℕ → Type 0
+IsSaidIn Text = IsMetText
+IsSaidIn Json = IsMetJson
+
+-- what stands in files of these sizes was dumped to lines in a form, and all of these are in the output
+pub record IsDumpDone (form : Form) (Gives : FileId → ℕ → List ℕ → Type 0) (version : Version) (append rewrite : List FileSize) (selection : Selection) (before after : Option (List ℕ)) (is_damaged : Bool) : Type 0 where
   pub lines : Option (List ℕ)
-  pub dumped : AreDumped Gives version append rewrite selection before lines is_damaged
+  pub dumped : AreDumped (IsSaidIn form) Gives version append rewrite selection before lines is_damaged
   pub whole : Keeps lines after
 
+-- the lines of JSON of tables were written after the old bytes, where those are known
+pub record PrintsTablesAsJson (accessor : Accessor) (old new : Option (List ℕ)) : Type 0 where
+  pub text : List ℕ
+  pub of_tables : IsJsonOfTables accessor text
+  pub written : Appends old new text
+
+-- tables were written, as text or as JSON, and nothing else
+abbrev pub PrintsTablesIn : Form → Accessor → Option (List ℕ) → Option (List ℕ) → Type 0
+PrintsTablesIn Text = PrintsTables
+PrintsTablesIn Json = PrintsTablesAsJson
+
 -- tables that an engine would have of files of these sizes were written, and nothing else
-pub record AreRegionsPrinted (Gives : FileId → ℕ → List ℕ → Type 0) (version : Version) (append rewrite : List FileSize) (before after : Option (List ℕ)) : Type 0 where
+pub record AreRegionsPrinted (form : Form) (Gives : FileId → ℕ → List ℕ → Type 0) (version : Version) (append rewrite : List FileSize) (before after : Option (List ℕ)) : Type 0 where
   pub tables : Accessor
   pub read : HoldsOfRead Gives append rewrite (AreTablesOf version tables)
-  pub written : PrintsTables tables before after
+  pub written : PrintsTablesIn form tables before after
 
 -- files are opened, and not refused
 abbrev pub IsOpened : Opening → Type 0

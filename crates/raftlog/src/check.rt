@@ -18,7 +18,7 @@ use raft_survey::BothSizes;
 use std::io::Write;
 use std::thread::Threads;
 
-/// Says what can't be read, and what an opening would do.
+/// Prints what can't be read of the files that words name, and what an opening would do. Returns the status.
 ///
 /// # Errors
 ///
@@ -46,7 +46,11 @@ pub(crate) fn check<'a, R: Host, W: Write>(
     checked
 }
 
-/// Says what can't be read of found files, and what an opening would do with them.
+/// Prints what can't be read of found files, and what an opening would do with them. Returns the status.
+///
+/// # Errors
+///
+/// Those of the files and of the output, `Memory`.
 fn check_files<R: Threads + Sync + AllocGlobal, S: ReadFiles, W: Write>(
     rt: &R,
     source: &S,
@@ -64,7 +68,7 @@ fn check_files<R: Threads + Sync + AllocGlobal, S: ReadFiles, W: Write>(
     Ok(status_of(&findings))
 }
 
-/// Returns the status of a check: no files are nothing that is sound.
+/// Returns the status of a check: [`DONE`] where its verdict is `sound`, else [`WRONG`].
 fn status_of(findings: &Findings) -> u8
     ensures { (result ≡ 0) ↔ (verdict_word findings.now ≡ codes "sound") }
 {

@@ -9,64 +9,94 @@ const VERSION: &str = "0.1.0";
 
 /// What `--help` says behind the commands.
 const AFTER_HELP: &str = "\
-To see what is wrong with a folder: raftlog check FOLDER. To see which entries stand where: raftlog dump FOLDER.
-Only cut --yes changes log files (see its help). Beside it files --svg alone writes a file, which has to be a new one.
-A queue is append (new batches) or rewrite (records that were moved). Offsets are bytes from the beginning of a file.
+To see what is wrong with a folder: raftlog check FOLDER
+To see which entries stand where: raftlog dump FOLDER
 
-Status: 0 it is done; of check and dump also: nothing is wrong with what was looked at; of regions, files and cut also: an engine can be opened over the
-files, though it may cut off a torn end first. 1 check or dump found that something is wrong (check also: there are no files), or a line on standard error
-says why it isn't done. 2 the words ask for nothing that can be done.";
+A queue is append (new batches) or rewrite (records that were moved). Offsets are bytes from the
+beginning of a file. Only cut --yes changes log files (see its help). Beside it files --svg alone
+writes a file, which has to be a new one.
+
+Status:
+  0  it is done; of check and dump also: nothing is wrong with what was looked at; of regions, files
+     and cut also: an engine can be opened over the files, though it may cut off a torn end first
+  1  check or dump found that something is wrong (check also: there are no files), or a line on
+     standard error says why it isn't done
+  2  the words ask for nothing that can be done";
 
 /// What `check --help` says behind the options.
 const CHECK_HELP: &str = "\
-Below the line of a file stands one for each place in it where something can't be read: entries that are lost, by region and first and last
-index, or why no batch can be read there. Of such a batch nothing else is known, neither its entries, nor its keys, nor what it
-deletes: to see which entries it had, list those of a region before and behind it (raftlog dump --region REGION). Behind such a place the reading goes on
-only where the header there is whole and says where the next batch begins; else no byte up to the end of the file is looked at, as a line says then, and the batches
-there may be whole. Many such places in one file may mean that it has another number than it was written with, or another --format.
-Then comes what an engine would do that is opened over the files: refuse them, or open them, and cut off the end of a queue's last
-file first, as a crash leaves one. Where it refuses a batch that can be read, since it can't follow those before it, some of these are gone: look at the end
-of the file before.
+Below the line of a file comes one for each place in it where something can't be read:
+  - entries that are lost, by region, first and last index. The rest of their batch can be read:
+    raftlog dump --region REGION --values shows it.
+  - a byte at which no batch can be read, and why. Nothing else is known of such a batch, neither
+    its entries, nor its keys, nor what it deletes. Which entries it had show those before and
+    behind it: raftlog dump has its line between theirs, and with --region REGION between those of
+    one region.
+  - bytes at the end of the file that weren't searched for batches. Behind a byte without a batch
+    the reading goes on only where a whole header says where the next batch begins. Batches that
+    stand in the bytes from there on may be whole.
+Many such places in one file may mean that it has another number than it was written with, or
+another --format.
 
-The last line is `sound` (status 0); or, with status 1, `damaged`, also where all that is wrong is an end that would be cut off; or `empty`, where there are
-no files.
+Then comes what an engine would do that is opened over the files: refuse them, or open them, and
+cut off the end of a queue's last file first, as a crash leaves one. Where it refuses a batch that
+can be read, since it can't follow those before it, some of these are gone: look at the end of the
+file before.
 
-What can't be seen, so that `sound` is said: that files are gone in front of a queue's first or behind its last one, or all of a queue's; that a file
-was renamed to the other queue's name, where its records can be read there; that a file is empty, or was cut where a batch ends, unless an entry behind
-it can't follow then. So all files may be empty, or the last batches of any file gone that have no entries. Of files named one by one what
-isn't named isn't looked for.
+The last line is
+  sound    with status 0;
+  damaged  with status 1, also where all that is wrong is an end that would be cut off;
+  empty    with status 1, where there are no files.
 
-Files are read in pieces: besides the tables some MiB for each worker are in memory, and what stands in a queue's last file behind the first batch that can't be
-read.";
+What can't be seen, so that sound is said: that files are gone in front of a queue's first or behind
+its last one, or all of a queue's; that a file was renamed to the other queue's name, where its
+records can be read there; that a file is empty, or was cut where a batch ends, unless an entry
+behind it can't follow then. So all files may be empty, or the last batches of any file gone that
+have no entries. Of files named one by one what isn't named isn't looked for.
+
+Files are read in pieces: besides the tables some MiB for each worker are in memory, and what stands
+in a queue's last file behind the first batch that can't be read.";
 
 /// What `regions --help` says behind the options.
 const REGIONS_HELP: &str = "\
-A line is `7 entries 3..7 keys 1 append 2 rewrite -`: region 7 has the entries with the indexes 3 to 6 and one key, and its oldest record stands in append file 2;
-it has none in a rewrite file. `cleaned 4 9` are regions whose records are gone (`cleaned -`: none are). `live 50 0` counts the records that are still needed:
-50 of the append queue and none of the rewrite queue.";
+7 entries 3..7 keys 1 append 2 rewrite -
+  Region 7 has the entries with the indexes 3 to 6 and one key, and its oldest record stands in
+  append file 2; it has none in a rewrite file.
+cleaned 4 9
+  The records of these regions are gone (`cleaned -`: of none).
+live 50 0
+  So many records are still needed: 50 of the append queue and none of the rewrite queue.";
 
 /// What `dump --help` says behind the options.
 const DUMP_HELP: &str = "\
-`entries 3..7` are those with the indexes 3 to 6. --from and --to select among entries alone, and other items are printed as without them. Values and entries
-are printed in quotes where all is printable ASCII and no quote, else as 0x and hex digits.
-Numbers of files that are missing, bytes at which no batch can be read, and with --values entries that can't be, have a line of their own, and the status is
-then 1. So it is where nothing is printed of a --region.";
+`entries 3..7` are those with the indexes 3 to 6. --from and --to select among entries alone, and
+other items are printed as without them. Values and entries are printed in quotes where all is
+printable ASCII and no quote, else as 0x and hex digits.
+
+Numbers of files that are missing, bytes at which no batch can be read, and with --values entries
+that can't be, have a line of their own, and the status is then 1. So it is where nothing is printed
+of a --region.";
 
 /// What `files --help` says behind the options.
 const FILES_HELP: &str = "\
-Of each file: its bytes, how much of it are bytes of entries that are live (items, keys, values and headers aren't counted), and the regions
-whose oldest file it is. A file can go once it is the oldest one of no region, and no older one is left.
-The picture of --svg is written to a file that isn't there yet; one that is there stays as it is, and the status is 1.";
+Of each file: its bytes, how much of it are bytes of entries that are live (items, keys, values and
+headers aren't counted), and the regions whose oldest file it is. A file can go once it is the
+oldest one of no region, and no older one is left.
+
+The picture of --svg is written to a file that isn't there yet; one that is there stays as it is,
+and the status is 1.";
 
 /// What `cut --help` says behind the options.
 const CUT_HELP: &str = "\
-What is cut off from a file is kept beside it, as NUMBER.raftlog.OFFSET.cut or NUMBER.rewrite.OFFSET.cut, and where one is there, with other bytes, as
-NUMBER.raftlog.OFFSET.2.cut. An engine that is opened over the folder does the same. --yes makes a file LOCK in the folder, and leaves it there. Status 1: the files
-are refused, and nothing is cut, or it isn't done.";
+What is cut off from a file is kept beside it, as NUMBER.raftlog.OFFSET.cut or
+NUMBER.rewrite.OFFSET.cut, and where one is there, with other bytes, as NUMBER.raftlog.OFFSET.2.cut.
+An engine that is opened over the folder does the same. --yes makes a file LOCK in the folder, and
+leaves it there. Status 1: the files are refused, and nothing is cut, or it isn't done.";
 
 /// What `recover --help` says behind the options.
 const RECOVER_HELP: &str = "\
-Files that are refused are refused in a word. Which file it is, where in it and why, and both queues together: raftlog check (or regions) --append SEQ=PATH ..
+Files that are refused are refused in a word. Which file it is, where in it and why, and both queues
+together: raftlog check (or regions) --append SEQ=PATH ..
 Status: 0 the lines are printed; 1 it is refused; 2 the words aren't these.";
 
 /// What `batch --help` says behind the options.
@@ -243,7 +273,7 @@ const FILES_WORD: Word = Word {
     help: "The number of a file and its path; files are given by rising numbers",
 };
 
-/// The commands, in the order of the help. The words of the last two are read elsewhere: these are for their help alone.
+/// The commands, in the order of the help. `recover` and `batch` are here for their help alone: their words are read elsewhere.
 const COMMANDS: [CommandWords; 7] = [
     CommandWords {
         name: "check",
@@ -295,7 +325,7 @@ const COMMANDS: [CommandWords; 7] = [
     },
 ];
 
-/// Makes the parser of the words.
+/// Returns the parser of the words.
 ///
 /// # Errors
 ///
@@ -315,7 +345,11 @@ pub(crate) fn command_line<'a>(alloc: Global) -> AllocResult<Command<'a>> {
     Ok(command)
 }
 
-/// Makes the parser of a command.
+/// Returns the parser of the command that `words` describes: its name, its help, and its arguments in order.
+///
+/// # Errors
+///
+/// `AllocError`, if there is no memory for it.
 fn command_of<'a>(alloc: Global, words: &CommandWords) -> AllocResult<Command<'a>> {
     let mut command = Command::new(alloc, words.name)
         .about(words.about)
@@ -326,7 +360,7 @@ fn command_of<'a>(alloc: Global, words: &CommandWords) -> AllocResult<Command<'a
     Ok(command)
 }
 
-/// Makes the parser of a word.
+/// Returns the parser of a word.
 fn arg_of<'a>(alloc: Global, word: &Word) -> Arg<'a> {
     let arg = Arg::new(alloc, word.name).help(word.help);
     match word.kind {

@@ -6,7 +6,7 @@ ghost use Rattle.raftlog.specs.Commands.{IsOpened};
 use crate::errors::{ToolError, ToolResult};
 use crate::host::Host;
 use crate::options::{form_of, version_of, workers_of};
-use crate::source::{Found, in_folder, in_open_folder, refuse_file};
+use crate::source::{Found, files_in_folder, files_in_open_folder, refuse_file};
 use crate::streams::hold_streams;
 use crate::tools::{DONE, WRONG};
 use clap::ArgMatches;
@@ -15,12 +15,12 @@ use raft_inspect::{Opening, cut_as_opened, print_opening, try_opening};
 use raft_report::{Form, append_json_kept, write_text};
 use std::io::Write;
 
-/// Cuts off what an opening would cut off, or says what that is.
+/// Cuts off what an opening would cut off, or prints what that is. Returns the status.
 ///
 /// # Errors
 ///
-/// `Misused` where the words say neither which of both, or both; those of the folder and of the output; `Memory`. What was cut off
-/// by then is said.
+/// `Misused` where the words have neither `--dry-run` nor `--yes`, or both; those of the folder and of the output; `Memory`. What was cut
+/// off by then is printed.
 pub(crate) fn cut<'a, R: Host, W: Write>(
     rt: &'a R,
     words: &ArgMatches<'a>,
@@ -30,7 +30,7 @@ pub(crate) fn cut<'a, R: Host, W: Write>(
         return Err(ToolError::Misused("name a folder"));
     };
     match (words.get_flag("dry-run"), words.get_flag("yes")) {
-        (true, false) => say_cut(rt, words, path, out),
+        (true, false) => print_cut(rt, words, path, out),
         (false, true) => cut_folder(rt, words, path, out),
         (true, true) => Err(ToolError::Misused("say --dry-run or --yes, and not both")),
         (false, false) => Err(ToolError::Misused(
@@ -39,14 +39,18 @@ pub(crate) fn cut<'a, R: Host, W: Write>(
     }
 }
 
-/// Says what would be cut off.
-fn say_cut<'a, R: Host, W: Write>(
+/// Prints what an opening would cut off. Returns the status.
+///
+/// # Errors
+///
+/// Those of the folder and of the output, `Memory`.
+fn print_cut<'a, R: Host, W: Write>(
     rt: &'a R,
     words: &ArgMatches<'a>,
     path: &'a str,
     out: &mut W,
 ) -> ToolResult<u8> {
-    let found = in_folder(rt, path, 1)?;
+    let found = files_in_folder(rt, path, 1)?;
     let (version, workers, alloc) = (version_of(words), workers_of(rt, words), rt.alloc());
     let (source, sizes) = (&found.source, &found.sizes);
     let opening = try_opening(rt, alloc, source, version, sizes, workers);
@@ -56,7 +60,11 @@ fn say_cut<'a, R: Host, W: Write>(
     Ok(status_of(&opening))
 }
 
-/// Cuts off what an opening would, and says where it is kept. A folder that isn't there is refused, and not made.
+/// Cuts off what an opening would, and prints where it is kept. A folder that isn't there is refused, and not made. Returns the status.
+///
+/// # Errors
+///
+/// Those of the folder and of the output, `Memory`.
 fn cut_folder<R: Host, W: Write>(
     rt: &R,
     words: &ArgMatches<'_>,
@@ -64,15 +72,19 @@ fn cut_folder<R: Host, W: Write>(
     out: &mut W,
 ) -> ToolResult<u8> {
     let _streams = hold_streams(rt)?;
-    be_there(rt, path)?;
+    refuse_missing_folder(rt, path)?;
     let mut files = FolderFiles::open_unread(rt, path)?;
-    let found = in_open_folder(rt, &files)?;
+    let found = files_in_open_folder(rt, &files)?;
     let cut = cut_files(rt, words, &found, &mut files, out);
     print_kept(rt, form_of(words), &files, out)?;
     Ok(status_of(&cut?))
 }
 
-/// Cuts off files of a folder what an opening would, and ends the bar.
+/// Cuts off from files of a folder what an opening would, and takes the bar away. Returns what the opening would do.
+///
+/// # Errors
+///
+/// Those of [`cut_as_opened`].
 fn cut_files<R: Host, W: Write>(
     rt: &R,
     words: &ArgMatches<'_>,
@@ -90,7 +102,7 @@ fn cut_files<R: Host, W: Write>(
     Ok(cut?)
 }
 
-/// Returns the status for what an opening does.
+/// Returns the status for what an opening does: [`DONE`] where it accepts the files, else [`WRONG`].
 fn status_of(opening: &Opening) -> u8
     ensures { (result ≡ 0) ↔ IsOpened opening.now }
 {
@@ -101,13 +113,21 @@ fn status_of(opening: &Opening) -> u8
 }
 
 /// Refuses a folder that isn't there: who opens one to write to it makes it.
-fn be_there<R: Host>(rt: &R, path: &str) -> ToolResult<()> {
+///
+/// # Errors
+///
+/// `NoFolder` where a file stands at the path; those of [`ReadFolder`].
+fn refuse_missing_folder<R: Host>(rt: &R, path: &str) -> ToolResult<()> {
     refuse_file(rt, path)?;
     let _folder = ReadFolder::open(rt, path)?;
     Ok(())
 }
 
-/// Prints what was cut off, and which files keep it.
+/// Prints how many bytes were cut off, and which files keep them.
+///
+/// # Errors
+///
+/// `Output` where the output takes no more, `Memory`.
 fn print_kept<R: Host, W: Write>(
     rt: &R,
     form: Form,

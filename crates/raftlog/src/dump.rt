@@ -1,8 +1,8 @@
 //! `raftlog dump`.
 
-ghost use Rattle.std.specs.Prelude.{◌≡◌, IfOk};
+ghost use Rattle.std.specs.Prelude.{IfOk};
 ghost use Rattle.raft_survey.specs.DumpedFiles.{AreDumped};
-ghost use Rattle.raftlog.specs.Commands.{IsDumpDone};
+ghost use Rattle.raftlog.specs.Commands.{IsDumpDone, IsSaidIn};
 
 use crate::errors::{ToolError, ToolResult};
 use crate::host::Host;
@@ -13,19 +13,19 @@ use crate::source::{Found, find_files};
 use crate::tools::{DONE, WRONG};
 use clap::ArgMatches;
 use raft_base::{AllocResult, LogQueue, Result, Version};
-use raft_listing::Selection;
+use raft_listing::{Selection, TextDump};
 use raft_reading::ReadFiles;
 use raft_report::{Form, JsonDump, append_json_missing_files, write_text};
 use raft_survey::{BothSizes, append_missing_files, print_dump, walk_files};
 use std::alloc::Global;
 use std::io::Write;
 
-/// Prints which files are missing, and the batches of the others, item by item.
+/// Prints which files are missing, and the batches of the others, item by item. Returns the status.
 ///
 /// # Errors
 ///
-/// `Misused` where no index is from the one on and below the other; `NothingOf` where nothing is printed of a region that is asked for; those of
-/// the files and of the output, `Memory`.
+/// `Misused` where no index is at or above that of `--from` and below that of `--to`; `NothingOf` where nothing is printed of the region of
+/// `--region`; those of the files and of the output, `Memory`.
 pub(crate) fn dump<'a, R: Host, W: Write>(
     rt: &'a R,
     words: &ArgMatches<'a>,
@@ -35,7 +35,7 @@ pub(crate) fn dump<'a, R: Host, W: Write>(
     let times = if selection.values { 2 } else { 1 };
     let found = find_files(rt, words, times)?;
     let has_missing = print_missing(rt.alloc(), &found.sizes, form_of(words), out)?;
-    let dumped = dump_found(rt, words, &found, selection, out);
+    let dumped = dump_selected(rt, words, &found, selection, out);
     found.source.end_progress();
     Ok(if dumped? || has_missing { WRONG } else { DONE })
 }
@@ -44,7 +44,7 @@ pub(crate) fn dump<'a, R: Host, W: Write>(
 ///
 /// # Errors
 ///
-/// `Misused` where they select no index.
+/// `Misused` where they select no index at all.
 fn selection_of(words: &ArgMatches<'_>) -> ToolResult<Selection> {
     let selection = Selection {
         region: words.get_one::<u64>("region"),
@@ -53,12 +53,16 @@ fn selection_of(words: &ArgMatches<'_>) -> ToolResult<Selection> {
         values: words.get_flag("values"),
     };
     if selection.from >= selection.to {
-        return Err(ToolError::Misused("no index is --from the one on and below --to"));
+        return Err(ToolError::Misused("no index is at or above --from and below --to"));
     }
     Ok(selection)
 }
 
-/// Prints a line for the files that are missing between each two, of both queues. Returns whether there are such.
+/// Prints a line for each gap between the numbers of a queue's files, of both queues. Returns whether there is one.
+///
+/// # Errors
+///
+/// `Output` where the output takes no more, `Memory`.
 fn print_missing<W: Write>(
     alloc: Global,
     sizes: &BothSizes,
@@ -72,7 +76,11 @@ fn print_missing<W: Write>(
     Ok(!text.is_empty())
 }
 
-/// Appends a line for the files of a queue that are missing between each two.
+/// Appends a line for each gap between the numbers of a queue's files, as text or as JSON.
+///
+/// # Errors
+///
+/// Want of memory. A part may then be appended.
 fn append_missing(
     form: Form,
     queue: LogQueue,
@@ -90,9 +98,9 @@ fn append_missing(
 ///
 /// # Errors
 ///
-/// `NothingOf` where a region is selected that no batch names; those of the files and of the output; want of memory. Lines may be
-/// printed by then.
-fn dump_found<R: Host, W: Write>(
+/// `NothingOf` where nothing is printed of the selected region; those of the files and of the output; `Memory`. Lines may be printed by
+/// then.
+fn dump_selected<R: Host, W: Write>(
     rt: &R,
     words: &ArgMatches<'_>,
     found: &Found<'_, R>,
@@ -130,7 +138,7 @@ struct Dumped {
     is_damaged: bool,
 }
 
-/// Prints what stands in the files of both queues, many lines at once. Returns the output again.
+/// Prints what stands in the files of both queues, many lines at once. Returns the output again, and what was dumped.
 ///
 /// # Errors
 ///
@@ -144,7 +152,7 @@ fn dump_files<S: ReadFiles, W: Write + Drop>(
     form: Form,
     out: W,
 ) -> ToolResult<(W, Dumped)>
-    ensures { form ≡ Form.Text → IfOk result (λ dumped. IsDumpDone (S.gives source.now) version sizes.now.append.items
+    ensures { IfOk result (λ dumped. IsDumpDone form (S.gives source.now) version sizes.now.append.items
         sizes.now.rewrite.items selection (W.contents out) (W.contents dumped.0) dumped.1.is_damaged) }
 {
     let lines = Lines::new(alloc, out)?;
@@ -160,7 +168,8 @@ fn dump_files<S: ReadFiles, W: Write + Drop>(
     ))
 }
 
-/// Prints what stands in the files of both queues. Returns where it was printed, and whether some batch couldn't be read.
+/// Prints what stands in the files of both queues in a form. Returns the output again, and whether some batch couldn't be read, or the
+/// error of [`print_dump`].
 fn print_batches<S: ReadFiles, W: Write + Drop>(
     alloc: Global,
     source: &S,
@@ -170,33 +179,11 @@ fn print_batches<S: ReadFiles, W: Write + Drop>(
     form: Form,
     lines: W,
 ) -> (W, Result<bool>)
-    ensures { form ≡ Form.Text → IfOk result.1 (λ is_damaged. AreDumped (S.gives source.now) version sizes.now.append.items
+    ensures { IfOk result.1 (λ is_damaged. AreDumped (IsSaidIn form) (S.gives source.now) version sizes.now.append.items
         sizes.now.rewrite.items selection (W.contents lines) (W.contents result.0) is_damaged) }
 {
     match form {
-        Form::Text => print_dump(alloc, source, version, sizes, selection, lines),
-        Form::Json => print_json(alloc, source, version, sizes, selection, lines),
-    }
-}
-
-/// Prints what stands in the files of both queues as lines of JSON. Returns where it was printed, and whether some batch couldn't be read.
-fn print_json<S: ReadFiles, W: Write + Drop>(
-    alloc: Global,
-    source: &S,
-    version: Version,
-    sizes: &BothSizes,
-    selection: Selection,
-    lines: W,
-) -> (W, Result<bool>) {
-    let mut dump = JsonDump::new(selection, lines);
-    let walked = walk_files(alloc, source, version, sizes, &mut dump);
-    let JsonDump {
-        writer,
-        is_damaged,
-        ..
-    } = dump;
-    match walked {
-        Ok(()) => (writer, Ok(is_damaged)),
-        Err(error) => (writer, Err(error)),
+        Form::Text => print_dump(alloc, source, version, sizes, TextDump, selection, lines),
+        Form::Json => print_dump(alloc, source, version, sizes, JsonDump, selection, lines),
     }
 }

@@ -26,7 +26,7 @@ struct BothUses {
     rewrite: FileUses,
 }
 
-/// Prints how much of each file is live, and which regions hold it.
+/// Prints how much of each file is live, and which regions hold it. Returns the status.
 ///
 /// # Errors
 ///
@@ -47,6 +47,10 @@ pub(crate) fn print_files<'a, R: Host, W: Write>(
 }
 
 /// Returns what tables need of the files of both queues.
+///
+/// # Errors
+///
+/// `Memory`.
 fn uses_of_both(alloc: Global, tables: &MemTableAccessor) -> ToolResult<BothUses> {
     let append = uses_of(alloc, tables, LogQueue::Append)?;
     let rewrite = uses_of(alloc, tables, LogQueue::Rewrite)?;
@@ -54,6 +58,10 @@ fn uses_of_both(alloc: Global, tables: &MemTableAccessor) -> ToolResult<BothUses
 }
 
 /// Prints a line for each file.
+///
+/// # Errors
+///
+/// `Output` where the output takes no more, `Memory`.
 fn print_uses<W: Write>(
     alloc: Global,
     form: Form,
@@ -76,7 +84,8 @@ fn print_uses<W: Write>(
     Ok(())
 }
 
-/// Draws the files as a picture, which is written to a file that isn't there yet. After an `Err` a prefix of it may be there, if nothing was.
+/// Draws the files as a picture, which is written to a file that isn't there yet. After an `Err` a prefix of the picture may stand in the new
+/// file.
 ///
 /// # Errors
 ///
@@ -96,6 +105,10 @@ fn draw_picture<R: Host>(rt: &R, path: &str, sizes: &BothSizes, uses: &BothUses)
 }
 
 /// Makes a file, and writes text to it.
+///
+/// # Errors
+///
+/// Those of the system; of the kind `AlreadyExists` where a file is at the path, which stays as it is.
 fn write_new<R: Host>(rt: &R, path: &str, text: &str) -> io::Result<()> {
     let mut how = OpenOptions::new();
     how.write(true).create_new(true);

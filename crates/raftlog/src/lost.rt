@@ -11,7 +11,7 @@ use raft_records::{FilePart, LogItem, LogItemContent};
 #[derive(Drop)]
 pub(crate) struct LostEntries {
     selection: Selection,
-    /// Whether the bytes of some can't be read, of those that were looked at.
+    /// Whether the bytes of an entry couldn't be read so far.
     pub(crate) is_any: bool,
 }
 
@@ -24,8 +24,12 @@ impl LostEntries {
         }
     }
 
-    /// Looks at the bytes of those of an item's entries that are selected.
-    fn look_at(
+    /// Looks at the bytes of the selected ones of an item's entries.
+    ///
+    /// # Errors
+    ///
+    /// `Memory`.
+    fn look_at_entries(
         &mut self,
         part: &FilePart,
         entries: &[EntryIndex],
@@ -59,7 +63,7 @@ impl PartVisitor for LostEntries {
         for item in items {
             if let LogItemContent::EntryIndexes(entries) = &item.content {
                 if self.selection.has_item(item) {
-                    self.look_at(part, entries.0.as_slice(), known)?;
+                    self.look_at_entries(part, entries.0.as_slice(), known)?;
                 }
             }
         }

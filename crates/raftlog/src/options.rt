@@ -9,7 +9,7 @@ use raft_recover::MAX_WORKERS;
 use raft_report::Form;
 use std::thread::available_parallelism;
 
-/// Returns the version that words name.
+/// Returns the format version that words name, 2 where they name none.
 pub(crate) fn version_of(words: &ArgMatches<'_>) -> Version {
     match words.get_one::<u64>("format") {
         Some(1) => Version::V1,
@@ -17,7 +17,7 @@ pub(crate) fn version_of(words: &ArgMatches<'_>) -> Version {
     }
 }
 
-/// Returns whether words ask for lines of JSON.
+/// Returns the form that words ask for: JSON where they have `--json`, else text.
 pub(crate) fn form_of(words: &ArgMatches<'_>) -> Form {
     if words.get_flag("json") {
         Form::Json
@@ -26,7 +26,7 @@ pub(crate) fn form_of(words: &ArgMatches<'_>) -> Form {
     }
 }
 
-/// Returns how many threads words name, or how many processors there are: 1 to 256.
+/// Returns how many threads words name, or how many processors there are where they name none: 1 to 256.
 pub(crate) fn workers_of<R: Host>(rt: &R, words: &ArgMatches<'_>) -> usize
     ensures { (0 < result) × (result ≤ 256) }
 {

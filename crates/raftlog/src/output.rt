@@ -49,11 +49,11 @@ impl<W: Write + Drop> Lines<W> {
         !self.is_any
     }
 
-    /// Writes what is kept. Returns the output, and what was made with the lines.
+    /// Writes the lines that are kept. Returns the output, and what `made` has.
     ///
     /// # Errors
     ///
-    /// `Output`, and that of what made the lines. What is kept is written then as far as it can be.
+    /// `Output` where the output takes no more; else the error of `made`, as `Raft`. Lines that are kept are written then as far as they can be.
     pub(crate) fn end<T: Drop>(self, made: Result<T>) -> ToolResult<(W, T)>
         ensures made { IfOk result (λ ended. made ≡ Ok ended.1) }
         ensures whole { IfOk result (λ ended. Keeps (lines_contents W.contents self) (W.contents ended.0)) }
@@ -97,7 +97,7 @@ pub(crate) struct OverBar<'a, R: Screen, W: Write> {
 }
 
 impl<'a, R: Screen, W: Write> OverBar<'a, R, W> {
-    /// Makes an output of one, and of the bar that may stand where it is seen.
+    /// Makes an output of another one, and of the bar that may stand where that is seen.
     pub(crate) fn new(rt: &'a R, progress: &'a Progress, out: &'a mut W) -> OverBar<'a, R, W> {
         OverBar { rt, progress, out }
     }

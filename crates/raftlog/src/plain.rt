@@ -13,8 +13,8 @@ use std::io;
 use std::io::{ErrorKind, Write};
 use std::rt::Files;
 
-/// Tests whether words begin with `recover --plain`.
-pub(crate) fn is_asked(words: &[String]) -> bool
+/// Tests whether the words of a command line begin with `recover --plain`. Words that do are at least two.
+pub(crate) fn begin_plain_recovery(words: &[String]) -> bool
     ensures { IsTrue result → 1 < length words.now }
 {
     let [command, option, ..] = words else {
@@ -74,7 +74,7 @@ fn print_tables<S: Files + AllocGlobal, W: Write>(
     print_files_plainly(rt.alloc(), asked.queue, asked.version, files, out)
 }
 
-/// Says on `err` why a recovery is refused, and returns the status to end with.
+/// Prints on `err` why a recovery is refused. Returns the status to end with.
 fn refuse_recovery<E: Write>(error: &Error, err: &mut E) -> u8
     ensures { result ≡ 1 }
 {

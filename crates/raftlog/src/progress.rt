@@ -4,9 +4,10 @@ use raft_base::AllocResult;
 use std::alloc::Global;
 use std::sync::atomic::{AtomicBool, AtomicU64, Ordering};
 
-/// After how many milliseconds the bar is shown, and how many lie between two showings of it.
+/// After how many milliseconds the bar is shown.
 const FIRST: u64 = 1000;
 
+/// How many milliseconds lie between two showings of the bar.
 const NEXT: u64 = 200;
 
 /// How wide the bar is: with the numbers behind it, it fits into 40 columns.
@@ -30,7 +31,7 @@ pub(crate) struct Progress {
 }
 
 impl Progress {
-    /// Begins a reading of so many bytes. It is `now` so many milliseconds since some moment; without a moment no bar is shown.
+    /// Begins a reading of `total` bytes. `now` is the time in milliseconds; where it is `None` no bar is shown.
     pub(crate) fn new(alloc: Global, now: Option<u64>, total: u64) -> Progress {
         let due = match now {
             Some(now) => now.saturating_add(FIRST),
@@ -45,7 +46,7 @@ impl Progress {
         }
     }
 
-    /// Says that so many bytes more are read. Returns the bar, if it is to be shown now.
+    /// Counts `bytes` as read. Returns the bar, if it is to be shown `now`, which is the time in milliseconds.
     pub(crate) fn add(&self, now: Option<u64>, bytes: u64) -> Option<String> {
         self.done.fetch_add(bytes, Ordering::SeqCst);
         let now = now?;
@@ -57,7 +58,11 @@ impl Progress {
         self.bar().ok()
     }
 
-    /// Returns the bar.
+    /// Returns the text of the bar.
+    ///
+    /// # Errors
+    ///
+    /// Want of memory.
     fn bar(&self) -> AllocResult<String> {
         let done = self.done.load(Ordering::SeqCst).min(self.total);
         let full = match done.saturating_mul(WIDTH).checked_div(self.total) {
@@ -69,7 +74,7 @@ impl Progress {
         Ok(text)
     }
 
-    /// Returns what takes the bar away, if it is shown. It comes again where the reading goes on.
+    /// Returns the text that takes the bar away, `None` where it isn't shown. The bar comes again where the reading goes on.
     pub(crate) fn clear(&self) -> Option<&'static str> {
         if self.is_shown.swap(false, Ordering::SeqCst) {
             Some(CLEAR)
@@ -79,7 +84,7 @@ impl Progress {
     }
 }
 
-/// Appends the bar, filled as far as `full`, and how many bytes of all are read. It is cleared before a line is printed.
+/// Appends the bar, of which `full` columns are filled, and that `done` of `total` bytes are read.
 fn append_bar(full: u64, done: u64, total: u64, text: &mut String) -> AllocResult<()> {
     text.push_str(CLEAR)?;
     text.push('[')?;

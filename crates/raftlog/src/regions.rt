@@ -2,7 +2,7 @@
 
 ghost use Rattle.std.specs.Prelude.{◌≡◌, ◌<◌, ◌≤◌, IfOk, OnOk};
 ghost use Rattle.raft_recover.specs.TableLines.{PrintsTables};
-ghost use Rattle.raftlog.specs.Commands.{AreRegionsPrinted};
+ghost use Rattle.raftlog.specs.Commands.{AreRegionsPrinted, PrintsTablesAsJson, PrintsTablesIn};
 
 use crate::errors::{ToolError, ToolResult};
 use crate::host::Host;
@@ -13,20 +13,18 @@ use clap::ArgMatches;
 use raft_base::{Error, Version};
 use raft_inspect::read_tables;
 use raft_reading::ReadFiles;
-use raft_recover::{MemTable, MemTableAccessor, print_recovered};
-use raft_report::{
-    Form, append_json_region, append_json_totals, append_keys, append_region, write_text,
-};
+use raft_recover::{MemTableAccessor, append_table, print_recovered};
+use raft_report::{Form, append_json_region, append_keys, tables_as_json, write_text};
 use raft_survey::BothSizes;
 use std::alloc::Global;
 use std::io::Write;
 use std::thread::Threads;
 
-/// Prints the tables that an engine would have, or one of them with its keys.
+/// Prints the tables that an engine would have, or one of them with its keys. Returns the status.
 ///
 /// # Errors
 ///
-/// `Misused` where the words ask for values of no region; those of the files, of an opening, and of the output; `Memory`.
+/// `Misused` where the words ask for values and name no region; `NoTable` where the region has no table; those of the files, of an opening, and of the output; `Memory`.
 pub(crate) fn show_regions<'a, R: Host, W: Write>(
     rt: &'a R,
     words: &ArgMatches<'a>,
@@ -41,21 +39,27 @@ pub(crate) fn show_regions<'a, R: Host, W: Write>(
     match region {
         Some(region) => {
             let tables = tables_of(rt, words, &found)?;
-            print_one(rt.alloc(), &tables, region, values, form, out)
-        }
-        None if form == Form::Json => {
-            let tables = tables_of(rt, words, &found)?;
-            print_json(rt.alloc(), &tables, out)
+            print_region(rt.alloc(), &tables, region, values, form, out)
         }
         None => {
             let (version, workers) = (version_of(words), workers_of(rt, words));
             let mut out = found.source.over_bar(out);
-            print_regions(rt, &found.source, version, &found.sizes, workers, &mut out)
+            let printed = print_regions(
+                rt,
+                &found.source,
+                version,
+                &found.sizes,
+                workers,
+                form,
+                &mut out,
+            );
+            found.source.end_progress();
+            printed
         }
     }
 }
 
-/// Reads the tables that an engine would have which is opened over found files, and ends the bar.
+/// Returns the tables of an engine that would be opened over found files, and takes the bar away.
 ///
 /// # Errors
 ///
@@ -72,25 +76,58 @@ pub(crate) fn tables_of<R: Host>(
     Ok(tables?)
 }
 
-/// Prints all tables that an engine would have which is opened over found files.
+/// Prints all tables of an engine that would be opened over found files. Returns the status.
+///
+/// # Errors
+///
+/// Those of the files, of an opening, and of the output; `Memory`.
 fn print_regions<R: Threads + Sync + AllocGlobal, S: ReadFiles, W: Write>(
     rt: &R,
     source: &S,
     version: Version,
     sizes: &BothSizes,
     workers: usize,
+    form: Form,
     out: &mut W,
 ) -> ToolResult<u8>
     requires { (0 < workers) × (workers ≤ 256) }
-    ensures { OnOk result (AreRegionsPrinted (S.gives source.now) version sizes.now.append.items
+    ensures { OnOk result (AreRegionsPrinted form (S.gives source.now) version sizes.now.append.items
         sizes.now.rewrite.items (W.contents out.old) (W.contents out.new)) }
 {
     let tables = read_tables(rt, rt.alloc(), source, version, sizes, workers)?;
-    print_all(rt.alloc(), &tables, out)
+    print_all_regions(rt.alloc(), &tables, form, out)
 }
 
-/// Prints all tables.
-fn print_all<W: Write>(alloc: Global, accessor: &MemTableAccessor, out: &mut W) -> ToolResult<u8>
+/// Prints all tables, as text or as lines of JSON. Returns the status.
+///
+/// # Errors
+///
+/// `Output` where the output takes no more; `Raft` with `Memory`.
+fn print_all_regions<W: Write>(
+    alloc: Global,
+    accessor: &MemTableAccessor,
+    form: Form,
+    out: &mut W,
+) -> ToolResult<u8>
+    ensures done { IfOk result (λ status. status ≡ 0) }
+    ensures printed { OnOk result (PrintsTablesIn form accessor.now (W.contents out.old) (W.contents out.new)) }
+{
+    match form {
+        Form::Text => print_text_regions(alloc, accessor, out),
+        Form::Json => print_json_regions(alloc, accessor, out),
+    }
+}
+
+/// Prints all tables as text. Returns the status.
+///
+/// # Errors
+///
+/// `Output` where the output takes no more; `Raft` with `Memory`.
+fn print_text_regions<W: Write>(
+    alloc: Global,
+    accessor: &MemTableAccessor,
+    out: &mut W,
+) -> ToolResult<u8>
     ensures done { IfOk result (λ status. status ≡ 0) }
     ensures printed { OnOk result (PrintsTables accessor.now (W.contents out.old) (W.contents out.new)) }
 {
@@ -101,12 +138,30 @@ fn print_all<W: Write>(alloc: Global, accessor: &MemTableAccessor, out: &mut W) 
     }
 }
 
-/// Prints one table with its keys.
+/// Prints all tables as lines of JSON. Returns the status.
 ///
 /// # Errors
 ///
-/// `NoTable`, `Output`, `Memory`.
-fn print_one<W: Write>(
+/// `Output` where the output takes no more; `Raft` with `Memory`.
+fn print_json_regions<W: Write>(
+    alloc: Global,
+    accessor: &MemTableAccessor,
+    out: &mut W,
+) -> ToolResult<u8>
+    ensures done { IfOk result (λ status. status ≡ 0) }
+    ensures printed { OnOk result (PrintsTablesAsJson accessor.now (W.contents out.old) (W.contents out.new)) }
+{
+    let text = tables_as_json(alloc, accessor)?;
+    write_text(out, text.as_str())?;
+    Ok(DONE)
+}
+
+/// Prints the table of a region with its keys. Returns the status.
+///
+/// # Errors
+///
+/// `NoTable` where the region has no table, `Output` where the output takes no more, `Memory`.
+fn print_region<W: Write>(
     alloc: Global,
     accessor: &MemTableAccessor,
     region: u64,
@@ -120,36 +175,11 @@ fn print_one<W: Write>(
     let mut text = String::new(alloc);
     match form {
         Form::Text => {
-            append_region(table, &mut text)?;
+            append_table(table, &mut text)?;
             append_keys(alloc, table, values, &mut text)?;
         }
         Form::Json => append_json_region(alloc, table, true, &mut text)?,
     }
     write_text(out, text.as_str())?;
     Ok(DONE)
-}
-
-/// Prints all tables as lines of JSON.
-///
-/// # Errors
-///
-/// `Output`, `Memory`.
-fn print_json<W: Write>(alloc: Global, accessor: &MemTableAccessor, out: &mut W) -> ToolResult<u8> {
-    let mut tables = accessor.tables()?;
-    tables.sort_unstable_by_key(|table: &&MemTable| -> u64 { table.region_id() });
-    for table in tables {
-        print_json_table(alloc, table, out)?;
-    }
-    let mut text = String::new(alloc);
-    append_json_totals(accessor, &mut text)?;
-    write_text(out, text.as_str())?;
-    Ok(DONE)
-}
-
-/// Prints a table as a line of JSON.
-fn print_json_table<W: Write>(alloc: Global, table: &MemTable, out: &mut W) -> ToolResult<()> {
-    let mut text = String::new(alloc);
-    append_json_region(alloc, table, false, &mut text)?;
-    write_text(out, text.as_str())?;
-    Ok(())
 }

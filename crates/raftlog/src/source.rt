@@ -73,7 +73,7 @@ impl<R: SharedFiles + Screen> ReadFiles for Source<'_, R> {
         }
         match self.rt.read_file(path, offset, len, bytes) {
             Ok(()) => Ok(()),
-            Err(error) => Err(with_path(self.alloc, path, error)),
+            Err(error) => Err(error_with_path(self.alloc, path, error)),
         }
     }
 }
@@ -89,7 +89,7 @@ fn paths_of<'p>(queue: LogQueue, append: &'p Paths, rewrite: &'p Paths) -> &'p [
     }
 }
 
-/// Returns the path of the file with this number, of files whose numbers rise.
+/// Returns the path of the file with the number `seq`, of files by rising numbers; `None` where there is none.
 fn path_of(paths: &[(FileSeq, String)], seq: FileSeq) -> Option<&str>
     ensures { IfSome result (λ path. IsNamed (map path_shown paths.now) seq path.now) }
 {
@@ -99,19 +99,20 @@ fn path_of(paths: &[(FileSeq, String)], seq: FileSeq) -> Option<&str>
     }
 }
 
-/// Returns an error with the path in front of its words.
-fn with_path(alloc: Global, path: &str, error: io::Error) -> io::Error {
+/// Returns an error with a path in front of its words, or as it is where there is no memory.
+fn error_with_path(alloc: Global, path: &str, error: io::Error) -> io::Error {
     match format!(in alloc; "{path}: {error}") {
         Ok(text) => io::Error::new(error.kind(), text.as_str()),
         Err(_) => error,
     }
 }
 
-/// Finds the files that words name: those of a folder, or those that are named one by one. They are read `times` times.
+/// Finds the files that words name: a folder's, or files that are named one by one. `times` says how often they are to be read.
 ///
 /// # Errors
 ///
-/// `Misused` where the words name none, or both; those of [`ReadFolder`]; `File` where a file can't be read; `Memory`.
+/// `Misused` where the words name neither, or both; those of [`ReadFolder`]; `File` where a file can't be read; `Foreign` where it is one of
+/// raft-engine; `Memory`.
 pub(crate) fn find_files<'a, R: Host>(
     rt: &'a R,
     words: &ArgMatches<'a>,
@@ -123,11 +124,11 @@ pub(crate) fn find_files<'a, R: Host>(
 {
     let (append, rewrite) = (words.get_strs("append"), words.get_strs("rewrite"));
     match words.get_str("folder") {
-        Some(path) if append.is_none() && rewrite.is_none() => in_folder(rt, path, times),
+        Some(path) if append.is_none() && rewrite.is_none() => files_in_folder(rt, path, times),
         None if append.is_some() || rewrite.is_some() => {
             let append = named_files(rt, append.unwrap_or(&[]))?;
             let rewrite = named_files(rt, rewrite.unwrap_or(&[]))?;
-            take_files(rt, append, rewrite, None, times)
+            files_at_paths(rt, append, rewrite, None, times)
         }
         Some(_) => Err(ToolError::Misused(
             "name a folder, or files by --append and --rewrite, and not both",
@@ -136,12 +137,12 @@ pub(crate) fn find_files<'a, R: Host>(
     }
 }
 
-/// Finds the files of a folder.
+/// Finds the files of a folder. `times` says how often they are to be read.
 ///
 /// # Errors
 ///
-/// `NoFolder`; those of [`ReadFolder`]; `Foreign` where a file is one of raft-engine.
-pub(crate) fn in_folder<'a, R: Host>(
+/// `NoFolder` where a file stands at the path; those of [`ReadFolder`]; `Foreign` where a file is one of raft-engine.
+pub(crate) fn files_in_folder<'a, R: Host>(
     rt: &'a R,
     path: &'a str,
     times: u64,
@@ -156,7 +157,7 @@ pub(crate) fn in_folder<'a, R: Host>(
         folder.paths(LogQueue::Append)?,
         folder.paths(LogQueue::Rewrite)?,
     );
-    take_files(rt, append, rewrite, Some(folder), times)
+    files_at_paths(rt, append, rewrite, Some(folder), times)
 }
 
 /// Finds the files of a folder that is open to be changed. They are read once.
@@ -164,7 +165,7 @@ pub(crate) fn in_folder<'a, R: Host>(
 /// # Errors
 ///
 /// Those of [`FolderFiles`]; `Foreign` where a file is one of raft-engine.
-pub(crate) fn in_open_folder<'a, R: Host>(
+pub(crate) fn files_in_open_folder<'a, R: Host>(
     rt: &'a R,
     folder: &FolderFiles<'a, R>,
 ) -> ToolResult<Found<'a, R>> {
@@ -172,14 +173,14 @@ pub(crate) fn in_open_folder<'a, R: Host>(
         folder.paths(LogQueue::Append)?,
         folder.paths(LogQueue::Rewrite)?,
     );
-    take_files(rt, append, rewrite, None, 1)
+    files_at_paths(rt, append, rewrite, None, 1)
 }
 
 /// Refuses a file in place of a folder.
 ///
 /// # Errors
 ///
-/// `NoFolder`, `Memory`.
+/// `NoFolder` where a file stands at the path, `Memory`.
 pub(crate) fn refuse_file<R: Host>(rt: &R, path: &str) -> ToolResult<()> {
     match rt.file_len(path) {
         Ok(Some(_)) => Err(ToolError::NoFolder(String::from_str(rt.alloc(), path)?)),
@@ -187,7 +188,11 @@ pub(crate) fn refuse_file<R: Host>(rt: &R, path: &str) -> ToolResult<()> {
     }
 }
 
-/// Returns the files that words name one by one, by their numbers.
+/// Returns the numbers and the paths of the files that words name one by one.
+///
+/// # Errors
+///
+/// `Misused` where a word isn't a number, `=` and a path, or the numbers don't rise; `Memory`.
 fn named_files<R: Host>(rt: &R, words: &[&str]) -> ToolResult<Paths> {
     let mut paths: Paths = Vec::new(rt.alloc());
     for word in words {
@@ -202,7 +207,7 @@ fn named_files<R: Host>(rt: &R, words: &[&str]) -> ToolResult<Paths> {
     Ok(paths)
 }
 
-/// Returns the number and the path of the file that a word names.
+/// Returns the number and the path of the file that a word names; `None` where it isn't a number, `=` and a path.
 fn named_file(word: &str) -> Option<(FileSeq, &str)> {
     let (seq, path) = word.split_once('=')?;
     if path.is_empty() {
@@ -211,8 +216,12 @@ fn named_file(word: &str) -> Option<(FileSeq, &str)> {
     Some((seq.parse::<u64>().ok()?, path))
 }
 
-/// Makes the files at these paths those that are looked into.
-fn take_files<'a, R: Host>(
+/// Returns the files at paths, with their sizes, to be read as often as `times` says.
+///
+/// # Errors
+///
+/// `File` where one isn't a regular file that can be read; `Foreign` where it is one of raft-engine; `Memory`.
+fn files_at_paths<'a, R: Host>(
     rt: &'a R,
     append: Paths,
     rewrite: Paths,
@@ -244,7 +253,7 @@ fn take_files<'a, R: Host>(
     })
 }
 
-/// Returns how many bytes files have together.
+/// Returns how many bytes files have together, at most 2^64 - 1.
 fn bytes_of(sizes: &[FileSize]) -> u64 {
     let mut bytes: u64 = 0;
     for size in sizes {
@@ -253,7 +262,11 @@ fn bytes_of(sizes: &[FileSize]) -> u64 {
     bytes
 }
 
-/// Returns the number and the length of each file, none of which is one of raft-engine.
+/// Returns the number and the length of each file.
+///
+/// # Errors
+///
+/// Those of [`size_of`].
 fn sizes_of<R: Host>(rt: &R, paths: &[(FileSeq, String)]) -> ToolResult<Vec<FileSize>>
     ensures { IfOk result (λ sizes. AreSizesOf (map path_shown paths.now) sizes.items) }
 {
@@ -265,27 +278,35 @@ fn sizes_of<R: Host>(rt: &R, paths: &[(FileSeq, String)]) -> ToolResult<Vec<File
     Ok(sizes)
 }
 
-/// Returns the number and the length of a file, which isn't one of raft-engine.
+/// Returns the number and the length of a file.
+///
+/// # Errors
+///
+/// `File` where it isn't a regular file that can be read; `Foreign` where it is one of raft-engine; `Memory`.
 fn size_of<R: Host>(rt: &R, file: &(FileSeq, String)) -> ToolResult<FileSize>
     ensures { IfOk result (λ size. size.seq ≡ file.now.0) }
 {
     let (seq, path) = file;
     let len = match rt.file_len(path.as_str()) {
         Ok(Some(len)) => len,
-        Ok(None) => return Err(not_regular(rt, path)),
+        Ok(None) => return Err(irregular_file_error(rt, path)),
         Err(error) => return Err(ToolError::file(rt.alloc(), path.as_str(), error)),
     };
     refuse_foreign(rt, path)?;
     Ok(FileSize { seq: *seq, len })
 }
 
-/// Returns the refusal of what is no file that can be read at an offset.
-fn not_regular<R: Host>(rt: &R, path: &String) -> ToolError {
+/// Returns the refusal of what is no regular file, which couldn't be read at an offset.
+fn irregular_file_error<R: Host>(rt: &R, path: &String) -> ToolError {
     let error = io::Error::new(ErrorKind::InvalidInput, "it isn't a regular file");
     ToolError::file(rt.alloc(), path.as_str(), error)
 }
 
 /// Refuses a file that begins with raft-engine's header.
+///
+/// # Errors
+///
+/// `Foreign` where it does; `File` where it can't be read; `Memory`.
 fn refuse_foreign<R: Host>(rt: &R, path: &String) -> ToolResult<()> {
     let mut begin = Vec::new(rt.alloc());
     if let Err(error) = rt.read_file(path.as_str(), 0, FOREIGN_HEADER.len(), &mut begin) {

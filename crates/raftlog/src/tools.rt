@@ -11,7 +11,7 @@ use crate::regions::show_regions;
 use clap::ArgMatches;
 use std::io::Write;
 
-/// The first words that ask for one of these commands.
+/// The first words that ask for a command that looks into a folder, or for help.
 const FIRST_WORDS: [&str; 6] = ["check", "regions", "dump", "files", "cut", "help"];
 
 /// The words that ask for help, or for the version, of any command.
@@ -40,8 +40,8 @@ pub(crate) const WRONG: u8 = 1;
 /// The status where the words ask for nothing.
 pub(crate) const MISUSED: u8 = 2;
 
-/// Tests whether words ask for one of these commands, or for help with any.
-pub(crate) fn are_asked(words: &[String]) -> bool {
+/// Tests whether words ask for a command that looks into a folder, or for help with any command.
+pub(crate) fn ask_for_tool(words: &[String]) -> bool {
     match words.first() {
         Some(word) if FIRST_WORDS.contains(&word.as_str()) => true,
         Some(word) if is_help(word) => true,
@@ -63,7 +63,7 @@ pub(crate) fn name_no_command(words: &[String]) -> bool {
     }
 }
 
-/// Says on `err` that words begin with none of the commands, and lists these. Returns the status to end with.
+/// Prints on `err` that words begin with none of the commands, and which there are. Returns the status to end with.
 pub(crate) fn refuse_words<E: Write>(words: &[String], err: &mut E) -> u8 {
     let _ = match words.first() {
         Some(word) => writeln!(err, "raftlog: {word}: the first word names a command"),
@@ -73,7 +73,7 @@ pub(crate) fn refuse_words<E: Write>(words: &[String], err: &mut E) -> u8 {
     MISUSED
 }
 
-/// Says on `err` that a word isn't UTF-8, and lists the commands. Returns the status to end with.
+/// Prints on `err` that a word isn't UTF-8, and which commands there are. Returns the status to end with.
 pub(crate) fn refuse_encoding<E: Write>(err: &mut E) -> u8 {
     let _ = err.write_all(NO_UTF8.as_bytes());
     let _ = err.write_all(USAGE.as_bytes());
@@ -109,7 +109,7 @@ pub(crate) fn run_command<'a, R: Host, W: Write, E: Write>(
     }
 }
 
-/// Returns words without those which ask for help with `help`.
+/// Returns words without the one which asks `help` for help.
 fn without_help_of_help(words: &[String]) -> &[String] {
     match words {
         [first, second] if first.as_str() == "help" && is_help(second) => words.split_at(1).0,
@@ -117,7 +117,7 @@ fn without_help_of_help(words: &[String]) -> &[String] {
     }
 }
 
-/// Says why a command isn't done, and returns the status for that.
+/// Prints on `err` why a command isn't done. Returns the status to end with.
 fn refuse_command<E: Write>(error: &ToolError, err: &mut E) -> u8 {
     let _ = writeln!(err, "raftlog: {error}");
     match error {
@@ -126,7 +126,11 @@ fn refuse_command<E: Write>(error: &ToolError, err: &mut E) -> u8 {
     }
 }
 
-/// Does what the words of a command ask for, and returns the status to end with.
+/// Does what the words of a command ask for. Returns the status to end with.
+///
+/// # Errors
+///
+/// Those of the commands; `Misused` where the words name none.
 fn answer_command<'a, R: Host, W: Write>(
     rt: &'a R,
     matches: &ArgMatches<'a>,

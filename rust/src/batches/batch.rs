@@ -73,7 +73,7 @@ impl Batch {
         self.len() == 0
     }
 
-    /// Returns an item, if there is one.
+    /// Returns the item at a position, which is 0 of the first one; `None` behind the last one.
     ///
     /// ```
     /// # use raft_recover::LogBatch;

@@ -39,7 +39,7 @@ struct Line {
 pub(super) struct Commit {
     ticket: u64,
     pub(super) batch: LogBatch,
-    /// Whether it is to last once its thread goes on.
+    /// Whether it is to be synced before its thread goes on.
     pub(super) sync: bool,
     /// Whether items of it were written.
     pub(super) is_written: bool,
@@ -59,19 +59,19 @@ impl Commit {
             }
             Err(e) => {
                 let summary = |region| tables.summary(region);
-                self.result = Some(Err(self.batch.misfit(e, |_| true, summary)));
+                self.result = Some(Err(self.batch.name_misfit(e, |_| true, summary)));
             }
         }
     }
 }
 
 impl Commits {
-    /// Hands in a batch, and waits until it was written. Where no other thread leads this one does, unless a sync is due that it
-    /// doesn't want.
+    /// Hands in a batch, with `sync` to be synced too, and waits until it was written. Where no other thread leads this one does, by
+    /// the call `lead`, unless a sync is due that it doesn't want. The batch is empty after an `Ok`.
     ///
     /// # Errors
     ///
-    /// `Memory`, and what the leader says.
+    /// `Memory`, and what the leader notes of the batch. The batch is then as the leader left it.
     pub(super) fn write(
         &self,
         batch: &mut LogBatch,
@@ -99,8 +99,9 @@ impl Commits {
         }
     }
 
-    /// Makes a change of the line, and wakes the threads that wait, if any do: to wake nobody would cost a call of the system.
-    fn change(&self, change: impl FnOnce(&mut Line)) {
+    /// Makes a change of the line of batches, and wakes the threads that wait, if any do: to wake nobody would cost a call of the
+    /// system.
+    fn change_line(&self, change: impl FnOnce(&mut Line)) {
         let mut line = locks::lock(&self.line);
         change(&mut line);
         let is_awaited = line.sleepers > 0;
@@ -112,7 +113,7 @@ impl Commits {
 }
 
 impl Line {
-    /// Queues a batch, and returns its ticket.
+    /// Puts a batch, with `sync` one to be synced, at the end of the line, and returns its ticket.
     fn hand_in(&mut self, batch: LogBatch, sync: bool) -> u64 {
         let ticket = self.next_ticket;
         self.next_ticket += 1;
@@ -126,7 +127,7 @@ impl Line {
         ticket
     }
 
-    /// Takes the batch of a ticket out, once its thread may go on; `None` before.
+    /// Takes the batch of a ticket out of the line; `None` as long as its thread has to wait.
     fn take_ended(&mut self, ticket: u64) -> Option<Commit> {
         let at = self.over.iter().position(|over| over.ticket == ticket)?;
         Some(self.over.swap_remove(at))

@@ -46,7 +46,7 @@ struct Place {
 }
 
 impl Entries {
-    /// Reads entries of a region by their blocks, each of them once.
+    /// Reads entries of a region, which stand in order: the block of neighbors is read once, and the last block is kept.
     ///
     /// # Errors
     ///
@@ -63,13 +63,15 @@ impl Entries {
             .try_reserve_exact(entries.len())
             .map_err(|_| Error::memory())?;
         for entry in entries {
-            let of_entry = |e: Error| e.of_entry(region, entry.index);
+            let with_entry = |e: Error| e.with_entry(region, entry.index);
             if last != Some(entry.block) {
-                blocks.push(entry_bytes(engine, entry.block).map_err(of_entry)?);
+                blocks.push(entry_bytes(engine, entry.block).map_err(with_entry)?);
                 last = Some(entry.block);
             }
             let block = blocks.len() - 1;
-            let bytes = bytes_of(entry, blocks[block].len()).map_err(of_entry)?;
+            let bytes = bytes_of(entry, blocks[block].len())
+                .ok_or_else(|| of_lacking(entry))
+                .map_err(with_entry)?;
             let index = entry.index;
             places.push(Place {
                 index,
@@ -78,7 +80,7 @@ impl Entries {
             });
         }
         if let Some((block, bytes)) = last.zip(blocks.last()) {
-            engine.kept_blocks.keep(block, bytes);
+            engine.kept_blocks.keep(&block, bytes);
         }
         Ok(Entries {
             blocks,
@@ -86,7 +88,7 @@ impl Entries {
         })
     }
 
-    /// Returns the index of the entry that comes next, if one does.
+    /// Returns the index of the entry that comes next; `None` behind the last one.
     ///
     /// ```
     /// # use raft_recover::{Engine, LogBatch, MemoryFiles, Options};
@@ -174,7 +176,14 @@ pub(super) struct EntryBytes {
 }
 
 impl EntryBytes {
-    /// Reads an entry of a region, with its block, which is kept.
+    /// Returns the bytes of an entry; `None` where its block isn't kept, or doesn't have them.
+    pub(super) fn of_kept<F: Files>(engine: &Engine<F>, entry: &Entry) -> Option<EntryBytes> {
+        let block = engine.kept_blocks.get(&entry.block)?;
+        let bytes = bytes_of(entry, block.len())?;
+        Some(EntryBytes { block, bytes })
+    }
+
+    /// Reads an entry of a region with all of its block, which goes to the engine's kept blocks.
     ///
     /// # Errors
     ///
@@ -184,21 +193,17 @@ impl EntryBytes {
         region: u64,
         entry: &Entry,
     ) -> Result<EntryBytes> {
-        let of_entry = |e: Error| e.of_entry(region, entry.index);
-        let block = match engine.kept_blocks.get(entry.block) {
-            Some(kept) => kept,
-            None => {
-                let read = read_entry_bytes(engine, entry.block).map_err(of_entry)?;
-                let read = Arc::new(read);
-                engine.kept_blocks.keep(entry.block, &read);
-                read
-            }
-        };
-        let bytes = bytes_of(entry, block.len()).map_err(of_entry)?;
+        let with_entry = |e: Error| e.with_entry(region, entry.index);
+        let block = Arc::new(read_entry_bytes(engine, entry.block).map_err(with_entry)?);
+        engine.kept_blocks.keep(&entry.block, &block);
+        let bytes = bytes_of(entry, block.len())
+            .ok_or_else(|| of_lacking(entry))
+            .map_err(with_entry)?;
         Ok(EntryBytes { block, bytes })
     }
 
     /// Returns the bytes of the entry.
+    #[inline]
     pub(super) fn as_slice(&self) -> &[u8] {
         &self.block[self.bytes.clone()]
     }
@@ -235,7 +240,7 @@ pub(super) fn read_block<F: Files>(engine: &Engine<F>, block: Block) -> Result<V
 ///
 /// Those of [`read_entry_bytes`].
 fn entry_bytes<F: Files>(engine: &Engine<F>, block: Block) -> Result<Arc<Vec<u8>>> {
-    match engine.kept_blocks.get(block) {
+    match engine.kept_blocks.get(&block) {
         Some(kept) => Ok(kept),
         None => Ok(Arc::new(read_entry_bytes(engine, block)?)),
     }
@@ -255,18 +260,18 @@ pub(super) fn read_entry_bytes<F: Files>(engine: &Engine<F>, block: Block) -> Re
     Ok(bytes)
 }
 
-/// Returns where the bytes of an entry are in the entry bytes of its block, which are `len`.
-///
-/// # Errors
-///
-/// `Corruption` where they would end behind those.
-fn bytes_of(entry: &Entry, len: usize) -> Result<Range<usize>> {
+/// Returns where the bytes of an entry are in the entry bytes of its block, of which there are `len`; `None` where they would end
+/// behind those.
+fn bytes_of(entry: &Entry, len: usize) -> Option<Range<usize>> {
     let from = entry.offset as usize;
     let end = from.saturating_add(entry.len as usize);
-    if end > len {
-        let Block { file, offset, .. } = entry.block;
-        let text = "the bytes of an entry end behind those of its block";
-        return Err(Error::corruption(file, offset, text));
-    }
-    Ok(from..end)
+    (end <= len).then_some(from..end)
+}
+
+/// Returns the refusal of an entry whose bytes would end behind those of its block.
+#[cold]
+fn of_lacking(entry: &Entry) -> Error {
+    let Block { file, offset, .. } = entry.block;
+    let text = "the bytes of an entry end behind those of its block";
+    Error::corruption(file, offset, text)
 }

@@ -42,8 +42,8 @@ impl<F: Files> Engine<F> {
         self.fail_as(reason, false)
     }
 
-    /// Notes that the files have failed, and why, and returns the reason. Bytes that were ordered
-    /// and not written stay readable, from memory.
+    /// Notes that the files have failed, and why, and returns the reason. What the tables have can still be read; of it bytes that
+    /// were ordered and not written are read from memory.
     pub(super) fn fail_files(&self, reason: Error) -> Error {
         self.fail_as(reason, true)
     }
@@ -65,7 +65,7 @@ impl<F: Files> Engine<F> {
     ///
     /// Those of [`Files::read`].
     pub(super) fn read_at(&self, file: FileId, offset: u64, bytes: &mut [u8]) -> io::Result<()> {
-        if self.unwritten.read(file, offset, bytes) {
+        if self.unwritten.read_into(file, offset, bytes) {
             return Ok(());
         }
         self.files.read(file, offset, bytes)

@@ -16,7 +16,7 @@ use std::sync::Arc;
 ///
 /// - Of bytes that weren't synced a prefix stands after a crash: no hole, and no page of zeros in front of others. So
 ///   files are neither made longer beforehand nor used again. Bytes that were synced aren't harmed by those behind them.
-/// - [`sync`](Files::sync) makes the names of new files and deletions last too, as a sync of the folder does.
+/// - [`sync`](Files::sync) makes the names of new files, and deletions, safe too, as a sync of the folder does.
 ///   [`rotate`](Files::rotate) first syncs the file that it closes. [`truncate`](Files::truncate) is on the disk when it returns.
 /// - Files that are deleted go in the order in which that was asked, so that no crash leaves an older file where a younger one
 ///   is gone.
@@ -111,7 +111,7 @@ pub trait Files: Send + Sync {
     /// Those of the system: some of the bytes may be there.
     fn write(&self, file: FileId, bytes: &[u8]) -> io::Result<()>;
 
-    /// Makes all that was asked of a queue so far outlast a crash.
+    /// Makes all that was asked of a queue so far safe: no crash takes it away once the call returns `Ok`.
     ///
     /// ```
     /// # use raft_recover::{FileId, Files, MemoryFiles, Queue};
@@ -166,8 +166,8 @@ pub trait Files: Send + Sync {
     /// Those of the system: the file may be gone.
     fn delete(&self, file: FileId) -> io::Result<()>;
 
-    /// Cuts a file, which is the last one of its queue, to `len` bytes, if it has more. That is asked while an engine is opened
-    /// alone. What is cut may be kept elsewhere first, as [`FolderFiles`](crate::FolderFiles) does.
+    /// Cuts a file, which is the last one of its queue, to `len` bytes, if it has more. That is asked only while
+    /// an engine is opened. What is cut may be kept elsewhere first, as [`FolderFiles`](crate::FolderFiles) does.
     ///
     /// ```
     /// # use raft_recover::{FileId, Files, MemoryFiles, Queue};
@@ -184,6 +184,21 @@ pub trait Files: Send + Sync {
     ///
     /// Those of the system.
     fn truncate(&self, file: FileId, len: u64) -> io::Result<()>;
+
+    /// Gives back the room of files that were deleted, where [`delete`](Files::delete) left that to this call. To give back that of a
+    /// large file takes some file systems long, so an engine asks for it once others may write again: at any time, from any thread.
+    /// Where `delete` leaves nothing to do it does nothing; files that are made of others hand it on.
+    ///
+    /// ```
+    /// # use raft_recover::{FileId, Files, MemoryFiles, Queue};
+    /// # let files = MemoryFiles::new();
+    /// files.rotate(FileId::new(Queue::Append, 1))?;
+    /// files.rotate(FileId::new(Queue::Append, 2))?;
+    /// files.delete(FileId::new(Queue::Append, 1))?;
+    /// files.free_deleted();
+    /// # Ok::<(), std::io::Error>(())
+    /// ```
+    fn free_deleted(&self) {}
 
     /// Fills `bytes` with those of a file from `offset` on.
     ///
@@ -219,7 +234,7 @@ pub trait Files: Send + Sync {
     }
 }
 
-/// The files are those of what stands behind it.
+/// Each call is handed on to the files in the `Arc`.
 impl<F: Files + ?Sized> Files for Arc<F> {
     fn list(&self, queue: Queue) -> io::Result<Vec<(u64, u64)>> {
         (**self).list(queue)
@@ -243,6 +258,10 @@ impl<F: Files + ?Sized> Files for Arc<F> {
 
     fn truncate(&self, file: FileId, len: u64) -> io::Result<()> {
         (**self).truncate(file, len)
+    }
+
+    fn free_deleted(&self) {
+        (**self).free_deleted();
     }
 
     fn read(&self, file: FileId, offset: u64, bytes: &mut [u8]) -> io::Result<()> {

@@ -6,6 +6,7 @@ use std::collections::{BTreeMap, BTreeSet};
 use std::fmt;
 use std::fs::{self, File, OpenOptions};
 use std::io;
+use std::mem;
 use std::path::{Path, PathBuf};
 use std::sync::{Arc, Mutex, RwLock};
 
@@ -49,6 +50,8 @@ pub struct FolderFiles {
     locked: LockedFolder,
     /// All log files, open.
     files: RwLock<BTreeMap<FileId, Arc<File>>>,
+    /// Those whose names were deleted, still open: a file's room is given back once it is closed, which may take long.
+    deleted: Mutex<Vec<Arc<File>>>,
     /// One change at a time has it.
     changes: Mutex<Changes>,
 }
@@ -97,13 +100,14 @@ impl FolderFiles {
             path,
             locked,
             files: RwLock::new(files),
+            deleted: Mutex::default(),
             changes: Mutex::default(),
         })
     }
 
     /// Opens a folder with all log files in it to be read: every change of them is refused, and nothing is made or synced. So it
-    /// may be one that can only be read. It gets a shared lock, and so does the file `LOCK`, if it is there: others may read it at the
-    /// same time, but no engine writes to it, which would move and delete what is read, or cut it.
+    /// may be one that can only be read. It gets a shared lock, and so does the file `LOCK`, if it is there: others may read it at
+    /// the same time, but no engine writes to it, which would move and delete what is read, or cut it.
     ///
     /// ```
     /// # use raft_recover::{FileId, Files, FolderFiles, Queue};
@@ -134,6 +138,7 @@ impl FolderFiles {
             path,
             locked,
             files: RwLock::new(files),
+            deleted: Mutex::default(),
             changes: Mutex::new(changes),
         })
     }
@@ -168,13 +173,13 @@ impl FolderFiles {
         self.path.join(name_of(file))
     }
 
-    /// Returns the open file with this name.
+    /// Returns a log file, which is open.
     ///
     /// # Errors
     ///
-    /// `NotFound` where it isn't there.
-    fn file(&self, id: FileId) -> io::Result<Arc<File>> {
-        let files = locks::read(&self.files);
+    /// `NotFound` where the folder had no such file, or it was deleted.
+    fn open_file(&self, id: FileId) -> io::Result<Arc<File>> {
+        let files = locks::lock_to_read(&self.files);
         let file = files.get(&id).cloned();
         file.ok_or_else(|| io::Error::new(io::ErrorKind::NotFound, "the file isn't there"))
     }
@@ -186,20 +191,20 @@ impl FolderFiles {
     ///
     /// Those of the system. The files that are left in `unsynced` may not be synced.
     fn sync_new(&self, queue: Queue, unsynced: &mut BTreeSet<FileId>) -> io::Result<()> {
-        while let Some(file) = unsynced.range(all_of(queue)).next().copied() {
-            self.file(file)?.sync_data()?;
+        while let Some(file) = unsynced.range(files_of(queue)).next().copied() {
+            self.open_file(file)?.sync_data()?;
             unsynced.remove(&file);
         }
         Ok(())
     }
 
-    /// Makes a change, which has failed until it has ended well, or left all as it was. It gets the
-    /// files with bytes that aren't synced.
+    /// Makes one change under the lock of changes. `change` gets the set of files with bytes that aren't synced, to bring it up
+    /// to date. Until it returns `Ok` or `AsBefore`, the change counts as half done, also if it panics.
     ///
     /// # Errors
     ///
-    /// Those of the system. After one that may have left the change half done every later change is
-    /// refused.
+    /// Those of `change`. After one that may have left it half done (`InPart`), and in a folder that is open for reading alone,
+    /// every change is refused.
     fn change(
         &self,
         change: impl FnOnce(&mut BTreeSet<FileId>) -> std::result::Result<(), Unmade>,
@@ -221,8 +226,8 @@ impl FolderFiles {
 
 impl Files for FolderFiles {
     fn list(&self, queue: Queue) -> io::Result<Vec<(u64, u64)>> {
-        let files = locks::read(&self.files);
-        let of_queue = files.range(all_of(queue));
+        let files = locks::lock_to_read(&self.files);
+        let of_queue = files.range(files_of(queue));
         of_queue
             .map(|(id, file)| Ok((id.seq, file.metadata()?.len())))
             .collect()
@@ -231,7 +236,7 @@ impl Files for FolderFiles {
     fn write(&self, file: FileId, bytes: &[u8]) -> io::Result<()> {
         self.change(|unsynced| {
             unsynced.insert(file);
-            write_all_or_nothing(self.file(file)?.as_ref(), bytes)
+            write_all_or_nothing(self.open_file(file)?.as_ref(), bytes)
         })
     }
 
@@ -240,6 +245,7 @@ impl Files for FolderFiles {
     }
 
     fn rotate(&self, file: FileId) -> io::Result<()> {
+        self.free_deleted(); // none is left, but where this is wrapped in files that don't hand the call on
         self.change(|unsynced| {
             self.sync_new(file.queue, unsynced)?;
             let mut how = OpenOptions::new();
@@ -251,7 +257,7 @@ impl Files for FolderFiles {
                 e.into()
             })?;
             self.locked.folder.sync_all()?;
-            locks::write(&self.files).insert(file, Arc::new(opened));
+            locks::lock_to_change(&self.files).insert(file, Arc::new(opened));
             Ok(())
         })
     }
@@ -259,7 +265,8 @@ impl Files for FolderFiles {
     fn delete(&self, file: FileId) -> io::Result<()> {
         self.change(|unsynced| {
             unsynced.remove(&file);
-            locks::write(&self.files).remove(&file);
+            let opened = locks::lock_to_change(&self.files).remove(&file);
+            locks::lock(&self.deleted).extend(opened);
             fs::remove_file(self.path_of(file))?;
             Ok(self.locked.folder.sync_all()?)
         })
@@ -267,7 +274,7 @@ impl Files for FolderFiles {
 
     fn truncate(&self, file: FileId, len: u64) -> io::Result<()> {
         self.change(|unsynced| {
-            let opened = self.file(file)?;
+            let opened = self.open_file(file)?;
             let old = opened.metadata()?.len();
             if len < old {
                 let mut tail = vec![0; (old - len) as usize];
@@ -282,8 +289,13 @@ impl Files for FolderFiles {
         })
     }
 
+    fn free_deleted(&self) {
+        let deleted = mem::take(&mut *locks::lock(&self.deleted));
+        drop(deleted); // without the lock
+    }
+
     fn read(&self, file: FileId, offset: u64, bytes: &mut [u8]) -> io::Result<()> {
-        read_at(self.file(file)?.as_ref(), bytes, offset)
+        read_at(self.open_file(file)?.as_ref(), bytes, offset)
     }
 
     fn is_as_before(&self) -> bool {
@@ -300,7 +312,7 @@ impl fmt::Debug for FolderFiles {
     }
 }
 
-/// Opens all log files in a folder.
+/// Opens all log files in a folder, each by the call `open`, which gets its path. Other names are passed over.
 ///
 /// # Errors
 ///
@@ -338,7 +350,7 @@ fn open_synced(path: PathBuf) -> io::Result<File> {
     Ok(file)
 }
 
-/// Returns the range of all files that a queue may have.
-fn all_of(queue: Queue) -> std::ops::RangeInclusive<FileId> {
+/// Returns the range of all files that a queue can have, from number 0 to 2^64 - 1.
+fn files_of(queue: Queue) -> std::ops::RangeInclusive<FileId> {
     FileId::new(queue, 0)..=FileId::new(queue, u64::MAX)
 }

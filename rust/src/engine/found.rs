@@ -20,7 +20,8 @@ pub(super) struct Found {
     numbers: Numbers,
 }
 
-/// What an opening gives: the tables, the numbers of the files that were found, what is to be done to these, and what that cuts.
+/// What an opening gives: the tables, the numbers of the files that were found, the orders that are to be carried out on the files,
+/// and what was found in them that an engine doesn't write.
 #[derive(Debug)]
 pub(super) struct Opened {
     pub(super) tables: EngineHandle,
@@ -30,11 +31,11 @@ pub(super) struct Opened {
 }
 
 impl Found {
-    /// Reads the files of both queues.
+    /// Lists and reads the files of both queues.
     ///
     /// # Errors
     ///
-    /// `Corruption` where a file is missing between two others; those of [`read_queue()`].
+    /// `Io` where the files can't be listed; `Corruption` where one is missing between two others; those of [`read_queue()`].
     pub(super) fn read(files: &impl Files, options: &Options) -> Result<Found> {
         let mut numbers = Numbers::default();
         let mut read = |queue| {

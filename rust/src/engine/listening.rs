@@ -150,12 +150,12 @@ impl Events {
         }
     }
 
-    /// Tells all that waits, unless another call does so, which then goes on with what came meanwhile.
-    fn tell(&self) {
+    /// Tells the listener all that waits, unless another thread is telling it, which then tells this too.
+    fn tell_waiting(&self) {
         let Some(listener) = self.listener.as_deref() else {
             return;
         };
-        while let Some((event, _telling)) = self.next() {
+        while let Some((event, _telling)) = self.take_next() {
             match event {
                 Event::Begun(file) => listener.on_begin(file),
                 Event::Synced(file, took) => listener.on_sync(file, took),
@@ -166,8 +166,9 @@ impl Events {
         }
     }
 
-    /// Takes what is told next, unless another call tells something.
-    fn next(&self) -> Option<(Event, Telling<'_>)> {
+    /// Takes the event that is told next; `None` where none waits, or another thread is telling the listener one. As long as the
+    /// second value lives no other thread tells anything.
+    fn take_next(&self) -> Option<(Event, Telling<'_>)> {
         let mut line = locks::lock(&self.line);
         if line.is_telling {
             return None;
@@ -252,7 +253,7 @@ impl<F: Files> Engine<F> {
         options: Options,
         listener: Arc<dyn Listener>,
     ) -> Result<Engine<F>> {
-        Engine::with_files_and(files, options, Some(listener))
+        Engine::open_over(files, options, Some(listener))
     }
 
     /// Makes a call that may change something, and then tells the listener what was done, also
@@ -263,7 +264,7 @@ impl<F: Files> Engine<F> {
     /// Those of the call.
     pub(super) fn tell_after<T>(&self, call: impl FnOnce() -> Result<T>) -> Result<T> {
         let result = call();
-        self.events.tell();
+        self.events.tell_waiting();
         result
     }
 }

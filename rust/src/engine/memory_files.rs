@@ -164,7 +164,7 @@ impl MemoryFiles {
     }
 
     /// Returns the files that a crash leaves once the first `asks` of what was asked are done: of each queue what
-    /// was synced, and so much of what wasn't.
+    /// was synced, and as much of what wasn't as `append` and `rewrite` say.
     ///
     /// ```
     /// # use raft_recover::{FileId, Files, MemoryFiles, Queue, Unsynced};
@@ -186,7 +186,7 @@ impl MemoryFiles {
             let mut queue_left = Left::of(&held.found[position_of(queue)]);
             for ask in held.asks.iter().take(asks) {
                 if ask.queue() == queue {
-                    queue_left.take(ask);
+                    queue_left.take_ask(ask);
                 }
             }
             queue_left.files_after_crash(stays)
@@ -207,7 +207,7 @@ impl Files for MemoryFiles {
 
     fn write(&self, file: FileId, bytes: &[u8]) -> io::Result<()> {
         let mut held = locks::lock(&self.held);
-        held.last(file)?.extend_from_slice(bytes);
+        held.last_bytes(file)?.extend_from_slice(bytes);
         held.asks.push(Ask::Write(file, bytes.to_vec()));
         Ok(())
     }
@@ -241,7 +241,7 @@ impl Files for MemoryFiles {
 
     fn truncate(&self, file: FileId, len: u64) -> io::Result<()> {
         let mut held = locks::lock(&self.held);
-        cut_bytes(held.last(file)?, len);
+        cut_bytes(held.last_bytes(file)?, len);
         held.asks.push(Ask::Cut(file, len));
         Ok(())
     }
@@ -265,7 +265,7 @@ impl Held {
     /// # Errors
     ///
     /// `InvalidInput` for another file.
-    fn last(&mut self, file: FileId) -> io::Result<&mut Vec<u8>> {
+    fn last_bytes(&mut self, file: FileId) -> io::Result<&mut Vec<u8>> {
         match self.files[position_of(file.queue)].back_mut() {
             Some((seq, bytes)) if *seq == file.seq => Ok(bytes),
             _ => refuse("the file isn't the last one of its queue"),

@@ -6,7 +6,7 @@ use std::fmt;
 use std::ops::RangeBounds;
 
 impl<F: Files> Engine<F> {
-    /// Returns the message that is the value of a region's key, if there is one.
+    /// Returns the message that is the value of a region's key; `None` where the key has no value.
     ///
     /// ```
     /// # use raft_recover::{Engine, ErrorKind, LogBatch, MemoryFiles, Options};
@@ -61,7 +61,7 @@ impl<F: Files> Engine<F> {
         messages.collect()
     }
 
-    /// Returns the message that is an entry of a region, if there is one.
+    /// Returns the message that is the entry of a region at an index; `None` where the region has no entry there.
     ///
     /// ```
     /// # use raft_recover::{Engine, LogBatch, MemoryFiles, Options};
@@ -149,7 +149,7 @@ fn decode_entries<M: Message>(region: u64, entries: &Entries) -> Result<Vec<M>> 
 fn decode_value<M: Message>(region: u64, key: &[u8], value: &[u8]) -> Result<M> {
     let key = key.escape_ascii();
     let message = decode_at(value, format_args!("region {region}, key {key}"));
-    message.map_err(|e| e.about(region, None))
+    message.map_err(|e| e.with_region(region, None))
 }
 
 /// Decodes the bytes of an entry as a message.
@@ -159,7 +159,7 @@ fn decode_value<M: Message>(region: u64, key: &[u8], value: &[u8]) -> Result<M> 
 /// `Message` where they aren't a message's, with region and index.
 fn decode_entry<M: Message>(region: u64, index: u64, bytes: &[u8]) -> Result<M> {
     let message = decode_at(bytes, format_args!("region {region}, entry {index}"));
-    message.map_err(|e| e.about(region, Some(index)))
+    message.map_err(|e| e.with_region(region, Some(index)))
 }
 
 /// Decodes bytes as a message. `place` says in words where they stand.

@@ -41,14 +41,14 @@ impl<F: Files> Engine<F> {
     ///
     /// `Full` where the last file has the greatest number, `Memory`. `Io`, `Failed`: the engine has failed.
     pub fn rotate(&self) -> Result<()> {
-        self.changeable("rotate")?;
-        self.tell_after(|| self.turn()?.call(EngineHandle::rotate))
+        self.check_changeable("rotate")?;
+        self.tell_after(|| self.wait_for_turn()?.call(EngineHandle::rotate))
     }
 
-    /// Begins a new file of the append queue where the last one is long enough. Where that is refused a later write tries again, or
-    /// finds that the engine has failed.
+    /// Begins a new file of the append queue where the last one has as many bytes as the options say, or more. Where that is
+    /// refused a later write tries again, or finds that the engine has failed.
     pub(super) fn rotate_if_due(&self, turn: &Turn<'_, F>) {
-        let last = locks::lock(&self.numbers).last(Queue::Append);
+        let last = locks::lock(&self.numbers).last_file(Queue::Append);
         if last.is_some_and(|(_, len)| len > 0 && len >= self.options.target_file_size) {
             let _ = turn.call(EngineHandle::rotate);
         }
@@ -79,22 +79,24 @@ impl<F: Files> Engine<F> {
     /// `InvalidArgument` where a key is that of the group markers; `Io` where they can't be read; `Memory`. Some records may have
     /// moved then. `Io` of a change, `Failed`: the engine has failed.
     pub fn rewrite(&self, gate: u64) -> Result<()> {
-        self.changeable("rewrite")?;
+        self.check_changeable("rewrite")?;
         self.tell_after(|| self.rewrite_up_to(gate))
     }
 
-    /// Does what [`Engine::rewrite`] does, step by step, each in a turn of its own. Where the steps moved nothing of what was listed, all
-    /// of that moves at once: one batch may need more blocks than a step has.
+    /// Does what [`Engine::rewrite`] does, step by step, each in a turn of its own. Where the steps moved nothing of what was
+    /// listed, all of that moves at once: one batch may need more blocks than a step has.
     ///
     /// # Errors
     ///
     /// Those of [`Engine::rewrite`]. Some records may then have moved.
     fn rewrite_up_to(&self, gate: u64) -> Result<()> {
-        let last = locks::lock(&self.numbers).last(Queue::Append);
+        let last = locks::lock(&self.numbers).last_file(Queue::Append);
         let gate = last.map_or(gate, |(file, _)| gate.min(file.seq));
         let mut before = Vec::new();
         loop {
-            let listed = self.tables().moving_blocks(Some(gate), LISTED_AT_ONCE)?;
+            let listed = self
+                .lock_tables()
+                .moving_blocks(Some(gate), LISTED_AT_ONCE)?;
             let is_over = if listed == before {
                 self.rewrite_listed(gate)?
             } else {
@@ -107,27 +109,30 @@ impl<F: Files> Engine<F> {
         }
     }
 
-    /// Moves what is in the first blocks that move past a gate, as many as are listed at once, in one turn. Returns whether all has
-    /// moved.
+    /// Moves what is in the first blocks that are to move up to the file `gate`, as many as are listed at once, in one turn. Returns
+    /// whether nothing is left to move.
     ///
     /// # Errors
     ///
     /// Those of [`Engine::rewrite`]. Some records may then have moved.
     fn rewrite_listed(&self, gate: u64) -> Result<bool> {
         let read = self.read_ahead(Some(gate), LISTED_AT_ONCE)?;
-        let turn = self.turn()?;
+        let turn = self.wait_for_turn()?;
         let lent = self.lend(Some(gate), LISTED_AT_ONCE, read)?;
         match self.count_moves(&turn, Queue::Append, |tables| tables.rewrite(gate)) {
             Ok(()) => Ok(true),
             Err(e) if e.kind == ErrorKind::TryAgain => {
-                let left = self.tables().moving_blocks(Some(gate), LISTED_AT_ONCE)?;
+                let left = self
+                    .lock_tables()
+                    .moving_blocks(Some(gate), LISTED_AT_ONCE)?;
                 if left == lent { Err(e) } else { Ok(false) }
             }
             Err(e) => Err(self.with_damaged_block(e, &lent)),
         }
     }
 
-    /// Moves what is in these blocks past a gate, some of them in each turn, as far as they can be read. Returns whether all has moved.
+    /// Moves what is in `blocks` and in append files up to `gate`, some of them in each turn, as far as they can be read. Returns
+    /// whether nothing is left to move up to `gate`.
     ///
     /// # Errors
     ///
@@ -145,23 +150,24 @@ impl<F: Files> Engine<F> {
             }
             unsynced += bytes_of(step);
             if unsynced >= SYNCED_AT_ONCE {
-                self.turn()?.sync_now(Queue::Rewrite)?;
+                self.wait_for_turn()?.sync_now(Queue::Rewrite)?;
                 unsynced = 0;
             }
-            rest = behind(rest, step.len());
+            rest = rest_behind(rest, step.len());
         }
         Ok(false)
     }
 
-    /// Moves what is in blocks that were read past a gate. Returns whether all has moved.
+    /// Moves what is in the blocks of `read`, which have these bytes, and in append files up to `gate`, in one turn. Returns whether
+    /// nothing is left to move up to `gate`.
     ///
     /// # Errors
     ///
     /// Those of [`Engine::rewrite`]. Some records may then have moved.
     fn rewrite_lent(&self, gate: u64, read: &[(Block, Vec<u8>)]) -> Result<bool> {
-        let turn = self.turn()?;
+        let turn = self.wait_for_turn()?;
         for (block, bytes) in read {
-            self.tables().lend(*block, bytes)?;
+            self.lock_tables().lend(*block, bytes)?;
         }
         match self.count_moves(&turn, Queue::Append, |tables| tables.rewrite(gate)) {
             Ok(()) => Ok(true),
@@ -173,7 +179,7 @@ impl<F: Files> Engine<F> {
         }
     }
 
-    /// Reads blocks.
+    /// Reads the bytes of blocks, and returns each block with its own.
     ///
     /// # Errors
     ///
@@ -207,17 +213,17 @@ impl<F: Files> Engine<F> {
     ///
     /// Those of [`Engine::rewrite`]; but a region whose entries fit no batch moves in several.
     pub fn rewrite_again(&self) -> Result<()> {
-        self.changeable("rewrite_again")?;
+        self.check_changeable("rewrite_again")?;
         self.tell_after(|| {
             let read = self.read_ahead(None, usize::MAX)?;
-            let turn = self.turn()?;
+            let turn = self.wait_for_turn()?;
             let lent = self.lend(None, usize::MAX, read)?;
             self.count_moves(&turn, Queue::Rewrite, EngineHandle::rewrite_again)
                 .map_err(|e| self.with_damaged_block(e, &lent))
         })
     }
 
-    /// Makes a call that moves records of a queue, and notes how many moved, for the listener.
+    /// Makes a call that moves records of the queue `from`, and notes how many moved, for the listener.
     ///
     /// # Errors
     ///
@@ -230,10 +236,10 @@ impl<F: Files> Engine<F> {
     ) -> Result<()> {
         let mut moved = 0;
         let result = turn.call(|tables| {
-            let before = tables.live(from);
+            let before = tables.count_live(from);
             let result = call(tables);
             moved = match from {
-                Queue::Append => before.saturating_sub(tables.live(from)),
+                Queue::Append => before.saturating_sub(tables.count_live(from)),
                 Queue::Rewrite if result.is_ok() => before,
                 Queue::Rewrite => 0,
             };
@@ -245,41 +251,41 @@ impl<F: Files> Engine<F> {
         result
     }
 
-    /// Reads the blocks that [`Engine::lend`] is to lend, while others may write. One that can't be
-    /// read now is left to it.
+    /// Reads the blocks that [`Engine::lend`] is to lend for the same `gate` and `max_size`, while others may write. A block that
+    /// can't be read now is left to it.
     ///
     /// # Errors
     ///
     /// `Memory`.
     fn read_ahead(&self, gate: Option<u64>, max_size: usize) -> Result<ReadBlocks> {
-        let blocks = self.tables().moving_blocks(gate, max_size)?;
+        let blocks = self.lock_tables().moving_blocks(gate, max_size)?;
         let read = blocks
             .into_iter()
             .filter_map(|block| Some((block, read_block(self, block).ok()?)));
         Ok(read.collect())
     }
 
-    /// Lends the tables the blocks that are read by a rewriting up to the gate, or by one of
-    /// rewritten records: those of whole regions, until they have `max_size` bytes. Returns them.
-    /// It reads those that weren't read before.
+    /// Lends the tables the blocks that the next rewriting reads, up to the file `gate`, or without a gate that of rewritten records:
+    /// those of whole regions, until they have `max_size` bytes. Returns these blocks. Those that `read` doesn't have are read.
     ///
     /// # Errors
     ///
     /// Those of [`Engine::rewrite`]. Some blocks may then be lent.
     fn lend(&self, gate: Option<u64>, max_size: usize, mut read: ReadBlocks) -> Result<Vec<Block>> {
-        let blocks = self.tables().moving_blocks(gate, max_size)?;
+        let blocks = self.lock_tables().moving_blocks(gate, max_size)?;
         for block in &blocks {
             let at = read.iter().position(|(of, _)| of == block);
             let bytes = match at.and_then(|at| read.remove(at)) {
                 Some((_, bytes)) => bytes,
                 None => read_block(self, *block)?,
             };
-            self.tables().lend(*block, &bytes)?;
+            self.lock_tables().lend(*block, &bytes)?;
         }
         Ok(blocks)
     }
 
-    /// Says of a refusal which of the blocks that were lent is damaged, if that is the reason.
+    /// Returns a refusal with the place of the block, among those that were lent, which is damaged, if that is its reason; else as it
+    /// is.
     fn with_damaged_block(&self, refused: Error, lent: &[Block]) -> Error {
         if refused.kind != ErrorKind::Corruption || refused.file.is_some() {
             return refused;
@@ -296,7 +302,7 @@ fn bytes_of(blocks: &[Block]) -> usize {
     blocks.iter().map(|block| block.len).sum()
 }
 
-/// Returns the first blocks, until they have so many bytes.
+/// Returns the first blocks, up to the one with which they have `max_size` bytes or more.
 fn prefix_of(blocks: &[Block], max_size: usize) -> &[Block] {
     let mut size = 0;
     let is_within = |block: &Block| {
@@ -308,8 +314,9 @@ fn prefix_of(blocks: &[Block], max_size: usize) -> &[Block] {
     &blocks[..count]
 }
 
-/// Returns the blocks behind the first ones, and the last of those once more that may be of a batch which goes on behind them.
-fn behind(blocks: &[Block], count: usize) -> &[Block] {
+/// Returns the blocks behind the first `count`, and in front of them those of the first ones which may be of a batch that goes on
+/// behind.
+fn rest_behind(blocks: &[Block], count: usize) -> &[Block] {
     if count == blocks.len() {
         return &[];
     }

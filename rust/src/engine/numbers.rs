@@ -2,14 +2,14 @@
 
 use super::QueueStats;
 use crate::{FileId, Queue};
-use std::collections::BTreeMap;
+use std::collections::VecDeque;
 use std::time::Duration;
 
 /// The files of both queues by their orders, and what was done with them.
 #[derive(Debug, Default)]
 pub(super) struct Numbers {
-    /// How many bytes each file has.
-    lens: BTreeMap<FileId, u64>,
+    /// The numbers of each queue's files, oldest first, and how many bytes each has.
+    lens: [VecDeque<(u64, u64)>; 2],
     /// How many bytes of the rewrite queue are needed: as many as it had when its records moved last, or as a purge counted
     /// before they did.
     pub(super) needed_rewritten: Option<u64>,
@@ -19,46 +19,50 @@ pub(super) struct Numbers {
 }
 
 impl Numbers {
-    /// Notes that a file has so many bytes; one that isn't known yet is added.
+    /// Notes that a file has `len` bytes. A file that isn't known yet is added.
     pub(super) fn set_len(&mut self, file: FileId, len: u64) {
-        self.lens.insert(file, len);
+        let lens = &mut self.lens[file.queue as usize];
+        match lens.binary_search_by_key(&file.seq, |(seq, _)| *seq) {
+            Ok(at) => lens[at].1 = len,
+            Err(at) => lens.insert(at, (file.seq, len)),
+        }
     }
 
-    /// Notes that the last file of a queue has so many bytes, if it had more.
+    /// Notes that the last file of a queue, if there is one, was cut to `len` bytes, if it had more.
     pub(super) fn note_cut(&mut self, queue: Queue, len: u64) {
-        if let Some((file, old)) = self.last(queue) {
+        if let Some((file, old)) = self.last_file(queue) {
             self.set_len(file, len.min(old));
         }
     }
 
-    /// Takes a deleted file out.
+    /// Forgets a file, which was deleted.
     pub(super) fn forget(&mut self, file: FileId) {
-        self.lens.remove(&file);
+        self.lens[file.queue as usize].retain(|(seq, _)| *seq != file.seq);
     }
 
-    /// Returns the files of a queue with their lengths, oldest first.
+    /// Returns the files of a queue with their lengths in bytes, oldest first.
     pub(super) fn files(&self, queue: Queue) -> impl DoubleEndedIterator<Item = (FileId, u64)> {
-        let all = FileId::new(queue, 0)..=FileId::new(queue, u64::MAX);
-        self.lens.range(all).map(|(file, len)| (*file, *len))
+        let lens = self.lens[queue as usize].iter();
+        lens.map(move |(seq, len)| (FileId::new(queue, *seq), *len))
     }
 
     /// Returns the last file of a queue, and its length in bytes; `None` without a file.
-    pub(super) fn last(&self, queue: Queue) -> Option<(FileId, u64)> {
+    pub(super) fn last_file(&self, queue: Queue) -> Option<(FileId, u64)> {
         self.files(queue).next_back()
     }
 
     /// Returns how many bytes the files of a queue have together.
-    pub(super) fn bytes(&self, queue: Queue) -> u64 {
+    pub(super) fn count_bytes(&self, queue: Queue) -> u64 {
         self.files(queue).map(|(_, len)| len).sum()
     }
 
-    /// Returns the numbers of a queue, of which so many records are live.
-    pub(super) fn of(&self, queue: Queue, records: usize) -> QueueStats {
+    /// Returns the numbers of a queue in which `records` records are live.
+    pub(super) fn stats_of(&self, queue: Queue, records: usize) -> QueueStats {
         QueueStats {
             first_file: self.files(queue).next().map_or(0, |(file, _)| file.seq),
-            last_file: self.last(queue).map_or(0, |(file, _)| file.seq),
+            last_file: self.last_file(queue).map_or(0, |(file, _)| file.seq),
             files: self.files(queue).count(),
-            bytes: self.bytes(queue),
+            bytes: self.count_bytes(queue),
             records,
         }
     }

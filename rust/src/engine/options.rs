@@ -24,17 +24,17 @@ pub struct Options {
     pub recovery_mode: RecoveryMode,
     /// On how many threads the files are read when they are opened, the caller's with them. 0 are 1.
     pub recovery_threads: usize,
-    /// With so many bytes the last append file is closed by the write that reaches them, and a new one begun.
+    /// How many bytes the last append file has at least when it is closed, by the write that reaches them, and a new one is begun.
     pub target_file_size: u64,
     /// Where the files of a queue have more bytes than this, `Engine::purge` moves what it needs to let old ones go.
     pub purge_above: u64,
-    /// Of the rewrite queue it does so where at least so many of a hundred bytes aren't needed. Above 100 it never does.
+    /// Of the rewrite queue it does so only where this many of a hundred bytes, or more, aren't needed. Above 100 it never does.
     pub purge_garbage: u8,
 }
 
 impl Options {
-    /// Files of version 2 of 64 MiB, cut where a crash can have torn them, read on up to four threads, with up to 1 GiB in each queue,
-    /// or more where half of it or more is needed.
+    /// Makes options for files of version 2 of 64 MiB, cut where a crash can have torn them, read on up to four threads, with up
+    /// to 1 GiB in each queue, or more where half of it or more is needed.
     ///
     /// ```
     /// # use raft_recover::Options;
@@ -91,7 +91,7 @@ impl Options {
         }
     }
 
-    /// Sets with how many bytes the last append file is closed.
+    /// Sets how many bytes the last append file has at least when it is closed.
     ///
     /// ```
     /// # use raft_recover::Options;
@@ -117,7 +117,7 @@ impl Options {
         }
     }
 
-    /// Sets from how many needless ones of a hundred bytes on `Engine::purge` moves the records of the rewrite queue again.
+    /// Sets how many of a hundred bytes of the rewrite queue aren't needed, at least, when `Engine::purge` moves its records again.
     ///
     /// ```
     /// # use raft_recover::Options;
@@ -132,7 +132,7 @@ impl Options {
 }
 
 impl Default for Options {
-    /// Those of [`Options::new`].
+    /// Makes those of [`Options::new`].
     fn default() -> Options {
         Options::new()
     }

@@ -33,10 +33,10 @@ impl<F: Files> Engine<F> {
     ///
     /// `Failed` where the engine has failed; `Io` where such an order finds no room again, or can't be carried out otherwise: the
     /// engine has failed then.
-    pub(super) fn turn(&self) -> Result<Turn<'_, F>> {
+    pub(super) fn wait_for_turn(&self) -> Result<Turn<'_, F>> {
         let turn = Turn {
             engine: self,
-            _turn: self.turns.take(),
+            _turn: self.turns.take_turn(),
         };
         self.check_intact()?;
         let undone = mem::take(&mut *locks::lock(&self.undone));
@@ -46,33 +46,33 @@ impl<F: Files> Engine<F> {
 }
 
 impl<F: Files> Turn<'_, F> {
-    /// Makes a call that may order something, and carries that out.
+    /// Makes a call on the tables that may order something, carries the orders out, and returns what the call returned.
     ///
     /// # Errors
     ///
     /// Those of the call; `Io` where an order can't be carried out, or `Memory`: the engine has failed then, unless the order left
     /// all as it was.
     pub(super) fn call<T>(&self, call: impl FnOnce(&mut EngineHandle) -> Result<T>) -> Result<T> {
-        let mut tables = self.engine.tables();
+        let mut tables = self.engine.lock_tables();
         let result = call(&mut tables);
         if !tables.is_intact() {
             let reason = result.err().unwrap_or_else(Error::of_emptied);
             return Err(self.engine.fail(reason));
         }
         let orders = tables.take_orders().map_err(|e| self.engine.fail(e))?;
-        self.note(&orders); // before a reader can find what isn't written yet
+        self.note_bytes(&orders); // before a reader can find what isn't written yet
         drop(tables);
         self.carry_out(orders.into())?;
         result
     }
 
-    /// Carries out what an opening orders.
+    /// Carries out the orders of an opening.
     ///
     /// # Errors
     ///
     /// Those of [`Turn::carry_out`].
-    pub(super) fn open(&self, orders: Vec<Order>) -> Result<()> {
-        self.note(&orders);
+    pub(super) fn carry_out_opening(&self, orders: Vec<Order>) -> Result<()> {
+        self.note_bytes(&orders);
         self.carry_out(orders.into())
     }
 
@@ -85,8 +85,8 @@ impl<F: Files> Turn<'_, F> {
         self.carry_out(VecDeque::from([Order::Sync(queue)]))
     }
 
-    /// Notes the bytes of orders, which are read from memory until they are written.
-    fn note(&self, orders: &[Order]) {
+    /// Notes the bytes that orders write: they are read from memory until they stand in their file.
+    fn note_bytes(&self, orders: &[Order]) {
         let numbers = locks::lock(&self.engine.numbers);
         self.engine.unwritten.note(orders, &numbers);
     }
@@ -118,9 +118,9 @@ impl<F: Files> Turn<'_, F> {
     /// `Io` with the file. The engine has failed then, unless the files are as before.
     fn carry_out_one(&self, order: &Order) -> Result<()> {
         match order {
-            Order::Write(queue, bytes) => self.write(*queue, bytes),
-            Order::Begin(file) => self.begin(*file),
-            Order::Sync(queue) => self.sync(*queue),
+            Order::Write(queue, bytes) => self.write_bytes(*queue, bytes),
+            Order::Begin(file) => self.begin_file(*file),
+            Order::Sync(queue) => self.sync_queue(*queue),
             Order::DeleteOldest(queue) => self.delete_oldest(*queue),
             Order::Cut(queue, len) => self.cut_last(*queue, *len),
         }
@@ -131,8 +131,8 @@ impl<F: Files> Turn<'_, F> {
     /// # Errors
     ///
     /// Those of [`Files::write`], as `Io` with the file.
-    fn write(&self, queue: Queue, bytes: &[u8]) -> Result<()> {
-        let (file, len) = self.last(queue)?;
+    fn write_bytes(&self, queue: Queue, bytes: &[u8]) -> Result<()> {
+        let (file, len) = self.last_file(queue)?;
         let written = self.engine.files.write(file, bytes);
         written.map_err(|e| Error::system("a batch can't be written", e).at(file, len))?;
         let len = len + bytes.len() as u64;
@@ -146,7 +146,7 @@ impl<F: Files> Turn<'_, F> {
     /// # Errors
     ///
     /// Those of [`Files::rotate`], as `Io` with the file.
-    fn begin(&self, file: FileId) -> Result<()> {
+    fn begin_file(&self, file: FileId) -> Result<()> {
         let begun = self.engine.files.rotate(file);
         begun.map_err(|e| Error::system("the file can't be begun", e).at(file, 0))?;
         locks::lock(&self.engine.numbers).set_len(file, 0);
@@ -159,8 +159,8 @@ impl<F: Files> Turn<'_, F> {
     /// # Errors
     ///
     /// Those of [`Files::sync`], as `Io` with the file.
-    fn sync(&self, queue: Queue) -> Result<()> {
-        let (file, len) = self.last(queue)?;
+    fn sync_queue(&self, queue: Queue) -> Result<()> {
+        let (file, len) = self.last_file(queue)?;
         let begun = Instant::now();
         let synced = self.engine.files.sync(queue);
         synced.map_err(|e| Error::system("the file can't be synced", e).at(file, len))?;
@@ -194,7 +194,7 @@ impl<F: Files> Turn<'_, F> {
     ///
     /// Those of [`Files::truncate`], as `Io` with the file.
     fn cut_last(&self, queue: Queue, len: u64) -> Result<()> {
-        let (file, _) = self.last(queue)?;
+        let (file, _) = self.last_file(queue)?;
         let cut = self.engine.files.truncate(file, len);
         cut.map_err(|e| Error::system("the file can't be cut", e).at(file, len))?;
         locks::lock(&self.engine.numbers).note_cut(queue, len);
@@ -210,8 +210,8 @@ impl<F: Files> Turn<'_, F> {
     /// # Errors
     ///
     /// `Failed` where the queue has none.
-    fn last(&self, queue: Queue) -> Result<(FileId, u64)> {
-        let last = locks::lock(&self.engine.numbers).last(queue);
+    fn last_file(&self, queue: Queue) -> Result<(FileId, u64)> {
+        let last = locks::lock(&self.engine.numbers).last_file(queue);
         last.ok_or_else(Error::of_emptied)
     }
 }

@@ -63,7 +63,7 @@ struct Place {
 }
 
 impl Pairs {
-    /// Makes one of pairs in order. The only error is `Memory`.
+    /// Makes the pairs of those that are packed, in their order. The only error is `Memory`.
     pub(super) fn of(packed: PackedPairs) -> Result<Pairs> {
         let PackedPairs { lens, bytes } = packed;
         let mut places = Vec::new();
@@ -152,7 +152,7 @@ impl fmt::Debug for Pairs {
     }
 }
 
-/// Returns the least key of a range, and the least one behind it, if there is one.
+/// Returns the least key of a range, and the least key behind the range; `None` where the range is open there.
 pub(super) fn ends_of<'a>(range: &impl RangeBounds<&'a [u8]>) -> (Vec<u8>, Option<Vec<u8>>) {
     let start = match range.start_bound() {
         Bound::Included(key) => key.to_vec(),

@@ -73,7 +73,7 @@ pub struct Holder {
 }
 
 impl AddAssign for Purged {
-    /// Adds what a later purge deleted. The holders are its.
+    /// Adds what a later purge deleted. The holders are those of the later one.
     fn add_assign(&mut self, later: Purged) {
         self.append_files += later.append_files;
         self.rewrite_files += later.rewrite_files;

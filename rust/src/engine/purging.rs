@@ -1,6 +1,5 @@
 //! Files go that nothing needs.
 
-use super::reading::places_of_range;
 use super::{Engine, Holder, Purged, locks};
 use crate::sys::EngineHandle;
 use crate::{FileId, Files, Queue, Result};
@@ -8,8 +7,8 @@ use crate::{FileId, Files, Queue, Result};
 impl<F: Files> Engine<F> {
     /// Deletes the files that no table needs, and says which ([`Purged`]). Where those of a queue have more bytes than
     /// [`Options::purge_above`] it first moves what it needs: in the append queue until half of that is left, in the rewrite
-    /// queue where so many of a hundred bytes aren't needed as [`Options::purge_garbage`] says, or more. It needs as many as it
-    /// had when its records moved last; until they do, as the entries there have, and all keys with their values.
+    /// queue where as many of a hundred bytes as [`Options::purge_garbage`] says, or more, aren't needed. Needed are as many bytes as
+    /// it had when its records moved last; until they do, those of the entries there, and of all keys with their values.
     ///
     /// Files are deleted here alone, so a program calls it now and then, best from a thread of its own: threads that write get in
     /// between while it moves records of the append queue, 256 KiB or a block at a time; those of the rewrite queue move at
@@ -39,7 +38,7 @@ impl<F: Files> Engine<F> {
     ///
     /// Those of [`Engine::rewrite`].
     pub fn purge(&self) -> Result<Purged> {
-        self.changeable("purge")?;
+        self.check_changeable("purge")?;
         let mut purged = self.delete_files()?;
         if let Some(gate) = self.gate_due() {
             self.rewrite(gate)?;
@@ -49,9 +48,9 @@ impl<F: Files> Engine<F> {
             self.rewrite_again()?;
             purged += self.delete_files()?;
             let mut numbers = locks::lock(&self.numbers);
-            numbers.needed_rewritten = Some(numbers.bytes(Queue::Rewrite));
+            numbers.needed_rewritten = Some(numbers.count_bytes(Queue::Rewrite));
         }
-        purged.holders = self.holders()?;
+        purged.holders = self.find_holders()?;
         Ok(purged)
     }
 
@@ -85,15 +84,26 @@ impl<F: Files> Engine<F> {
             || self.is_moving_again_due()?)
     }
 
-    /// Deletes the files of both queues that no table needs, and says how many files and bytes.
+    /// Deletes the files of both queues that no table needs, and returns which. Its holders are none.
     ///
     /// # Errors
     ///
     /// `Failed`, `Io`, `Memory`; `Full` where the rewrite queue is to be told 2^56 bytes or more
     /// before, or its last file has more than 2^63. Some files may then be deleted.
     fn delete_files(&self) -> Result<Purged> {
+        let purged = self.delete_in_turn();
+        self.files.free_deleted();
+        purged
+    }
+
+    /// Deletes the files of both queues that no table needs, in one turn, and returns which. Their room may not be given back yet.
+    ///
+    /// # Errors
+    ///
+    /// Those of [`Engine::delete_files`].
+    fn delete_in_turn(&self) -> Result<Purged> {
         self.tell_after(|| {
-            let turn = self.turn()?;
+            let turn = self.wait_for_turn()?;
             let files = |queue| locks::lock(&self.numbers).files(queue).collect::<Vec<_>>();
             let (append, rewrite) = (files(Queue::Append), files(Queue::Rewrite));
             let append_files = turn.call(EngineHandle::purge_expired_files)?;
@@ -110,7 +120,7 @@ impl<F: Files> Engine<F> {
         })
     }
 
-    /// Returns the oldest file of a queue, if there is another one behind it.
+    /// Returns the oldest file of a queue; `None` where there is no other one behind it.
     fn oldest_closed_file(&self, queue: Queue) -> Option<FileId> {
         let numbers = locks::lock(&self.numbers);
         let mut files = numbers.files(queue);
@@ -118,7 +128,7 @@ impl<F: Files> Engine<F> {
         files.next().map(|_| oldest)
     }
 
-    /// Tests whether no table needs the oldest file of a queue, which isn't its last one.
+    /// Tests whether a queue has several files, and no table needs the oldest one.
     ///
     /// # Errors
     ///
@@ -127,37 +137,38 @@ impl<F: Files> Engine<F> {
         let Some(oldest) = self.oldest_closed_file(queue) else {
             return Ok(false);
         };
-        let regions = self.tables().regions()?;
+        let regions = self.lock_tables().regions()?;
         Ok(!regions
             .into_iter()
-            .any(|region| needs_file(&mut self.tables(), region, oldest)))
+            .any(|region| needs_file(&mut self.lock_tables_behind_others(), region, oldest)))
     }
 
-    /// Returns the regions that need the oldest append file, if there is another one behind it.
+    /// Returns the regions that need the oldest append file; none where there is no other one behind it.
     ///
     /// # Errors
     ///
     /// `Memory`.
-    fn holders(&self) -> Result<Vec<Holder>> {
+    fn find_holders(&self) -> Result<Vec<Holder>> {
         let Some(oldest) = self.oldest_closed_file(Queue::Append) else {
             return Ok(Vec::new());
         };
-        let regions = self.tables().regions()?;
+        let regions = self.lock_tables().regions()?;
         let holders = regions.into_iter().filter_map(|region| {
-            let mut tables = self.tables();
+            let mut tables = self.lock_tables_behind_others();
             needs_file(&mut tables, region, oldest).then(|| holder_of(&mut tables, region, oldest))
         });
         Ok(holders.collect())
     }
 
-    /// Returns up to which append file records have to move so that half of what may stay is left, if there are too many bytes.
+    /// Returns up to which append file records have to move so that half of [`Options::purge_above`](crate::Options::purge_above) is
+    /// left; `None` where the append files have no more bytes than that.
     fn gate_due(&self) -> Option<u64> {
         let numbers = locks::lock(&self.numbers);
-        let mut bytes = numbers.bytes(Queue::Append);
+        let mut bytes = numbers.count_bytes(Queue::Append);
         if bytes <= self.options.purge_above {
             return None;
         }
-        let (last, _) = numbers.last(Queue::Append)?;
+        let (last, _) = numbers.last_file(Queue::Append)?;
         let closed = numbers
             .files(Queue::Append)
             .filter(|(file, _)| *file != last);
@@ -172,7 +183,8 @@ impl<F: Files> Engine<F> {
         gate
     }
 
-    /// Tests whether the rewrite queue has too many bytes, and too many of them aren't needed.
+    /// Tests whether the records of the rewrite queue are to move again: it has more bytes than the options allow, and as many of a
+    /// hundred as they say aren't needed.
     ///
     /// # Errors
     ///
@@ -180,41 +192,33 @@ impl<F: Files> Engine<F> {
     fn is_moving_again_due(&self) -> Result<bool> {
         let (bytes, needed) = {
             let numbers = locks::lock(&self.numbers);
-            (numbers.bytes(Queue::Rewrite), numbers.needed_rewritten)
+            (
+                numbers.count_bytes(Queue::Rewrite),
+                numbers.needed_rewritten,
+            )
         };
         if bytes <= self.options.purge_above {
             return Ok(false);
         }
-        let needed = needed.map_or_else(|| self.needed_rewritten(), Ok)?;
+        let needed = needed.map_or_else(|| self.count_needed_rewritten(), Ok)?;
         let garbage = u128::from(bytes.saturating_sub(needed));
         Ok(garbage * 100 >= u128::from(bytes) * u128::from(self.options.purge_garbage))
     }
 
-    /// Counts the bytes that tables need of the rewrite queue, and notes how many these are.
+    /// Counts the bytes that the tables need of the rewrite queue, and notes their number.
     ///
     /// # Errors
     ///
     /// `Memory`.
-    fn needed_rewritten(&self) -> Result<u64> {
-        let regions = self.tables().regions()?;
-        let needed = regions.into_iter().try_fold(0, |sum, region| {
-            Ok(sum + rewritten_bytes(&mut self.tables(), region)?)
-        })?;
+    fn count_needed_rewritten(&self) -> Result<u64> {
+        let mut needed = 0;
+        let regions = self.lock_tables().regions()?;
+        for region in regions {
+            needed += self.count_rewritten(region)?;
+        }
         locks::lock(&self.numbers).needed_rewritten = Some(needed);
         Ok(needed)
     }
-}
-
-/// Returns how many bytes a region's entries have in rewrite files, and all its keys with their
-/// values, which may stand there. The only error is `Memory`.
-fn rewritten_bytes(tables: &mut EngineHandle, region: u64) -> Result<u64> {
-    let entries = places_of_range(tables, region, &(..), None)?;
-    let rewritten = entries
-        .iter()
-        .filter(|entry| entry.block.file.queue == Queue::Rewrite)
-        .map(|entry| u64::from(entry.len));
-    let of_pairs = tables.scan(region, b"", None)?.bytes.len() as u64;
-    Ok(rewritten.sum::<u64>() + of_pairs)
 }
 
 /// Tests whether a region needs a file, or an older one of its queue.
@@ -226,7 +230,8 @@ fn needs_file(tables: &mut EngineHandle, region: u64, file: FileId) -> bool {
     oldest.is_some_and(|seq| seq <= file.seq)
 }
 
-/// Says what a region has in the oldest append file, which it needs. Its entries there are the first ones that haven't moved.
+/// Returns what a region has in `file`, the oldest append file, which it needs. Its entries there are the first ones that haven't
+/// moved.
 fn holder_of(tables: &mut EngineHandle, region: u64, file: FileId) -> Holder {
     let summary = tables.summary(region).unwrap_or_default();
     let first = summary.first_index.unwrap_or(0);

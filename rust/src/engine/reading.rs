@@ -10,7 +10,7 @@ use std::ops::{Bound, Range, RangeBounds};
 const LOOK_UPS: usize = 4;
 
 impl<F: Files> Engine<F> {
-    /// Returns an entry of a region, if there is one.
+    /// Returns the bytes of the entry of a region at an index; `None` where the region has no entry there.
     ///
     /// ```
     /// # use raft_recover::{Engine, LogBatch, MemoryFiles, Options};
@@ -31,7 +31,8 @@ impl<F: Files> Engine<F> {
         self.entry_with(region, index, <[u8]>::to_vec)
     }
 
-    /// Lends an entry of a region to a call, if there is one, and returns what that returns. The bytes aren't copied.
+    /// Lends the entry of a region at an index to a call, and returns what that returns; `None`, without a call, where the region
+    /// has no entry there. The bytes aren't copied.
     ///
     /// ```
     /// # use raft_recover::{Engine, LogBatch, MemoryFiles, Options};
@@ -53,16 +54,21 @@ impl<F: Files> Engine<F> {
         index: u64,
         call: impl FnOnce(&[u8]) -> T,
     ) -> Result<Option<T>> {
-        let found = self.read(
+        self.check_readable()?;
+        let found = self.lock_tables().entry(region, index);
+        let kept = found.and_then(|entry| EntryBytes::of_kept(self, &entry));
+        if let Some(kept) = kept {
+            return Ok(Some(call(kept.as_slice())));
+        }
+        let read = self.read_places(
+            found,
             |tables| Ok(tables.entry(region, index)),
             |found| {
-                let read = found
-                    .as_ref()
-                    .map(|entry| EntryBytes::read(self, region, entry));
+                let read = found.map(|entry| EntryBytes::read(self, region, &entry));
                 read.transpose()
             },
         )?;
-        Ok(found.map(|entry| call(entry.as_slice())))
+        Ok(read.map(|entry| call(entry.as_slice())))
     }
 
     /// Lends the entries of a range of indexes to a call, one after another, each with its index. They aren't copied, and all of
@@ -114,7 +120,7 @@ impl<F: Files> Engine<F> {
     /// begins; `EntryNotFound` where it ends behind the last one, or the region has none, with the last index of the range.
     /// `Corruption` where bytes were damaged since they were written; `Io`, `Memory`, `Failed`.
     pub fn entries(&self, region: u64, range: impl RangeBounds<u64>) -> Result<Entries> {
-        self.read(
+        self.find_and_read(
             |tables| places_of_range(tables, region, &range, None),
             |found| Entries::read(self, region, found),
         )
@@ -142,13 +148,13 @@ impl<F: Files> Engine<F> {
         range: impl RangeBounds<u64>,
         max_size: u64,
     ) -> Result<Entries> {
-        self.read(
+        self.find_and_read(
             |tables| places_of_range(tables, region, &range, Some(max_size)),
             |found| Entries::read(self, region, found),
         )
     }
 
-    /// Returns the value of a region's key, if there is one.
+    /// Returns the value of a region's key; `None` where the key has no value.
     ///
     /// ```
     /// # use raft_recover::{Engine, LogBatch, MemoryFiles, Options};
@@ -193,7 +199,7 @@ impl<F: Files> Engine<F> {
         Pairs::of(found)
     }
 
-    /// Returns the least index of a region's entries, if it has some.
+    /// Returns the least index of a region's entries; `None` where it has no entries.
     ///
     /// ```
     /// # use raft_recover::{Engine, LogBatch, MemoryFiles, Options};
@@ -212,7 +218,7 @@ impl<F: Files> Engine<F> {
         self.look_up(|tables| Ok(tables.first_index(region)))
     }
 
-    /// Returns the greatest index of a region's entries, if it has some.
+    /// Returns the greatest index of a region's entries; `None` where it has no entries.
     ///
     /// ```
     /// # use raft_recover::{Engine, LogBatch, MemoryFiles, Options};
@@ -231,7 +237,7 @@ impl<F: Files> Engine<F> {
         self.look_up(|tables| Ok(tables.last_index(region)))
     }
 
-    /// Returns what a region's table has, if there is one.
+    /// Returns what a region's table has; `None` where the region has no table.
     ///
     /// ```
     /// # use raft_recover::{Engine, LogBatch, MemoryFiles, Options};
@@ -252,7 +258,7 @@ impl<F: Files> Engine<F> {
         self.look_up(|tables| Ok(tables.summary(region)))
     }
 
-    /// Returns all regions that have a table.
+    /// Returns all regions that have a table, in rising order.
     ///
     /// ```
     /// # use raft_recover::{Engine, LogBatch, MemoryFiles, Options};
@@ -271,36 +277,54 @@ impl<F: Files> Engine<F> {
         self.look_up(EngineHandle::regions)
     }
 
-    /// Reads what a call finds, by another one. It may move before it is read: then it is found again, at last in a turn, in which
-    /// nothing moves.
-    fn read<P: PartialEq, T>(
+    /// Finds places by the call `find`, and returns what the call `read` reads there. They may move before they are read: then
+    /// they are found again, the last time in a turn, in which nothing moves.
+    ///
+    /// # Errors
+    ///
+    /// `Failed` where the tables can't be read; those of `find`; those of `read` in that turn.
+    fn find_and_read<P: PartialEq, T>(
         &self,
         find: impl Fn(&mut EngineHandle) -> Result<P>,
         read: impl Fn(&P) -> Result<T>,
     ) -> Result<T> {
-        let mut before = None;
+        self.read_places(self.look_up(&find)?, find, read)
+    }
+
+    /// Returns what the call `read` reads at the places `found`, which the call `find` has found. They may move before they are read:
+    /// then they are found again, the last time in a turn, in which nothing moves.
+    ///
+    /// # Errors
+    ///
+    /// Those of [`Engine::find_and_read`].
+    fn read_places<P: PartialEq, T>(
+        &self,
+        mut found: P,
+        find: impl Fn(&mut EngineHandle) -> Result<P>,
+        read: impl Fn(&P) -> Result<T>,
+    ) -> Result<T> {
         for _ in 0..LOOK_UPS {
-            let found = self.look_up(&find)?;
-            if before.as_ref() == Some(&found) {
-                break; // it hasn't moved
-            }
             if let Ok(answer) = read(&found) {
                 return Ok(answer);
             }
-            before = Some(found);
+            let again = self.look_up(&find)?;
+            if again == found {
+                break; // it hasn't moved
+            }
+            found = again;
         }
-        let _turn = self.turns.take();
+        let _turn = self.turns.take_turn();
         read(&self.look_up(&find)?)
     }
 
-    /// Makes a call that reads the tables, under their lock.
+    /// Makes a call that reads the tables, under their lock, and returns what it finds.
     ///
     /// # Errors
     ///
     /// `Failed` where they can't be read; those of the call.
     fn look_up<T>(&self, call: impl FnOnce(&mut EngineHandle) -> Result<T>) -> Result<T> {
         self.check_readable()?;
-        call(&mut self.tables())
+        call(&mut self.lock_tables())
     }
 }
 
@@ -315,7 +339,7 @@ pub(super) fn places_of_range(
     range: &impl RangeBounds<u64>,
     max_size: Option<u64>,
 ) -> Result<Vec<Entry>> {
-    match closed_range(tables, region, range) {
+    match close_range(tables, region, range) {
         Some(range) => tables
             .entries(region, range.clone(), max_size)
             .map_err(|e| name_missing_entry(e, region, &range)),
@@ -323,20 +347,22 @@ pub(super) fn places_of_range(
     }
 }
 
-/// Says of the refusal of a range which of its entries isn't there: the first one, or the last.
+/// Returns the refusal of a range with the entry that isn't there, the first one or the last; a refusal for another reason as it is.
 fn name_missing_entry(refused: Error, region: u64, range: &Range<u64>) -> Error {
     let index = match refused.kind {
         ErrorKind::EntryCompacted => range.start,
         ErrorKind::EntryNotFound => range.end - 1,
         _ => return refused,
     };
-    let mut refused = refused.about(region, Some(index));
+    let mut refused = refused.with_region(region, Some(index));
     refused.text += &format!(": region {region}, index {index}");
     refused
 }
 
-/// Closes those bounds of a range of indexes that are open, and returns the range, unless it is empty.
-fn closed_range(
+/// Returns the indexes of `range` as `start..end`. A bound that is missing is that of the entries that `region` has. `None` if
+/// the range is empty, or if a bound is missing and the region has no entries. Whether the region has all of these entries
+/// isn't tested.
+fn close_range(
     tables: &mut EngineHandle,
     region: u64,
     range: &impl RangeBounds<u64>,

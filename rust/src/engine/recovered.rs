@@ -1,10 +1,10 @@
-//! What was cut off the files of an engine when it was opened.
+//! What was found in the files of an engine when it was opened that can't be read.
 
 use crate::{Error, FileId};
 use std::fmt;
 
-/// What was cut off the files of an engine when it was opened: the tail of each queue's last file, where it couldn't be read to its
-/// end.
+/// What was found in the files of an engine when it was opened that can't be read: the tail of each queue's last file, which was cut
+/// off, and the batches of the last append file whose entries are damaged, which were kept.
 ///
 /// ```
 /// use raft_recover::{Engine, ErrorKind, Files, LogBatch, MemoryFiles, Options, Queue};
@@ -25,15 +25,19 @@ use std::fmt;
 /// assert_eq!((cut.file.seq, cut.offset, cut.len), (1, whole, 11));
 /// assert_eq!(cut.reason.as_ref().unwrap().kind, ErrorKind::Corruption);
 /// assert_eq!(engine.recovered().rewrite, None);
+/// assert_eq!(engine.recovered().damaged, []);
 /// # Ok::<(), raft_recover::Error>(())
 /// ```
 #[derive(Clone, PartialEq, Eq, Hash, Debug, Default)]
 #[non_exhaustive]
 pub struct Recovered {
-    /// Off the last append file.
+    /// What was cut off the last append file; `None` where it could be read to its end.
     pub append: Option<CutTail>,
-    /// Off the last rewrite file.
+    /// What was cut off the last rewrite file; `None` where it could be read to its end.
     pub rewrite: Option<CutTail>,
+    /// The batches of the last append file whose entries are damaged, first to last. The blocks of
+    /// all other entries of that file are sound.
+    pub damaged: Vec<DamagedBatch>,
 }
 
 /// The end of a queue's last file, which was cut off as no batch can be read where it begins.
@@ -58,12 +62,52 @@ pub struct CutTail {
     pub offset: u64,
     /// How many bytes were cut off.
     pub len: u64,
-    /// Why the batch there can't be read.
+    /// Why no batch can be read there.
     pub reason: Option<Error>,
 }
 
+/// A batch of the last append file whose entries are damaged: a crash came before all of its pages were written, on a disk that
+/// writes them in any order, or they were damaged later. It is kept, with its keys and commands, and all batches behind it are;
+/// its entries are refused when they are read, at the offset of their block, which stands behind the 16 bytes of the batch's
+/// header.
+///
+/// It shows as a line for people:
+///
+/// ```
+/// use raft_recover::{Engine, LogBatch, MemoryFiles, Options, Queue};
+///
+/// let files = MemoryFiles::new();
+/// let engine = Engine::with_files(files.clone(), Options::new())?;
+/// let mut batch = LogBatch::new()?;
+/// batch.add_entries(7, 1, &["an entry"])?;
+/// engine.write(&mut batch, true)?;
+/// batch.put(7, b"key", b"value")?;
+/// engine.write(&mut batch, true)?;
+///
+/// let mut append = files.files(Queue::Append);
+/// append[0].1[16] ^= 1; // the first byte of the entry
+/// let engine = Engine::with_files(MemoryFiles::found(append, vec![]), Options::new())?;
+/// let damaged = &engine.recovered().damaged;
+/// assert_eq!((damaged.len(), damaged[0].offset), (1, 0));
+/// assert_eq!(damaged[0].to_string(), "append file 1, offset 0: the entries of this batch are damaged");
+/// let refused = engine.entry(7, 1).unwrap_err();
+/// assert_eq!((refused.file, refused.offset), (Some(damaged[0].file), Some(16)));
+/// assert_eq!(engine.get(7, b"key")?.unwrap(), b"value");
+/// # Ok::<(), raft_recover::Error>(())
+/// ```
+#[derive(Clone, PartialEq, Eq, Hash, Debug)]
+#[non_exhaustive]
+pub struct DamagedBatch {
+    /// The file.
+    pub file: FileId,
+    /// Where in the file the batch begins.
+    pub offset: u64,
+    /// Why its entries can't be read.
+    pub reason: Error,
+}
+
 impl Recovered {
-    /// Returns what was cut off, if anything was.
+    /// Returns the tails that were cut off, that of the append queue first: one, both or no one.
     ///
     /// ```
     /// # use raft_recover::{Engine, MemoryFiles, Options};
@@ -75,6 +119,14 @@ impl Recovered {
     /// ```
     pub fn cuts(&self) -> impl Iterator<Item = &CutTail> {
         self.append.iter().chain(&self.rewrite)
+    }
+}
+
+impl fmt::Display for DamagedBatch {
+    /// Shows the reason, which begins with the file and the offset, without its kind.
+    fn fmt(&self, f: &mut fmt::Formatter<'_>) -> fmt::Result {
+        let text = &self.reason.text;
+        f.pad(text.strip_prefix("Corruption: ").unwrap_or(text))
     }
 }
 

@@ -28,7 +28,7 @@ pub struct Stats {
     pub batches: u64,
     /// How many syncs were made. Threads that write at the same time share them.
     pub syncs: u64,
-    /// How long these took, together.
+    /// How long all syncs took together.
     pub sync_time: Duration,
     /// How long the opening took.
     pub opening: Duration,

@@ -24,8 +24,8 @@ struct Line {
 pub(super) struct Having<'a>(&'a Turns);
 
 impl Turns {
-    /// Waits until nobody else has the turn, and takes it.
-    pub(super) fn take(&self) -> Having<'_> {
+    /// Takes the turn, once all threads that came before have given it back.
+    pub(super) fn take_turn(&self) -> Having<'_> {
         let mut line = locks::lock(&self.line);
         let number = line.next;
         line.next += 1;

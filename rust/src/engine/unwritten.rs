@@ -20,10 +20,10 @@ struct Piece {
 }
 
 impl Unwritten {
-    /// Notes the bytes of orders, which are carried out in turn on files with these lengths.
+    /// Notes the bytes that orders write, where they are carried out in turn on files with the lengths of `numbers`.
     pub(super) fn note(&self, orders: &[Order], numbers: &Numbers) {
-        let mut ends = [Queue::Append, Queue::Rewrite].map(|queue| numbers.last(queue));
-        let mut pieces = locks::write(&self.0);
+        let mut ends = [Queue::Append, Queue::Rewrite].map(|queue| numbers.last_file(queue));
+        let mut pieces = locks::lock_to_change(&self.0);
         for order in orders {
             match order {
                 Order::Begin(file) => ends[file.queue as usize] = Some((*file, 0)),
@@ -48,14 +48,15 @@ impl Unwritten {
         }
     }
 
-    /// Forgets the oldest ones, which are in their file now.
+    /// Forgets the bytes of the oldest order, which stand in their file now.
     pub(super) fn forget_oldest(&self) {
-        locks::write(&self.0).pop_front();
+        locks::lock_to_change(&self.0).pop_front();
     }
 
-    /// Fills bytes with those of a file from an offset on, if all of these are among those that aren't written.
-    pub(super) fn read(&self, file: FileId, offset: u64, bytes: &mut [u8]) -> bool {
-        let pieces = locks::read(&self.0);
+    /// Fills `bytes` with those of a file from `offset` on, where all of them are to be written by one order. Returns whether they
+    /// are; elsewhere nothing is filled.
+    pub(super) fn read_into(&self, file: FileId, offset: u64, bytes: &mut [u8]) -> bool {
+        let pieces = locks::lock_to_read(&self.0);
         let found = pieces.iter().find_map(|piece| {
             let from = offset.checked_sub(piece.offset)?;
             let from = usize::try_from(from).ok()?;

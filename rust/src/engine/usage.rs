@@ -1,8 +1,11 @@
 //! How much of the files is needed.
 
+use super::reading::places_of_range;
 use super::{Engine, locks};
-use crate::sys::EngineHandle;
-use crate::{Files, Queue, Result};
+use crate::{Entry, Files, Queue, Result};
+
+/// Of how many entries the places are looked up under one lock of the tables.
+const LOOKED_UP_AT_ONCE: u64 = 1024;
 
 /// How many bytes of the files of both queues are needed, and how many aren't.
 ///
@@ -62,7 +65,7 @@ impl QueueUsage {
 
 impl<F: Files> Engine<F> {
     /// Counts how many bytes of the files are needed, and how many aren't. It looks at each entry and each key, while others may
-    /// write between two regions: [`Engine::stats`] is cheap.
+    /// write: [`Engine::stats`] is cheap.
     ///
     /// ```
     /// # use raft_recover::{Engine, LogBatch, MemoryFiles, Options};
@@ -84,16 +87,16 @@ impl<F: Files> Engine<F> {
     /// `Memory`, `Failed`.
     pub fn usage(&self) -> Result<Usage> {
         self.check_readable()?;
-        let regions = self.tables().regions()?;
         let mut live = [0, 0];
+        let regions = self.lock_tables().regions()?;
         for region in regions {
-            let here = live_in(&mut self.tables(), region)?;
+            let here = self.count_live_bytes(region)?;
             live = [live[0] + here[0], live[1] + here[1]];
         }
         let numbers = locks::lock(&self.numbers);
         let of = |queue: Queue| {
             let live = live[queue as usize];
-            let dead = numbers.bytes(queue).saturating_sub(live);
+            let dead = numbers.count_bytes(queue).saturating_sub(live);
             QueueUsage { live, dead }
         };
         Ok(Usage {
@@ -101,20 +104,68 @@ impl<F: Files> Engine<F> {
             rewrite: of(Queue::Rewrite),
         })
     }
-}
 
-/// Returns how many bytes the records of a region have in the append files, and in the rewrite
-/// files. Its keys with their values all count for the rewrite files where the region has anything
-/// there, and else for the append files. The only error is `Memory`.
-fn live_in(tables: &mut EngineHandle, region: u64) -> Result<[u64; 2]> {
-    let mut live = [0, 0];
-    for entry in super::reading::places_of_range(tables, region, &(..), None)? {
-        live[entry.block.file.queue as usize] += u64::from(entry.len);
+    /// Counts the bytes that the records of a region have in the append files, and in the rewrite files. Its keys with their values
+    /// all count for the rewrite files where the region has anything there, and else for the append files.
+    ///
+    /// # Errors
+    ///
+    /// `Memory`.
+    fn count_live_bytes(&self, region: u64) -> Result<[u64; 2]> {
+        let mut live = [0, 0];
+        self.visit_places(region, |entry| {
+            live[entry.block.file.queue as usize] += u64::from(entry.len);
+            true
+        })?;
+        let mut tables = self.lock_tables_behind_others();
+        let summary = tables.summary(region).unwrap_or_default();
+        let queue = summary
+            .rewrite_seq
+            .map_or(Queue::Append, |_| Queue::Rewrite);
+        live[queue as usize] += tables.scan(region, b"", None)?.bytes.len() as u64;
+        Ok(live)
     }
-    let summary = tables.summary(region).unwrap_or_default();
-    let queue = summary
-        .rewrite_seq
-        .map_or(Queue::Append, |_| Queue::Rewrite);
-    live[queue as usize] += tables.scan(region, b"", None)?.bytes.len() as u64;
-    Ok(live)
+
+    /// Counts the bytes of a region's entries in rewrite files, and of all its keys with their values, which may stand there.
+    ///
+    /// # Errors
+    ///
+    /// `Memory`.
+    pub(super) fn count_rewritten(&self, region: u64) -> Result<u64> {
+        let mut bytes = 0;
+        self.visit_places(region, |entry| {
+            let is_rewritten = entry.block.file.queue == Queue::Rewrite;
+            if is_rewritten {
+                bytes += u64::from(entry.len);
+            }
+            is_rewritten // entries that moved stand in front of all others
+        })?;
+        let pairs = self.lock_tables_behind_others().scan(region, b"", None)?;
+        Ok(bytes + pairs.bytes.len() as u64)
+    }
+
+    /// Visits the places of a region's entries in order, as long as `visit` returns true. The tables are locked for some of them at
+    /// a time: of a region that changes meanwhile it may meet what was there before or after.
+    ///
+    /// # Errors
+    ///
+    /// `Memory`.
+    fn visit_places(&self, region: u64, mut visit: impl FnMut(&Entry) -> bool) -> Result<()> {
+        let mut from = 0;
+        loop {
+            let mut tables = self.lock_tables_behind_others();
+            let first = tables.first_index(region).map(|first| first.max(from));
+            let end = tables.last_index(region).map(|last| last + 1);
+            let (Some(start), Some(end)) = (first, end) else {
+                return Ok(());
+            };
+            let to = end.min(start.saturating_add(LOOKED_UP_AT_ONCE));
+            let places = places_of_range(&mut tables, region, &(start..to), None)?;
+            drop(tables);
+            if places.is_empty() || !places.iter().all(&mut visit) {
+                return Ok(());
+            }
+            from = to;
+        }
+    }
 }

@@ -32,11 +32,11 @@ impl<F: Files> Engine<F> {
     /// room in a folder for the batch, it is kept and written by the next change, such as this same call; where there was none
     /// for an earlier one yet, the batch is as it was.
     pub fn write(&self, batch: &mut LogBatch, sync: bool) -> Result<()> {
-        self.changeable("write")?;
+        self.check_changeable("write")?;
         self.write_in_turn(batch, sync)
     }
 
-    /// Syncs the append queue: all that was written outlasts a crash then.
+    /// Syncs the append queue: no crash takes away what was written before.
     ///
     /// ```
     /// # use raft_recover::{Engine, LogBatch, MemoryFiles, Options};
@@ -44,7 +44,7 @@ impl<F: Files> Engine<F> {
     /// # let mut batch = LogBatch::new()?;
     /// batch.put(7, b"key", b"value")?;
     /// engine.write(&mut batch, false)?;
-    /// engine.sync()?; // it lasts from here on
+    /// engine.sync()?; // no crash loses it from here on
     /// # Ok::<(), raft_recover::Error>(())
     /// ```
     ///
@@ -52,11 +52,11 @@ impl<F: Files> Engine<F> {
     ///
     /// `Memory`, `Io`, `Failed`: the engine has failed, but for `Memory`.
     pub fn sync(&self) -> Result<()> {
-        self.changeable("sync")?;
+        self.check_changeable("sync")?;
         self.write_in_turn(&mut LogBatch::new()?, true)
     }
 
-    /// Hands in a batch, and waits until a thread has written it, this one or another.
+    /// Hands in a batch, with `sync` to be synced too, and waits until a thread has written it, this one or another.
     ///
     /// # Errors
     ///
@@ -69,15 +69,16 @@ impl<F: Files> Engine<F> {
     /// Writes the batches of all threads that wait, syncs once for those who want that, if its own is among them, and begins a file
     /// where it is due.
     fn lead(&self, group: &mut Group<'_>) {
-        let turn = self.turn();
-        group.take();
+        let turn = self.wait_for_turn();
+        group.take_waiting();
         match turn {
             Ok(turn) => self.write_group(&turn, group),
-            Err(e) => group.end(&Err(e)),
+            Err(e) => group.end_with(&Err(e)),
         }
     }
 
-    /// Writes the batches of a group by one call, lets the threads go that want no sync, and syncs for the others.
+    /// Writes the batches of a group in one turn, lets the threads go on that want no sync, and syncs for the others. What is
+    /// refused is noted with the batches.
     fn write_group(&self, turn: &Turn<'_, F>, group: &mut Group<'_>) {
         let written = turn.call(|tables| {
             for commit in group.commits() {
@@ -87,12 +88,12 @@ impl<F: Files> Engine<F> {
         });
         locks::lock(&self.numbers).batches += group.count_written();
         if written.is_err() {
-            return group.end(&written);
+            return group.end_with(&written);
         }
         group.release_unsynced();
         if group.is_sync_due() {
             let synced = turn.call(EngineHandle::sync);
-            group.end(&synced);
+            group.end_with(&synced);
         }
         self.rotate_if_due(turn);
     }

@@ -57,11 +57,11 @@ impl LogBatch {
     ) -> Result<()> {
         self.room.clear();
         for (at, message) in messages.iter().enumerate() {
-            let encoded = self.room.push_by(|bytes| message.encode(bytes));
+            let encoded = self.room.push_with(|bytes| message.encode(bytes));
             encoded.map_err(|e| {
                 let index = first.saturating_add(at as u64);
                 let place = format_args!("region {region}, entry {index}");
-                Error::message(place, e).about(region, Some(index))
+                Error::message(place, e).with_region(region, Some(index))
             })?;
         }
         self.add_packed(region, first)
@@ -81,7 +81,7 @@ impl LogBatch {
         Ok(())
     }
 
-    /// Makes a call that adds so many entries, and notes what they look like.
+    /// Makes a call that adds `count` entries of a region, the first of them at the index `first`, and notes the shape of the item.
     ///
     /// # Errors
     ///
@@ -202,7 +202,7 @@ impl LogBatch {
         let mut value = Vec::new();
         message.encode(&mut value).map_err(|e| {
             let key = key.escape_ascii();
-            Error::message(format_args!("region {region}, key {key}"), e).about(region, None)
+            Error::message(format_args!("region {region}, key {key}"), e).with_region(region, None)
         })?;
         self.put(region, key, &value)
     }

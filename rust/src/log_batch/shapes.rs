@@ -41,7 +41,7 @@ impl Shapes {
         self.0.try_reserve(1).map_err(|_| Error::memory())
     }
 
-    /// Makes room for those of another batch.
+    /// Makes room for the shapes of all items of another batch.
     ///
     /// # Errors
     ///
@@ -65,9 +65,10 @@ impl Shapes {
         self.0.clear();
     }
 
-    /// Finds the first item whose entries leave a hole behind those of their region, or begin in front of them, with the region and
-    /// the first index. A call finds what a region had before all items, if it is tested.
-    pub(super) fn misfit(
+    /// Finds the first item whose entries leave a hole behind those of their region, or begin below them, if the items before
+    /// it are applied: its number from 0 on, its region, and its first index; `None` if all fit. Only regions for which
+    /// `is_tested` holds are looked at; `summary` finds what a region had before all items.
+    pub(super) fn find_misfit(
         &self,
         is_tested: impl Fn(u64) -> bool,
         mut summary: impl FnMut(u64) -> Option<Summary>,
@@ -79,7 +80,7 @@ impl Shapes {
             let now = extents
                 .entry(*region)
                 .or_insert_with(|| extent_of(summary(*region)));
-            let misfit = shape.misfit(now);
+            let misfit = shape.misfit_index(now);
             *now = shape.extent_after(now);
             misfit.map(|index| (item, *region, index))
         })
@@ -87,8 +88,9 @@ impl Shapes {
 }
 
 impl Shape {
-    /// Returns the first index of the item's entries, if it has some and they don't go on with those of its region.
-    fn misfit(self, extent: &Extent) -> Option<u64> {
+    /// Returns the first index of the item's entries where they don't fit `extent`, where those of its region are; `None` where they
+    /// fit, or it has none.
+    fn misfit_index(self, extent: &Extent) -> Option<u64> {
         match (self, extent) {
             (Shape::Run { first, .. }, Some(extent)) => {
                 let fits = (extent.start..=extent.end).contains(&first);
@@ -98,7 +100,7 @@ impl Shape {
         }
     }
 
-    /// Returns the extent of a region's entries that the item leaves of this one.
+    /// Returns where a region's entries are behind the item, which were at `extent` in front of it.
     fn extent_after(self, extent: &Extent) -> Extent {
         let extent = extent.clone();
         let kept = match self {
@@ -112,7 +114,7 @@ impl Shape {
     }
 }
 
-/// Returns where the entries of a region begin and end that has this.
+/// Returns where the entries of a region begin and end by its summary; `None` where there is none, or it has no entries.
 fn extent_of(summary: Option<Summary>) -> Extent {
     let summary = summary?;
     let first = summary.first_index?;

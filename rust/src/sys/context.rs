@@ -17,11 +17,13 @@ struct KeptNumbers {
 }
 
 unsafe extern "C" {
-    /// Makes a context that has read nothing.
+    /// Makes a context that has read nothing in `context`, which is empty before. Returns 0, or 11
+    /// (`Memory`): it stays empty then.
     fn raft_ffi_context_new(context: *mut Handle) -> u32;
-    /// Replays the batches of bytes that stand in the file from `offset` on. Where that is refused
-    /// the context is gone: it may have taken in some of them. The status is 12 where the context
-    /// doesn't read on.
+    /// Replays `bytes`, batches that stand in `file` from `offset` on. The code is 0; that of the
+    /// error if a batch can't be read or can't follow those before it; 12 (`Failed`), if the
+    /// context doesn't read on; or 11 (`Memory`). After an error the context is gone: it may have
+    /// taken in some of the batches.
     fn raft_ffi_context_replay(
         context: *mut Handle,
         file: File,
@@ -31,8 +33,9 @@ unsafe extern "C" {
         text: *mut u8,
         text_len: usize,
     ) -> Status;
-    /// Takes in the context of the batches that follow. That one is gone then, and where it is
-    /// refused both are.
+    /// Takes in `newer`, the context of the batches that follow in the same queue, and which is
+    /// gone then. The code is 0, or that of the error: 12 (`Failed`), if one of both doesn't read
+    /// on. After an error the context is gone too.
     fn raft_ffi_context_merge(
         context: *mut Handle,
         newer: Handle,
@@ -40,22 +43,27 @@ unsafe extern "C" {
         text: *mut u8,
         text_len: usize,
     ) -> Status;
-    /// Takes in the context of the append queue; the other one is that of the rewrite queue. That
-    /// one is gone then, and where it is refused both are.
+    /// Takes in `append`, the context of the append queue, which is gone then; `context` is that of
+    /// the rewrite queue. The code is 0, or that of the error: 12 (`Failed`), if one of both
+    /// doesn't read on, or 11 (`Memory`), the only one if they are contexts of the two queues.
+    /// After an error the context is gone too.
     fn raft_ffi_context_overlay(
         context: *mut Handle,
         append: Handle,
         text: *mut u8,
         text_len: usize,
     ) -> Status;
-    /// Says how much a context holds. The number is 12 where it was refused something.
+    /// Sets `kept` to how much a context holds. The code is 0, or 12 (`Failed`) for a context that
+    /// failed. The context is unchanged.
     fn raft_ffi_context_kept(
         context: *mut Handle,
         kept: *mut KeptNumbers,
         text: *mut u8,
         text_len: usize,
     ) -> Status;
-    /// Makes the tables of a context, which is gone then, also where that is refused.
+    /// Makes the tables of a context in `tables`, which is empty before. The context is gone then.
+    /// The code is 0; 12 (`Failed`), for a context that failed; or 11 (`Memory`). `tables` stays
+    /// empty after an error.
     fn raft_ffi_context_finish(
         context: Handle,
         tables: *mut Handle,
@@ -95,7 +103,7 @@ impl ContextHandle {
     ///
     /// The refusal of the first batch that is refused. The context is then gone.
     pub(crate) fn replay(self, part: FilePart<'_>) -> Result<ContextHandle> {
-        part.check()?;
+        part.check_end()?;
         let mut handle = self.into_raw();
         // SAFETY: `held`, `ends`: the handle holds a context, and the bytes end where an offset can. After a refusal
         // the handle is empty.

@@ -11,29 +11,29 @@ use super::engine_calls::{
     raft_ffi_engine_value, raft_ffi_engine_write,
 };
 use super::{
-    EntryNumbers, Handle, LogBatchHandle, PackedPairs, Status, SummaryNumbers, check_call, entries,
-    list, list_in, make_room, memory_result, packed_pairs,
+    EntryNumbers, Handle, LogBatchHandle, PackedPairs, Status, SummaryNumbers, check_call,
+    entries_of, list, list_in, list_packed_pairs, make_room, memory_result,
 };
 use crate::{Block, Entry, FileId, Queue, Result, Summary};
 use std::mem;
 use std::ops::Range;
 use std::sync::Arc;
 
-/// How many bytes most values have at most: these are copied by one call.
+/// How many bytes most values have at most. A value that isn't longer is copied by one call.
 const MOST_VALUES: usize = 64;
 
 /// What is to be done to the files of a queue.
 #[derive(Debug)]
 pub(crate) enum Order {
-    /// These bytes behind those of the last file.
+    /// The bytes are to be written at the end of the last file.
     Write(Queue, Arc<Vec<u8>>),
-    /// A new file of this number.
+    /// The file is to be begun, behind the last one of its queue.
     Begin(FileId),
-    /// All of the queue is to last.
+    /// All that was ordered of the queue is to be safe from a crash.
     Sync(Queue),
-    /// The oldest file goes.
+    /// The oldest file of the queue is to be deleted.
     DeleteOldest(Queue),
-    /// The last file is to have this many bytes, if it has more.
+    /// The last file of the queue is to be cut to a length in bytes, if it is longer.
     Cut(Queue, u64),
 }
 
@@ -57,7 +57,7 @@ impl EngineHandle {
         }
     }
 
-    /// Says whether every batch whose bytes were ordered was applied.
+    /// Tests whether every batch whose bytes were ordered was applied.
     pub(crate) fn is_intact(&mut self) -> bool {
         // SAFETY: `held`: the handle holds an engine.
         unsafe { raft_ffi_engine_is_intact(&mut self.handle) }
@@ -78,7 +78,7 @@ impl EngineHandle {
         })
     }
 
-    /// Orders a sync of the append queue, so that all that was written outlasts a crash.
+    /// Orders a sync of the append queue, so that no crash takes away what was written.
     ///
     /// # Errors
     ///
@@ -157,7 +157,7 @@ impl EngineHandle {
         Ok(count)
     }
 
-    /// Makes a call that asks nothing but an engine.
+    /// Makes a call on the engine, with room for the text of its refusal.
     ///
     /// # Errors
     ///
@@ -196,8 +196,8 @@ impl EngineHandle {
         }
     }
 
-    /// Takes the oldest order, if there is one, and puts its bytes behind these. The only error is
-    /// `Memory`. The order is then not taken.
+    /// Takes the oldest order, and puts its bytes behind those of `bytes`; `None` where no order waits. The only error is `Memory`.
+    /// The order is then not taken.
     fn take_order(&mut self, bytes: &mut Vec<u8>) -> Result<Option<OrderNumbers>> {
         let len = bytes.len();
         loop {
@@ -229,8 +229,8 @@ impl EngineHandle {
         }
     }
 
-    /// Lists the blocks that a rewriting up to the gate, or one of rewritten records, reads: those
-    /// of whole regions, until they have `max_size` bytes. The only error is `Memory`.
+    /// Lists the blocks that a rewriting up to the file `gate` reads, or without a gate one of rewritten records: those of whole
+    /// regions, until they have `max_size` bytes. The only error is `Memory`.
     pub(crate) fn moving_blocks(
         &mut self,
         gate: Option<u64>,
@@ -301,7 +301,7 @@ impl EngineHandle {
         end: Option<&[u8]>,
     ) -> Result<PackedPairs> {
         let (is_bounded, end) = (end.is_some(), end.unwrap_or_default());
-        packed_pairs(|lens, lens_len, count, bytes, bytes_len, len| {
+        list_packed_pairs(|lens, lens_len, count, bytes, bytes_len, len| {
             // SAFETY: `held`: the handle holds an engine.
             memory_result(unsafe {
                 raft_ffi_engine_scan(
@@ -347,7 +347,7 @@ impl EngineHandle {
         is_found.then_some(index)
     }
 
-    /// Returns where the entry of a region at an index is, `None` where none stands there.
+    /// Returns the entry of a region at an index, with its place; `None` where the region has no entry there.
     pub(crate) fn entry(&mut self, region: u64, index: u64) -> Option<Entry> {
         let mut entry = EntryNumbers::default();
         // SAFETY: `held`: the handle holds an engine.
@@ -356,7 +356,7 @@ impl EngineHandle {
         is_found.then(|| entry.into())
     }
 
-    /// Lists the entries of a range, up to a maximal size in bytes.
+    /// Lists the entries of a range of a region's indexes, up to `max_size` bytes, if that is given.
     ///
     /// # Errors
     ///
@@ -384,7 +384,7 @@ impl EngineHandle {
                 )
             })
         })?;
-        Ok(entries(list))
+        Ok(entries_of(list))
     }
 
     /// Lists the regions that have a table, in rising order. The only error is `Memory`.
@@ -396,7 +396,7 @@ impl EngineHandle {
     }
 
     /// Counts the live records of a queue.
-    pub(crate) fn live(&mut self, queue: Queue) -> usize {
+    pub(crate) fn count_live(&mut self, queue: Queue) -> usize {
         // SAFETY: `held`: the handle holds an engine.
         unsafe { raft_ffi_engine_live(&mut self.handle, queue == Queue::Rewrite) }
     }

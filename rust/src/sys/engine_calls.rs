@@ -33,11 +33,16 @@ pub(super) struct TailNumbers {
 }
 
 unsafe extern "C" {
-    /// Opens files in a mode that readers have read, by the numbers and lengths of each queue's,
-    /// oldest first: the batches of its files, in order, up to where the last one can't be read, and
-    /// what stands there from that byte on. In mode 0 nothing is cut off, in mode 2 all from there
-    /// on, and in any other what a crash can leave. It says what was cut off from each queue. The
+    /// Makes an engine in `engine`, which is empty before, over files that two readers have read.
+    /// `append` and `rewrite` are the numbers and lengths of each queue's files, oldest first.
+    /// `appended` and `rewritten` have read their batches, in order, up to where the last file
+    /// can't be read, and `append_rest` and `rewrite_rest` are the bytes from there on. Both
     /// readers are gone then.
+    ///
+    /// `mode` says what may be cut off: nothing for 0; all from there on for 2; what a crash can
+    /// leave for any other. `append_tail` and `rewrite_tail` are set to what was cut off from each
+    /// queue, with the reason in `append_reason` and `rewrite_reason`. The code is 0, or that of
+    /// the error: `engine` stays empty then.
     pub(super) fn raft_ffi_engine_open(
         engine: *mut Handle,
         append: *const Size,
@@ -65,8 +70,10 @@ unsafe extern "C" {
     pub(super) fn raft_ffi_engine_drop(engine: Handle);
     /// Tests whether the engine takes further calls.
     pub(super) fn raft_ffi_engine_is_intact(engine: *mut Handle) -> bool;
-    /// Writes an open batch, which is empty then, to the tables, and orders that of the files. With
-    /// `sync` a sync is ordered behind it.
+    /// Writes `batch`, an open one, to the tables, and orders that it is put behind the last append
+    /// file; `batch` is without items then. With `sync` a sync is ordered behind it. The code is 0,
+    /// or that of the error: 12 (`Failed`), if the engine wasn't intact. If the engine is intact
+    /// after an error, it and the batch are as they were.
     pub(super) fn raft_ffi_engine_write(
         engine: *mut Handle,
         batch: *mut Handle,
@@ -74,43 +81,53 @@ unsafe extern "C" {
         text: *mut u8,
         text_len: usize,
     ) -> Status;
-    /// Orders a sync of the append queue.
+    /// Orders a sync of the append queue, so that all that was written outlasts a crash. The code
+    /// is 0; 12 (`Failed`), if the engine isn't intact; or that of the error with which no order
+    /// can be noted: the engine isn't intact any more then.
     pub(super) fn raft_ffi_engine_sync(
         engine: *mut Handle,
         text: *mut u8,
         text_len: usize,
     ) -> Status;
-    /// Begins a new file of the append queue.
+    /// Orders that the last append file is synced and a new one begun, in which the next batch is
+    /// put. The code is 0; 12 (`Failed`), if the engine isn't intact; 9 (`Full`), if no number of a
+    /// file or of an order is left; or 11 (`Memory`).
     pub(super) fn raft_ffi_engine_rotate(
         engine: *mut Handle,
         text: *mut u8,
         text_len: usize,
     ) -> Status;
-    /// Moves what the tables have in append files up to the gate to the rewrite queue. Where a
-    /// block is to be read that isn't lent the number is 6; the engine is intact, and some regions
-    /// may have moved. Lent blocks are let go.
+    /// Moves what the tables have in append files numbered at or below `gate` to the rewrite queue.
+    /// The code is 0, or that of the error: 12 (`Failed`), if the engine isn't intact; 6
+    /// (`TryAgain`), if a block is to be read that isn't lent: the engine is intact then, and some
+    /// regions may have moved. Lent blocks are dropped.
     pub(super) fn raft_ffi_engine_rewrite(
         engine: *mut Handle,
         gate: u64,
         text: *mut u8,
         text_len: usize,
     ) -> Status;
-    /// Moves what the tables have in rewrite files to a new one of them. Where a block is to be
-    /// read that isn't lent the number is 6; the engine is intact, and some regions may have moved.
-    /// Lent blocks are let go.
+    /// Moves what the tables have in rewrite files to a new one of them. The code is 0, or that of
+    /// the error: 12 (`Failed`), if the engine isn't intact; 6 (`TryAgain`), if a block is to be
+    /// read that isn't lent: the engine is intact then, and some regions may have moved. Lent
+    /// blocks are dropped.
     pub(super) fn raft_ffi_engine_rewrite_again(
         engine: *mut Handle,
         text: *mut u8,
         text_len: usize,
     ) -> Status;
-    /// Deletes the append files that no table needs, and says how many.
+    /// Orders that the append files which no table needs are deleted, the oldest first but never
+    /// the last one, and sets `count` to how many. The rewrite queue is told before what they took
+    /// away. The code is 0, or that of the error: 12 (`Failed`), if the engine isn't intact.
     pub(super) fn raft_ffi_engine_purge_expired_files(
         engine: *mut Handle,
         count: *mut usize,
         text: *mut u8,
         text_len: usize,
     ) -> Status;
-    /// Deletes the rewrite files that no table needs, and says how many.
+    /// Orders that the rewrite files which no table needs are deleted, the oldest first but never
+    /// the last one, and sets `count` to how many. Both queues are synced before. The code is 0, or
+    /// that of the error: 12 (`Failed`), if the engine isn't intact.
     pub(super) fn raft_ffi_engine_purge_rewrite_files(
         engine: *mut Handle,
         count: *mut usize,
@@ -118,11 +135,13 @@ unsafe extern "C" {
         text_len: usize,
     ) -> Status;
 
-    /// Takes the oldest order that waits, if there is one, and copies its bytes, where there is
-    /// room for them; `is_taken` says whether. Where there isn't it says how many they are. Orders
-    /// have numbers from 0 on: what was asked of the files, in turn. Where none waits `at` is a
-    /// number behind those of all orders. Whatever prefix of the orders was carried out when the
-    /// machine crashes, what was synced in it is found again.
+    /// Takes the oldest order that waits. If there is room for its bytes it is taken: `order` says
+    /// what to do, its bytes are in `bytes`, and `is_taken` is set. Else it still waits, `order`
+    /// has its number (`at`) and how many bytes it has (`len`), and `is_taken` is false. Returns
+    /// whether an order waited; if none did, `at` is how many were taken before.
+    ///
+    /// Orders are numbered from 0 on, and are to be carried out in turn. Whatever prefix of them
+    /// was carried out when the machine crashes, what was synced in it is found again.
     pub(super) fn raft_ffi_engine_take_order(
         engine: *mut Handle,
         order: *mut OrderNumbers,
@@ -131,10 +150,11 @@ unsafe extern "C" {
         is_taken: *mut bool,
     ) -> bool;
 
-    /// Lists the blocks that are read where what the tables have in append files up to the gate
-    /// moves, or without a gate what they have in rewrite files, each once, as far as there is
-    /// room: those of the first regions, until they have `max_size` bytes. Says how many. Nothing
-    /// rests on the list.
+    /// Lists in `places` the blocks, each once, that are read if what the tables have in append
+    /// files up to the gate moves, or without a gate what they have in rewrite files, as many as
+    /// there is room for: those of one region after another, until they have `max_size` bytes. Sets
+    /// `count` to how many there are. Returns 0, or 11 (`Memory`). The list is a hint: no promise
+    /// rests on it.
     pub(super) fn raft_ffi_engine_moving_blocks(
         engine: *mut Handle,
         gate: Maybe,
@@ -143,8 +163,8 @@ unsafe extern "C" {
         places_len: usize,
         count: *mut usize,
     ) -> u32;
-    /// Lends the bytes that stand at a place, as many as the block has, until the next call that
-    /// moves records. They are copied.
+    /// Lends the engine a copy of `bytes`, the block that stands at `offset` of file `seq`, until
+    /// the next call that moves records. Returns 0, or 11 (`Memory`).
     pub(super) fn raft_ffi_engine_lend(
         engine: *mut Handle,
         is_rewrite: bool,
@@ -154,8 +174,8 @@ unsafe extern "C" {
         bytes_len: usize,
     ) -> u32;
 
-    /// Finds the value of a region's key, if there is one: as much of it as there is room for, and
-    /// how long it is.
+    /// Returns whether `key` of a region has a value, copies as many of its bytes into `value` as
+    /// there is room for, and sets `len` to how many it has.
     pub(super) fn raft_ffi_engine_value(
         engine: *mut Handle,
         region: u64,
@@ -165,25 +185,25 @@ unsafe extern "C" {
         value_len: usize,
         len: *mut usize,
     ) -> bool;
-    /// Says what a region's table has, if there is one.
+    /// Returns whether a region has a table, and sets `summary` to what it has.
     pub(super) fn raft_ffi_engine_summary(
         engine: *mut Handle,
         region: u64,
         summary: *mut SummaryNumbers,
     ) -> bool;
-    /// Finds the least index of a region's entries, if it has any.
+    /// Returns whether a region has entries, and sets `index` to their least index.
     pub(super) fn raft_ffi_engine_first_index(
         engine: *mut Handle,
         region: u64,
         index: *mut u64,
     ) -> bool;
-    /// Finds the greatest index of a region's entries, if it has any.
+    /// Returns whether a region has entries, and sets `index` to their greatest index.
     pub(super) fn raft_ffi_engine_last_index(
         engine: *mut Handle,
         region: u64,
         index: *mut u64,
     ) -> bool;
-    /// Finds an entry of a region, if there is one.
+    /// Returns whether a region has an entry of that index, and sets `entry` to it.
     pub(super) fn raft_ffi_engine_entry(
         engine: *mut Handle,
         region: u64,
@@ -204,8 +224,8 @@ unsafe extern "C" {
         text: *mut u8,
         text_len: usize,
     ) -> Status;
-    /// Lists the pairs of a region whose key is at or above `start` and, where that is asked for,
-    /// below `end`, in the order of the keys, as `raft_ffi_tables_pairs_before` does.
+    /// Lists the pairs of a region whose key is at or above `start` and, with `is_bounded`, below
+    /// `end`, in the order of the keys, as `raft_ffi_tables_pairs_before` does.
     pub(super) fn raft_ffi_engine_scan(
         engine: *mut Handle,
         region: u64,
@@ -221,19 +241,20 @@ unsafe extern "C" {
         bytes_len: usize,
         len: *mut usize,
     ) -> u32;
-    /// Lists the regions that have a table, in rising order, as far as there is room, and says how
-    /// many they are.
+    /// Lists in `regions` the regions that have a table, in rising order, as many as there is room
+    /// for, and sets `count` to how many there are. Returns 0, or 11 (`Memory`).
     pub(super) fn raft_ffi_engine_regions(
         engine: *mut Handle,
         regions: *mut u64,
         regions_len: usize,
         count: *mut usize,
     ) -> u32;
-    /// Says how many records are live in a queue.
+    /// Returns how many records are live in a queue.
     pub(super) fn raft_ffi_engine_live(engine: *mut Handle, is_rewrite: bool) -> usize;
 
-    /// Tests the bytes of a whole entry block, and says how many of them, from the first on, are
-    /// its entry bytes. A block without bytes has none.
+    /// Checks `bytes`, a whole entry block, against its checksum, and sets `len` to how many of
+    /// them, from the first one on, are its entry bytes: 0 for a block without bytes. The code is
+    /// 0; 2 (`Corruption`), if they aren't such a block; or 11 (`Memory`).
     pub(super) fn raft_ffi_block_entries(
         bytes: *const u8,
         bytes_len: usize,

@@ -16,13 +16,13 @@ const HEAD: usize = 16;
 /// What a refusal points to. Nobody reads or writes there.
 static NOWHERE: u8 = 0;
 
-/// Returns the layout of a block of this size with its head; `None` where it would be too large.
+/// Returns the layout of a block of `size` bytes with its head; `None` where it would be too large.
 fn layout_with_head(size: usize) -> Option<Layout> {
     Layout::from_size_align(size.checked_add(HEAD)?, HEAD).ok()
 }
 
-/// Returns the layout of a block of this size with its head; `None` too where the alignment is
-/// greater than the head's.
+/// Returns the layout of a block of `size` bytes with its head; `None` where it would be too large, or
+/// the alignment is greater than the head's.
 fn layout_for_alignment(size: usize, alignment: usize) -> Option<Layout> {
     layout_with_head(size).filter(|_| alignment <= HEAD)
 }
@@ -46,7 +46,7 @@ fn tried_memory(block: *mut u8, size: usize) -> Tried {
     }
 }
 
-/// Gives the library memory of this size in bytes. It is refused where the program's allocator has
+/// Gives the library memory of `size` bytes. It is refused where the program's allocator has
 /// none, or the alignment is above 16.
 #[unsafe(no_mangle)]
 extern "C" fn rattle_alloc(size: usize, alignment: usize) -> Tried {

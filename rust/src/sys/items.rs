@@ -1,6 +1,6 @@
 //! The handle of the items of a batch.
 
-use super::{EntryNumbers, File, Handle, Status, check_call, entries, list_found, with};
+use super::{EntryNumbers, File, Handle, Status, check_call, entries_of, list_found, with_handle};
 use crate::{Content, Entry, FilePart, Item, Result};
 use std::cell::Cell;
 use std::mem;
@@ -14,8 +14,10 @@ struct ItemHead {
 }
 
 unsafe extern "C" {
-    /// Reads the items of the log batch that stands at `at` in the bytes, and says where the next
-    /// batch begins; nothing at the end.
+    /// Reads the items of the log batch at `at` of `bytes` into `items`, which is empty before, and
+    /// sets `next` to where the next batch begins; `bytes` stand in `file` from `offset` on. If
+    /// `at` is the end of `bytes`, `items` stays empty and `next` isn't set. The code is 0, or that
+    /// of the error for a batch that can't be read, or 11 (`Memory`): `items` stays empty then.
     fn raft_ffi_items_next(
         items: *mut Handle,
         file: File,
@@ -29,10 +31,10 @@ unsafe extern "C" {
     ) -> Status;
     /// Returns how many items there are.
     fn raft_ffi_items_len(items: *mut Handle) -> usize;
-    /// Finds what an item says, if there is one.
+    /// Returns whether there is an item `i`, from 0 on, and sets `head` to what it says.
     fn raft_ffi_items_head(items: *mut Handle, i: usize, head: *mut ItemHead) -> bool;
-    /// Lists the entries of an item, if it has some, as far as there is room, and says how many
-    /// they are.
+    /// Returns whether item `i` is one of entries, lists as many of them in `entries` as there is
+    /// room for, and sets `count` to how many there are.
     fn raft_ffi_items_entries(
         items: *mut Handle,
         i: usize,
@@ -40,8 +42,8 @@ unsafe extern "C" {
         entries_len: usize,
         count: *mut usize,
     ) -> bool;
-    /// Finds the key of an item, if it changes one: as much of it as there is room for, and how
-    /// long it is.
+    /// Returns whether item `i` changes a key, copies as many bytes of the key into `key` as there
+    /// is room for, and sets `len` to how many it has.
     fn raft_ffi_items_key(
         items: *mut Handle,
         i: usize,
@@ -49,8 +51,8 @@ unsafe extern "C" {
         key_len: usize,
         len: *mut usize,
     ) -> bool;
-    /// Finds the value of an item, if it puts one: as much of it as there is room for, and how long
-    /// it is.
+    /// Returns whether item `i` puts a value, copies as many bytes of the value into `value` as
+    /// there is room for, and sets `len` to how many it has.
     fn raft_ffi_items_value(
         items: *mut Handle,
         i: usize,
@@ -70,14 +72,14 @@ pub(crate) struct ItemsHandle(pub(super) Cell<Handle>);
 unsafe impl Send for ItemsHandle {}
 
 impl ItemsHandle {
-    /// Reads the batch that stands at `at` in a part, and says where the next one begins; nothing
-    /// at the end.
+    /// Reads the batch that stands at `at` in a part, and returns its items, and where the next
+    /// batch begins; `None` at the end.
     ///
     /// # Errors
     ///
     /// The reason why no batch can be read there, with its place; `Memory`.
     pub(crate) fn next(part: FilePart<'_>, at: usize) -> Result<Option<(ItemsHandle, usize)>> {
-        part.check()?;
+        part.check_end()?;
         assert!(at <= part.bytes.len(), "no batch stands behind the end");
         if at == part.bytes.len() {
             return Ok(None);
@@ -111,7 +113,7 @@ impl ItemsHandle {
     /// Returns how many items there are.
     pub(crate) fn len(&self) -> usize {
         // SAFETY: `held`: the handle holds items.
-        with(&self.0, |items| unsafe { raft_ffi_items_len(items) })
+        with_handle(&self.0, |items| unsafe { raft_ffi_items_len(items) })
     }
 
     /// Returns the region of the item at a position, `None` behind the last one.
@@ -143,7 +145,7 @@ impl ItemsHandle {
     fn head(&self, i: usize) -> Option<ItemHead> {
         let mut head = ItemHead::default();
         // SAFETY: `held`: the handle holds items.
-        let is_found = with(&self.0, |items| unsafe {
+        let is_found = with_handle(&self.0, |items| unsafe {
             raft_ffi_items_head(items, i, &mut head)
         });
         is_found.then_some(head)
@@ -153,18 +155,18 @@ impl ItemsHandle {
     fn entries(&self, i: usize) -> Vec<Entry> {
         let list = list_found(|room, len, count| {
             // SAFETY: `held`: the handle holds items.
-            with(&self.0, |items| unsafe {
+            with_handle(&self.0, |items| unsafe {
                 raft_ffi_items_entries(items, i, room, len, count)
             })
         });
-        entries(list.expect("an item of entries has entries"))
+        entries_of(list.expect("an item of entries has entries"))
     }
 
     /// Returns the key of an item that is known to change one.
     fn key(&self, i: usize) -> Vec<u8> {
         list_found(|room, len, count| {
             // SAFETY: `held`: the handle holds items.
-            with(&self.0, |items| unsafe {
+            with_handle(&self.0, |items| unsafe {
                 raft_ffi_items_key(items, i, room, len, count)
             })
         })
@@ -175,7 +177,7 @@ impl ItemsHandle {
     fn value(&self, i: usize) -> Vec<u8> {
         list_found(|room, len, count| {
             // SAFETY: `held`: the handle holds items.
-            with(&self.0, |items| unsafe {
+            with_handle(&self.0, |items| unsafe {
                 raft_ffi_items_value(items, i, room, len, count)
             })
         })

@@ -14,7 +14,7 @@ pub(super) fn list<T: Copy + Default>(
     list_in(Vec::new(), call)
 }
 
-/// Lists what a call finds, as [`list`] does, by one call where this room is enough.
+/// Lists what a call finds, as [`list`] does, by one call where `room` is enough.
 ///
 /// # Errors
 ///
@@ -34,7 +34,11 @@ pub(super) fn list_in<T: Copy + Default>(
     }
 }
 
-/// Makes a list at least this long, or is refused for want of memory.
+/// Makes `room` at least `count` long.
+///
+/// # Errors
+///
+/// `Memory`.
 pub(super) fn make_room<T: Copy + Default>(room: &mut Vec<T>, count: usize) -> Result<()> {
     let more = count.saturating_sub(room.len());
     room.try_reserve_exact(more).map_err(|_| Error::memory())?;
@@ -42,7 +46,7 @@ pub(super) fn make_room<T: Copy + Default>(room: &mut Vec<T>, count: usize) -> R
     Ok(())
 }
 
-/// Lists what a call finds, if it finds something. Without memory for the list the program ends, as where a `Vec` grows.
+/// Lists what a call finds; `None` where it finds nothing. Without memory for the list the program ends, as where a `Vec` grows.
 pub(super) fn list_found<T: Copy + Default>(
     mut call: impl FnMut(*mut T, usize, &mut usize) -> bool,
 ) -> Option<Vec<T>> {
@@ -71,7 +75,7 @@ pub(crate) struct PackedPairs {
 /// # Errors
 ///
 /// Those of the call, `Memory`.
-pub(super) fn packed_pairs(
+pub(super) fn list_packed_pairs(
     mut call: impl FnMut(*mut usize, usize, &mut usize, *mut u8, usize, &mut usize) -> Result<()>,
 ) -> Result<PackedPairs> {
     let (mut lens, mut bytes) = (Vec::new(), Vec::new());
@@ -94,15 +98,15 @@ pub(super) fn packed_pairs(
     }
 }
 
-/// Lists keys with their values, as [`packed_pairs`] does, each as bytes of its own.
+/// Lists keys with their values, as [`list_packed_pairs`] does, each as bytes of its own.
 ///
 /// # Errors
 ///
 /// Those of the call, `Memory`.
-pub(super) fn pairs(
+pub(super) fn list_pairs(
     call: impl FnMut(*mut usize, usize, &mut usize, *mut u8, usize, &mut usize) -> Result<()>,
 ) -> Result<Vec<Pair>> {
-    let PackedPairs { lens, bytes } = packed_pairs(call)?;
+    let PackedPairs { lens, bytes } = list_packed_pairs(call)?;
     let mut rest = &bytes[..];
     let mut next = |len| {
         let (front, behind) = rest.split_at(len);

@@ -1,21 +1,28 @@
 //! The handle of a batch that is written.
 
-use super::{File, Handle, ItemsHandle, Packed, Status, check_call, list, memory_result, with};
+use super::{
+    File, Handle, ItemsHandle, Packed, Status, check_call, list, memory_result, with_handle,
+};
 use crate::{Error, FileId, LogFile, Queue, Result, Stage};
 use std::cell::Cell;
 use std::mem;
 
 unsafe extern "C" {
-    /// Makes an open batch without items.
+    /// Makes an open batch without items in `batch`, which is empty before. Returns 0, or 11
+    /// (`Memory`): `batch` stays empty then.
     fn raft_ffi_batch_new(batch: *mut Handle) -> u32;
-    /// Says how far a batch has come: 0 while it is open, 1 once its bytes are made, 2 once they
+    /// Returns how far a batch has come: 0 while it is open, 1 once its bytes are made, 2 once they
     /// are signed.
     fn raft_ffi_batch_stage(batch: *mut Handle) -> u32;
-    /// Says about how many bytes a batch has or will have.
+    /// Returns about how many bytes a batch has or will have.
     fn raft_ffi_batch_size(batch: *mut Handle) -> usize;
-    /// Adds entries of a region to an open batch: their indexes rise by one from `first` on, and
-    /// the bytes are those of one after the other, each of which has so many as `lens` says. No
-    /// entries add nothing. Bytes behind the last string are not looked at.
+    /// Adds entries of a region to an open batch. Their indexes rise by one from `first` on, all
+    /// below 2^64. The bytes of the entries stand in `bytes`, one after another, and `lens` says
+    /// how many each has; what stands behind them isn't looked at. Without entries nothing is
+    /// added.
+    ///
+    /// The code is 0; 9 (`Full`), if the batch would have 2^31 entry bytes or more; or 11
+    /// (`Memory`). The batch is unchanged after an error.
     fn raft_ffi_batch_add_entries(
         batch: *mut Handle,
         region: u64,
@@ -27,13 +34,18 @@ unsafe extern "C" {
         text: *mut u8,
         text_len: usize,
     ) -> Status;
-    /// Adds to an open batch that all records of a region go.
+    /// Adds to an open batch that all records of a region are removed. Returns 0, or 11 (`Memory`):
+    /// the batch is unchanged then.
     fn raft_ffi_batch_clean(batch: *mut Handle, region: u64) -> u32;
-    /// Adds to an open batch that the entries of a region below an index go.
+    /// Adds to an open batch that the entries of a region below `index` are removed. Returns 0, or
+    /// 11 (`Memory`): the batch is unchanged then.
     fn raft_ffi_batch_compact(batch: *mut Handle, region: u64, index: u64) -> u32;
-    /// Adds to an open batch that the entries of a region from an index on go.
+    /// Adds to an open batch that the entries of a region from `index` on are removed. Returns 0,
+    /// or 11 (`Memory`): the batch is unchanged then.
     fn raft_ffi_batch_truncate(batch: *mut Handle, region: u64, index: u64) -> u32;
-    /// Adds to an open batch that a key of a region gets a value.
+    /// Adds to an open batch that `key` of a region gets `value`. The code is 0; 1
+    /// (`InvalidArgument`), if the key is that of the group markers; or 11 (`Memory`). The batch is
+    /// unchanged after an error.
     fn raft_ffi_batch_put(
         batch: *mut Handle,
         region: u64,
@@ -44,37 +56,41 @@ unsafe extern "C" {
         text: *mut u8,
         text_len: usize,
     ) -> Status;
-    /// Adds to an open batch that a key of a region goes.
+    /// Adds to an open batch that `key` of a region is deleted. Returns 0, or 11 (`Memory`): the
+    /// batch is unchanged then.
     fn raft_ffi_batch_delete(
         batch: *mut Handle,
         region: u64,
         key: *const u8,
         key_len: usize,
     ) -> u32;
-    /// Moves all items of another open batch to the end of an open one. The other one is then
-    /// empty.
+    /// Moves all items of `more`, an open batch, to the end of `batch`, an open one too; `more` is
+    /// then without items. The code is 0; 9 (`Full`), if both have 2^31 entry bytes or more
+    /// together; or 11 (`Memory`). Both are unchanged after an error.
     fn raft_ffi_batch_merge(
         batch: *mut Handle,
         more: *mut Handle,
         text: *mut u8,
         text_len: usize,
     ) -> Status;
-    /// Makes the bytes of an open batch, to which nothing is added from then on, and says how many
-    /// they are: none without items.
+    /// Makes the bytes of an open batch, to which nothing can be added from then on, and sets `len`
+    /// to how many they are: 0 without items. The code is 0; 9 (`Full`), if they would be 2^56 or
+    /// more; or 11 (`Memory`). The batch is unchanged after an error.
     fn raft_ffi_batch_finish(
         batch: *mut Handle,
         len: *mut usize,
         text: *mut u8,
         text_len: usize,
     ) -> Status;
-    /// Signs the bytes of a batch that is no longer open for a file. It may be repeated for other
-    /// files.
+    /// Signs the bytes of a batch, which isn't open any more, for `file`. It may be signed again,
+    /// for another file.
     fn raft_ffi_batch_sign(batch: *mut Handle, file: File);
-    /// Copies the bytes of a signed batch as far as there is room, and returns how many they are:
-    /// none without items.
+    /// Copies the bytes of a signed batch into `bytes`, as many as there is room for. Returns how
+    /// many the batch has, which may be more than were copied: 0 without items.
     fn raft_ffi_batch_bytes(batch: *mut Handle, bytes: *mut u8, bytes_len: usize) -> usize;
-    /// Gives each entry and each key value of a signed batch its place: the batch was written to a
-    /// file, from `offset` on.
+    /// Gives each entry and each key value of a signed batch its place: the batch was written to
+    /// file `seq` of a queue, from `offset` on, which is at most 2^64 - 17, and has `len` bytes
+    /// there.
     fn raft_ffi_batch_written(
         batch: *mut Handle,
         is_rewrite: bool,
@@ -82,7 +98,9 @@ unsafe extern "C" {
         offset: u64,
         len: usize,
     );
-    /// Takes the items out of a batch, at whatever stage. The batch is gone then.
+    /// Takes the items out of a batch, at whatever stage, into `items`, which is empty before. The
+    /// batch is gone then, after an error too. Returns 0, or 11 (`Memory`): `items` stays empty
+    /// then.
     fn raft_ffi_batch_into_items(batch: Handle, items: *mut Handle) -> u32;
     /// Frees the batch.
     fn raft_ffi_batch_drop(batch: Handle);
@@ -124,10 +142,10 @@ impl LogBatchHandle {
         handle
     }
 
-    /// Says whether the batch is open, encoded or signed.
+    /// Returns whether the batch is open, encoded or signed.
     pub(crate) fn stage(&self) -> Stage {
         // SAFETY: `held`: the handle holds a batch.
-        match with(&self.0, |batch| unsafe { raft_ffi_batch_stage(batch) }) {
+        match with_handle(&self.0, |batch| unsafe { raft_ffi_batch_stage(batch) }) {
             0 => Stage::Open,
             1 => Stage::Encoded,
             _ => Stage::Signed,
@@ -161,7 +179,7 @@ impl LogBatchHandle {
     /// Returns about how many bytes there are or will be.
     pub(crate) fn size(&self) -> usize {
         // SAFETY: `held`: the handle holds a batch.
-        with(&self.0, |batch| unsafe { raft_ffi_batch_size(batch) })
+        with_handle(&self.0, |batch| unsafe { raft_ffi_batch_size(batch) })
     }
 
     /// Adds entries that are packed, the first of them at the index `first`.
@@ -170,11 +188,11 @@ impl LogBatchHandle {
     ///
     /// Those of `add`.
     pub(crate) fn add_packed(&mut self, region: u64, first: u64, packed: &Packed) -> Result<()> {
-        let (lens, bytes) = packed.parts();
+        let (lens, bytes) = packed.lens_and_bytes();
         self.add(region, first, lens, bytes)
     }
 
-    /// Adds one entry of these bytes.
+    /// Adds an entry of a region, whose bytes are `entry`, at an index.
     ///
     /// # Errors
     ///
@@ -337,7 +355,7 @@ impl LogBatchHandle {
         self.check_signed()?;
         list(|room, len, count| {
             // SAFETY: `held`, `sealed`: the handle holds a signed batch.
-            *count = with(&self.0, |batch| unsafe {
+            *count = with_handle(&self.0, |batch| unsafe {
                 raft_ffi_batch_bytes(batch, room, len)
             });
             Ok(())

@@ -119,11 +119,11 @@ impl From<EntryNumbers> for Entry {
 }
 
 /// Returns entries as the library takes them.
-pub(super) fn numbers(entries: &[Entry]) -> Vec<EntryNumbers> {
+pub(super) fn numbers_of(entries: &[Entry]) -> Vec<EntryNumbers> {
     entries.iter().map(EntryNumbers::from).collect()
 }
 
 /// Returns entries that the library gave.
-pub(super) fn entries(numbers: Vec<EntryNumbers>) -> Vec<Entry> {
+pub(super) fn entries_of(numbers: Vec<EntryNumbers>) -> Vec<Entry> {
     numbers.into_iter().map(Entry::from).collect()
 }

@@ -16,7 +16,7 @@ pub(crate) struct Packed {
 }
 
 impl Packed {
-    /// Makes room for so many bytes.
+    /// Makes room for entries of `bytes` bytes together.
     ///
     /// # Errors
     ///
@@ -39,7 +39,7 @@ impl Packed {
         self.bytes.clear();
     }
 
-    /// Gives back what room there is beyond what is kept.
+    /// Gives room back, but for as much as is kept for the next entries.
     pub(crate) fn shrink(&mut self) {
         self.clear();
         self.lens.shrink_to(KEPT / size_of::<usize>());
@@ -52,7 +52,7 @@ impl Packed {
     }
 
     /// Returns the length of each entry, and the bytes of all.
-    pub(super) fn parts(&self) -> (&[usize], &[u8]) {
+    pub(super) fn lens_and_bytes(&self) -> (&[usize], &[u8]) {
         (&self.lens, &self.bytes)
     }
 
@@ -89,12 +89,12 @@ impl Packed {
         Ok(())
     }
 
-    /// Packs an entry that a call puts behind those that are there.
+    /// Packs an entry that the call `put` writes behind the bytes of those that are there.
     ///
     /// # Errors
     ///
     /// Those of the call, also where it takes bytes of the others away.
-    pub(crate) fn push_by<E: Into<Box<dyn error::Error + Send + Sync>>>(
+    pub(crate) fn push_with<E: Into<Box<dyn error::Error + Send + Sync>>>(
         &mut self,
         put: impl FnOnce(&mut Vec<u8>) -> std::result::Result<(), E>,
     ) -> std::result::Result<(), Box<dyn error::Error + Send + Sync>> {

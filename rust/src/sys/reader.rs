@@ -1,8 +1,13 @@
 //! The handle of a reader, and the opening of an engine over the files that readers have read.
 
 use super::engine_calls::{TailNumbers, raft_ffi_engine_open};
-use super::{EngineHandle, File, Handle, Status, TEXT_LEN, check_call, memory_result, refusal_of};
-use crate::{CutTail, FileId, FilePart, Queue, Recovered, RecoveryMode, Result, Version};
+use super::{
+    EngineHandle, File, Handle, Status, TEXT_LEN, check_call, list, memory_result, refusal_of,
+};
+use crate::{
+    CutTail, DamagedBatch, Error, FileId, FilePart, LogFile, Queue, Recovered, RecoveryMode,
+    Result, Version,
+};
 use std::mem;
 
 /// A file of a queue by its number, and how many bytes it has.
@@ -14,10 +19,12 @@ pub(crate) struct Size {
 }
 
 unsafe extern "C" {
-    /// Makes a reader that has read nothing.
+    /// Makes a reader that has read nothing in `reader`, which is empty before. Returns 0, or 11
+    /// (`Memory`): it stays empty then.
     fn raft_ffi_reader_new(reader: *mut Handle) -> u32;
-    /// Replays the batches of bytes that stand in the file from `offset` on. Where that is refused
-    /// the reader is gone: it may have taken in some of them.
+    /// Replays `bytes`, batches that stand in `file` from `offset` on. The code is 0, or that of
+    /// the error if a batch can't be read or can't follow those before it, or 11 (`Memory`). After
+    /// an error the reader is gone: it may have taken in some of the batches.
     fn raft_ffi_reader_replay(
         reader: *mut Handle,
         file: File,
@@ -27,9 +34,12 @@ unsafe extern "C" {
         text: *mut u8,
         text_len: usize,
     ) -> Status;
-    /// Replays the batches of bytes that stand in the last file of a queue from `offset` on, up to
-    /// the first one that can't be read, and says how many bytes they have. The entries of batches
-    /// of a rewrite file are checked. Where that is refused the reader is gone.
+    /// Replays the batches at the start of `bytes`, which stand in the last file of a queue from
+    /// `offset` on, up to the first one that can't be read, and sets `len` to how many bytes they
+    /// have. The entries of each batch are checked: the reader notes which batches of an append
+    /// file have damaged ones; in a rewrite file the first such batch is an error.
+    ///
+    /// The code is 0, or that of the error. After an error the reader is gone.
     fn raft_ffi_reader_replay_last(
         reader: *mut Handle,
         file: File,
@@ -40,8 +50,8 @@ unsafe extern "C" {
         text: *mut u8,
         text_len: usize,
     ) -> Status;
-    /// Takes in what a reader has read of the batches that follow. That one is gone then, and where
-    /// it is refused both are.
+    /// Takes in what `newer` has read, the batches that follow in the same queue. `newer` is gone
+    /// then. The code is 0, or that of the error. After an error the reader is gone too.
     fn raft_ffi_reader_merge(
         reader: *mut Handle,
         newer: Handle,
@@ -49,6 +59,13 @@ unsafe extern "C" {
         text: *mut u8,
         text_len: usize,
     ) -> Status;
+    /// Lists in `offsets` where in the last append file the batches with damaged entries begin that
+    /// a reader has found, in order, as many as there is room for, and returns how many there are.
+    fn raft_ffi_reader_damaged(reader: *mut Handle, offsets: *mut u64, offsets_len: usize)
+    -> usize;
+    /// Says why the entries of the batch that begins at `offset` of `file` are refused, if they are
+    /// damaged: the code of that error, with its text in `text`.
+    fn raft_ffi_damaged_entries(file: File, offset: u64, text: *mut u8, text_len: usize) -> Status;
     /// Frees the reader.
     fn raft_ffi_reader_drop(reader: Handle);
 }
@@ -76,13 +93,13 @@ impl ReaderHandle {
         Ok(ReaderHandle(handle))
     }
 
-    /// Replays the batches of a part.
+    /// Replays the batches of a part, and returns the reader.
     ///
     /// # Errors
     ///
     /// The refusal of the first batch that is refused. The reader is then gone.
     pub(crate) fn replay(self, part: FilePart<'_>) -> Result<ReaderHandle> {
-        part.check()?;
+        part.check_end()?;
         let mut handle = self.into_raw();
         // SAFETY: `held`, `ends`: the handle holds a reader, and the bytes end where an offset can. After a refusal
         // the handle is empty.
@@ -101,14 +118,15 @@ impl ReaderHandle {
     }
 
     /// Replays the batches of a part of the last file of a queue, up to the first one that can't be read, and returns how many
-    /// bytes they have. Of a rewrite file the entries of each batch are checked.
+    /// bytes they have. The entries of each batch are checked; where those of a batch of an append file are damaged the reader
+    /// notes it.
     ///
     /// # Errors
     ///
     /// `Corruption` where the entries of a batch of a rewrite file are damaged; the refusal of the first batch that doesn't fit
     /// those before it; `Memory`. The reader is then gone.
     pub(crate) fn replay_last(self, part: FilePart<'_>) -> Result<(ReaderHandle, usize)> {
-        part.check()?;
+        part.check_end()?;
         let mut handle = self.into_raw();
         let mut len = 0;
         // SAFETY: `held`, `ends`: the handle holds a reader, and the bytes end where an offset can. After a refusal
@@ -128,7 +146,7 @@ impl ReaderHandle {
         Ok((ReaderHandle(handle), len))
     }
 
-    /// Takes in what was read of the batches that follow, all of this queue.
+    /// Takes in what the reader `newer` has read of the batches that follow, all of the queue `queue`.
     ///
     /// # Errors
     ///
@@ -141,6 +159,20 @@ impl ReaderHandle {
             raft_ffi_reader_merge(&mut handle, newer, queue == Queue::Rewrite, text, text_len)
         })?;
         Ok(ReaderHandle(handle))
+    }
+
+    /// Returns the batches whose entries the reader has found damaged, first to last, all of them in `file`, the last one of the
+    /// append queue. The only error is `Memory`.
+    fn damaged_batches(&mut self, file: LogFile) -> Result<Vec<DamagedBatch>> {
+        let offsets = list(|room, len, count| {
+            // SAFETY: `held`: the handle holds a reader.
+            *count = unsafe { raft_ffi_reader_damaged(&mut self.0, room, len) };
+            Ok(())
+        })?;
+        let batches = offsets
+            .into_iter()
+            .map(|offset| damaged_batch(file, offset));
+        batches.collect()
     }
 
     /// Gives the library's handle away, which is to be freed by someone else.
@@ -158,17 +190,40 @@ impl Drop for ReaderHandle {
     }
 }
 
-/// Opens an engine over files of both queues, and tells what was cut off.
+/// Returns the batch at an offset of a file, whose entries are damaged, with the refusal of these.
+///
+/// # Errors
+///
+/// `Memory`, where there is none for the words of the refusal.
+fn damaged_batch(file: LogFile, offset: u64) -> Result<DamagedBatch> {
+    // SAFETY: the text is lent for the call.
+    let refused = check_call(|text, text_len| unsafe {
+        raft_ffi_damaged_entries(file.into(), offset, text, text_len)
+    });
+    match refused {
+        Err(reason) if reason.file.is_some() => Ok(DamagedBatch {
+            file: file.into(),
+            offset,
+            reason,
+        }),
+        _ => Err(Error::memory()), // else its words would name the file
+    }
+}
+
+/// Opens an engine over files of both queues, and tells what was cut off, and which batches have damaged entries.
 ///
 /// # Errors
 ///
 /// Those of the library. Nothing was ordered then.
 pub(crate) fn open_engine(
-    append: ReadFiles,
+    mut append: ReadFiles,
     rewrite: ReadFiles,
     version: Version,
     mode: RecoveryMode,
 ) -> Result<(EngineHandle, Recovered)> {
+    let last = append.sizes.last().map(|last| last.seq);
+    let last = last.map(|seq| LogFile::new(Queue::Append, seq, version));
+    let damaged = last.map_or(Ok(Vec::new()), |file| append.reader.damaged_batches(file))?;
     let mut handle = Handle::EMPTY;
     let (mut append_tail, mut rewrite_tail) = (Tail::default(), Tail::default());
     let (appended, rewritten) = (append.reader.into_raw(), rewrite.reader.into_raw());
@@ -189,7 +244,7 @@ pub(crate) fn open_engine(
             appended,
             rewritten,
             is_signed,
-            number_of(mode),
+            mode_number(mode),
             &mut append_tail.numbers,
             append_tail.reason.as_mut_ptr(),
             append_tail.reason.len(),
@@ -203,6 +258,7 @@ pub(crate) fn open_engine(
     let recovered = Recovered {
         append: append_tail.into_cut(Queue::Append),
         rewrite: rewrite_tail.into_cut(Queue::Rewrite),
+        damaged,
     };
     Ok((EngineHandle::of(handle), recovered))
 }
@@ -223,7 +279,7 @@ impl Default for Tail {
 }
 
 impl Tail {
-    /// Returns what is told of the tail, if one was cut off.
+    /// Returns what is told of the tail; `None` where nothing was cut off.
     fn into_cut(self, queue: Queue) -> Option<CutTail> {
         let numbers = self.numbers.is_some.then_some(self.numbers)?;
         let file = FileId::new(queue, numbers.seq);
@@ -238,7 +294,7 @@ impl Tail {
 }
 
 /// Returns the number that the library has for a mode.
-fn number_of(mode: RecoveryMode) -> u32 {
+fn mode_number(mode: RecoveryMode) -> u32 {
     match mode {
         RecoveryMode::AbsoluteConsistency => 0,
         RecoveryMode::TolerateTornTail => 1,

@@ -3,42 +3,47 @@
 use super::{EntryNumbers, Handle, Maybe, Status, SummaryNumbers};
 
 unsafe extern "C" {
-    /// Makes tables of no region.
+    /// Makes tables of no region in `tables`, which is empty before. Returns 0, or 11 (`Memory`):
+    /// it stays empty then.
     pub(super) fn raft_ffi_tables_new(tables: *mut Handle) -> u32;
-    /// Says how many records are live in a queue.
+    /// Returns how many records are live in a queue.
     pub(super) fn raft_ffi_tables_live(tables: *mut Handle, is_rewrite: bool) -> usize;
-    /// Says what a region's table has, if there is one.
+    /// Returns whether a region has a table, and sets `summary` to what it has.
     pub(super) fn raft_ffi_tables_summary(
         tables: *mut Handle,
         region: u64,
         summary: *mut SummaryNumbers,
     ) -> bool;
-    /// Lists the regions that have a table, in rising order, as far as there is room, and says how
-    /// many they are.
+    /// Lists in `regions` the regions that have a table, in rising order, as many as there is room
+    /// for, and sets `count` to how many there are. Returns 0, or 11 (`Memory`).
     pub(super) fn raft_ffi_tables_regions(
         tables: *mut Handle,
         regions: *mut u64,
         regions_len: usize,
         count: *mut usize,
     ) -> u32;
-    /// Lists the regions that were cleaned, in order, as far as there is room, and returns how many
-    /// they are.
+    /// Lists in `regions` the regions that were cleaned, in order, as many as there is room for,
+    /// and returns how many there are.
     pub(super) fn raft_ffi_tables_cleaned(
         tables: *mut Handle,
         regions: *mut u64,
         regions_len: usize,
     ) -> usize;
-    /// Finds an entry of a region, if there is one.
+    /// Returns whether a region has an entry of that index, and sets `entry` to it.
     pub(super) fn raft_ffi_tables_entry(
         tables: *mut Handle,
         region: u64,
         index: u64,
         entry: *mut EntryNumbers,
     ) -> bool;
-    /// Lists the entries of a region from `begin` on and below `end`, as far as there is room, and
-    /// says how many they are. With a maximal size it stops before the first one with which the
-    /// total of lengths passes that size and exceeds the entry's own length. A region without a
-    /// table has no entries.
+    /// Lists in `entries` the entries of a region from `begin` on and below `end`, as many as there
+    /// is room for, and sets `count` to how many there are. With a maximal size it stops before the
+    /// first one with which the total of lengths passes that size and exceeds the entry's own
+    /// length. A region without a table has no entries.
+    ///
+    /// The code is 0, or 11 (`Memory`), or, where the range isn't empty, 7 (`EntryCompacted`), if
+    /// it begins below the first entry, or 8 (`EntryNotFound`), if there are no entries or it ends
+    /// above their end.
     pub(super) fn raft_ffi_tables_entries(
         tables: *mut Handle,
         region: u64,
@@ -51,8 +56,9 @@ unsafe extern "C" {
         text: *mut u8,
         text_len: usize,
     ) -> Status;
-    /// Lists the appended entries of a region from the first on while their file is at or below a
-    /// gate, as far as there is room, and says how many they are.
+    /// Lists in `entries` the appended entries of a region, from the first one on while their file
+    /// is numbered at or below `gate`, as many as there is room for, and sets `count` to how many
+    /// there are. Returns 0, or 11 (`Memory`).
     pub(super) fn raft_ffi_tables_entries_before(
         tables: *mut Handle,
         region: u64,
@@ -61,8 +67,8 @@ unsafe extern "C" {
         entries_len: usize,
         count: *mut usize,
     ) -> u32;
-    /// Lists the rewritten entries of a region, as far as there is room, and says how many they
-    /// are.
+    /// Lists in `entries` the rewritten entries of a region, as many as there is room for, and sets
+    /// `count` to how many there are. Returns 0, or 11 (`Memory`).
     pub(super) fn raft_ffi_tables_rewritten_entries(
         tables: *mut Handle,
         region: u64,
@@ -70,8 +76,8 @@ unsafe extern "C" {
         entries_len: usize,
         count: *mut usize,
     ) -> u32;
-    /// Finds the value of a region's key, if there is one: as much of it as there is room for, and
-    /// how long it is.
+    /// Returns whether `key` of a region has a value, copies as many of its bytes into `value` as
+    /// there is room for, and sets `len` to how many it has.
     pub(super) fn raft_ffi_tables_value(
         tables: *mut Handle,
         region: u64,
@@ -81,8 +87,10 @@ unsafe extern "C" {
         value_len: usize,
         len: *mut usize,
     ) -> bool;
-    /// Puts new entries of the append queue after those of a region below their start. All others
-    /// go; where there are no new ones, all stay.
+    /// Puts `entries`, new ones of the append queue, behind the entries of a region that are below
+    /// their first index. The others of the region are dropped; without new entries all stay. The
+    /// code is 0, or that of the error, as 1 (`InvalidArgument`) if the indexes of `entries` don't
+    /// rise by one. The tables are unchanged after an error.
     pub(super) fn raft_ffi_tables_append(
         tables: *mut Handle,
         region: u64,
@@ -91,7 +99,8 @@ unsafe extern "C" {
         text: *mut u8,
         text_len: usize,
     ) -> Status;
-    /// Drops the entries of a region below an index, and says how many those were.
+    /// Drops the entries of a region below `index`, and sets `dropped` to how many those were. The
+    /// code is 0, or 11 (`Memory`). The tables are unchanged after an error.
     pub(super) fn raft_ffi_tables_compact(
         tables: *mut Handle,
         region: u64,
@@ -100,7 +109,8 @@ unsafe extern "C" {
         text: *mut u8,
         text_len: usize,
     ) -> Status;
-    /// Drops the entries of a region at or above an index, and says how many those were.
+    /// Drops the entries of a region from `index` on, and sets `dropped` to how many those were.
+    /// The code is 0, or 11 (`Memory`). The tables are unchanged after an error.
     pub(super) fn raft_ffi_tables_truncate(
         tables: *mut Handle,
         region: u64,
@@ -109,7 +119,9 @@ unsafe extern "C" {
         text: *mut u8,
         text_len: usize,
     ) -> Status;
-    /// Puts a key of a region with its value, which were written to the file of number `seq`.
+    /// Gives `key` of a region `value`, which was written to file `seq` of a queue. The code is 0;
+    /// 9 (`Full`), if more than 2^64 - 1 records would be live in that queue; or 11 (`Memory`). The
+    /// tables are unchanged after an error.
     pub(super) fn raft_ffi_tables_put(
         tables: *mut Handle,
         region: u64,
@@ -122,7 +134,8 @@ unsafe extern "C" {
         text: *mut u8,
         text_len: usize,
     ) -> Status;
-    /// Deletes a key of a region and its value.
+    /// Deletes `key` of a region with its value. The code is 0, or 11 (`Memory`). The tables are
+    /// unchanged after an error.
     pub(super) fn raft_ffi_tables_delete(
         tables: *mut Handle,
         region: u64,
@@ -131,8 +144,11 @@ unsafe extern "C" {
         text: *mut u8,
         text_len: usize,
     ) -> Status;
-    /// Gives entries of a region the places of a run of the rewrite queue, as far as they may move:
-    /// with a gate those in files at or below it, without one those that are rewritten already.
+    /// Gives the entries of a region that `entries` names the places there, which are in the
+    /// rewrite queue, as far as they may move: with a gate those in append files numbered at or
+    /// below it, without one those that are rewritten already. The code is 0, or that of the error,
+    /// as 1 (`InvalidArgument`) if the indexes of `entries` don't rise by one. The tables are
+    /// unchanged after an error.
     pub(super) fn raft_ffi_tables_rewrite(
         tables: *mut Handle,
         region: u64,
@@ -142,9 +158,10 @@ unsafe extern "C" {
         text: *mut u8,
         text_len: usize,
     ) -> Status;
-    /// Moves the pair of a region's key to the file of number `seq` of the rewrite queue: one in
-    /// the append queue where there is a gate and its file is at or below it, one in the rewrite
-    /// queue always.
+    /// Moves the pair of a region's `key` to file `seq` of the rewrite queue: one in the append
+    /// queue if there is a gate and its file is numbered at or below it, one in the rewrite queue
+    /// always. The code is 0, or that of the error, as 2 (`Corruption`) if the pair is in a later
+    /// rewrite file. The tables are unchanged after an error.
     pub(super) fn raft_ffi_tables_rewrite_key(
         tables: *mut Handle,
         region: u64,
@@ -156,47 +173,59 @@ unsafe extern "C" {
         text_len: usize,
     ) -> Status;
     /// Sets the first and the last file of a region's atomic group, once the group's End is
-    /// written.
+    /// written. `start` is at most `end`. Returns 0, or 11 (`Memory`): the tables are unchanged
+    /// then.
     pub(super) fn raft_ffi_tables_atomic_group(
         tables: *mut Handle,
         region: u64,
         start: u64,
         end: u64,
     ) -> u32;
-    /// Takes a region's table away, and lists the region as cleaned where that is asked for, also
-    /// where it has no table.
+    /// Removes the table of a region, if there is one, and subtracts its records from the live
+    /// counts; `found` says whether there was one. With `is_listed` the region is also appended to
+    /// the cleaned regions, even if it has no table.
+    ///
+    /// Returns 0, or 11 (`Memory`), which comes only with `is_listed`: the tables are unchanged
+    /// then, and `found` isn't set.
     pub(super) fn raft_ffi_tables_remove(
         tables: *mut Handle,
         region: u64,
         is_listed: bool,
         found: *mut bool,
     ) -> u32;
-    /// Merges the tables of a newer neighbor, each into the table of its region. Those are gone
-    /// then.
+    /// Merges `newer`, the tables of later batches, into `tables`, each into the table of its
+    /// region. `newer` is gone then. The cleaned regions stay. The code is 0, or that of the error.
+    /// After an error each region has its old table or the merged one; after 11 (`Memory`) that of
+    /// one region may be lost.
     pub(super) fn raft_ffi_tables_merge_newer(
         tables: *mut Handle,
         newer: Handle,
         text: *mut u8,
         text_len: usize,
     ) -> Status;
-    /// Merges appended tables, each into the rewritten table of its region. Those are gone then.
+    /// Merges `append`, appended tables, into `tables`, rewritten ones, each into the table of its
+    /// region. `append` is gone then. The cleaned regions stay. The code is 0, or that of the
+    /// error. After an error each region has its old table or the merged one; after 11 (`Memory`)
+    /// that of one region may be lost.
     pub(super) fn raft_ffi_tables_merge_append(
         tables: *mut Handle,
         append: Handle,
         text: *mut u8,
         text_len: usize,
     ) -> Status;
-    /// Writes items of the append queue to the tables, in order. They are gone then. Where an item
-    /// is refused those in front of it are written, and nothing else.
+    /// Writes `items`, those of a batch of the append queue, to the tables, in order. `items` is
+    /// gone then. The code is 0, or that of the error of the first item that is refused: those
+    /// before it are written then, and nothing else.
     pub(super) fn raft_ffi_tables_apply_append(
         tables: *mut Handle,
         items: Handle,
         text: *mut u8,
         text_len: usize,
     ) -> Status;
-    /// Writes items that were rewritten to the file of number `seq` of the rewrite queue to the
-    /// tables, in order. They are gone then. Where an item is refused those in front of it are
-    /// written, and nothing else.
+    /// Writes `items`, which were rewritten to file `seq` of the rewrite queue, to the tables, in
+    /// order; `gate` says which places move, as for `raft_ffi_tables_rewrite`. `items` is gone
+    /// then. The code is 0, or that of the error of the first item that is refused: those before it
+    /// are written then, and nothing else.
     pub(super) fn raft_ffi_tables_apply_rewrite(
         tables: *mut Handle,
         items: Handle,
@@ -205,9 +234,11 @@ unsafe extern "C" {
         text: *mut u8,
         text_len: usize,
     ) -> Status;
-    /// Lists the appended pairs of a region whose file is at or below a gate, in the order of the
-    /// keys: the length of each key and of its value in turn, and the bytes of them, each as far as
-    /// there is room, and how many these are. With a gate of 2^64 - 1 it lists all appended ones.
+    /// Lists the pairs of a region whose file in the append queue is numbered at or below `gate`,
+    /// in the order of the keys: the length of each key and of its value in turn in `lens`, and
+    /// their bytes, one behind the other, in `bytes`, each as far as there is room. `count` is set
+    /// to how many lengths there are, and `len` to how many bytes. With a gate of 2^64 - 1 it lists
+    /// all appended ones. Returns 0, or 11 (`Memory`).
     pub(super) fn raft_ffi_tables_pairs_before(
         tables: *mut Handle,
         region: u64,
@@ -220,7 +251,7 @@ unsafe extern "C" {
         len: *mut usize,
     ) -> u32;
     /// Lists the rewritten pairs of a region, in the order of the keys, as
-    /// `raft_ffi_tables_pairs_before` does the appended ones.
+    /// `raft_ffi_tables_pairs_before` lists the appended ones.
     pub(super) fn raft_ffi_tables_rewritten_pairs(
         tables: *mut Handle,
         region: u64,
@@ -231,8 +262,8 @@ unsafe extern "C" {
         bytes_len: usize,
         len: *mut usize,
     ) -> u32;
-    /// Lists the pairs of a region whose key is at or above `start` and, where that is asked for,
-    /// below `end`, in the order of the keys, as `raft_ffi_tables_pairs_before` does.
+    /// Lists the pairs of a region whose key is at or above `start` and, with `is_bounded`, below
+    /// `end`, in the order of the keys, as `raft_ffi_tables_pairs_before` does.
     pub(super) fn raft_ffi_tables_scan(
         tables: *mut Handle,
         region: u64,
@@ -248,20 +279,23 @@ unsafe extern "C" {
         bytes_len: usize,
         len: *mut usize,
     ) -> u32;
-    /// Tests whether the tables would accept the items of a batch, once it is written to the append
-    /// queue, whatever their place. It changes nothing.
+    /// Tests whether the tables would accept the items of `batch` once it is written to the append
+    /// queue, at whatever place. It changes nothing. The code is 0 if they would; else that of the
+    /// error with which the first item that they don't accept would be refused, or 11 (`Memory`).
     pub(super) fn raft_ffi_tables_check_append(
         tables: *mut Handle,
         batch: *mut Handle,
         text: *mut u8,
         text_len: usize,
     ) -> Status;
-    /// Hands out the cleaned regions as an open batch with a `Clean` for each, in order. The list
-    /// is then empty.
+    /// Moves the cleaned regions into `batch`, which is empty before: an open batch with a `Clean`
+    /// of each, in order. The list of the tables is empty then. Returns 0, or 11 (`Memory`): the
+    /// list is as it was then, and `batch` stays empty.
     pub(super) fn raft_ffi_tables_cleaned_logs(tables: *mut Handle, batch: *mut Handle) -> u32;
-    /// Moves the table of a region, if there is one, out of tables into others, where it stands in
-    /// place of that region's one. The lists of cleaned regions stay. Where that is refused the
-    /// region's table is gone, and the others are as they were.
+    /// Moves the table of a region, if there is one, from `tables` to `to`, in place of the one
+    /// that the region has there. Both lists of cleaned regions stay. The code is 0; 9 (`Full`), if
+    /// more than 2^64 - 1 records would be live in a queue of `to`; or 11 (`Memory`). After an
+    /// error the region's table is lost, and `to` is unchanged.
     pub(super) fn raft_ffi_tables_move_table(
         tables: *mut Handle,
         to: *mut Handle,
@@ -269,8 +303,9 @@ unsafe extern "C" {
         text: *mut u8,
         text_len: usize,
     ) -> Status;
-    /// Tests whether tables would accept those items of a batch whose regions are of a slot, once
-    /// it is written to the append queue, whatever their place. It changes nothing.
+    /// Tests whether the tables of slot `number` would accept the items of `batch` whose regions
+    /// are of that slot, once it is written to the append queue, at whatever place. It changes
+    /// nothing. The code is as that of `raft_ffi_tables_check_append`.
     pub(super) fn raft_ffi_slot_check_append(
         tables: *mut Handle,
         number: usize,
@@ -278,9 +313,10 @@ unsafe extern "C" {
         text: *mut u8,
         text_len: usize,
     ) -> Status;
-    /// Writes those items of the append queue whose regions are of a slot to tables, in order.
-    /// Where an item is refused those in front of it are written, and nothing else; without memory
-    /// for copies of the items none.
+    /// Writes the items of the append queue whose regions are of slot `number` to the tables of
+    /// that slot, in order. `items` stays as it is. The code is 0, or that of the error of the
+    /// first item that is refused: those before it are written then, and nothing else; none if
+    /// there is no memory for copies of the items.
     pub(super) fn raft_ffi_slot_apply_append(
         tables: *mut Handle,
         number: usize,
@@ -288,9 +324,11 @@ unsafe extern "C" {
         text: *mut u8,
         text_len: usize,
     ) -> Status;
-    /// Writes those items whose regions are of a slot, and which were rewritten to the file of
-    /// number `seq` of the rewrite queue, to tables, in order. Where an item is refused those in
-    /// front of it are written, and nothing else; without memory for copies of the items none.
+    /// Writes the items whose regions are of slot `number`, and which were rewritten to file `seq`
+    /// of the rewrite queue, to the tables of that slot, in order; `gate` says which places move,
+    /// as for `raft_ffi_tables_rewrite`. `items` stays as it is. The code is 0, or that of the
+    /// error of the first item that is refused: those before it are written then, and nothing else;
+    /// none if there is no memory for copies of the items.
     pub(super) fn raft_ffi_slot_apply_rewrite(
         tables: *mut Handle,
         number: usize,

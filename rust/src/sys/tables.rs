@@ -14,8 +14,8 @@ use super::table_calls::{
     raft_ffi_tables_summary, raft_ffi_tables_truncate, raft_ffi_tables_value,
 };
 use super::{
-    EntryNumbers, Handle, ItemsHandle, LogBatchHandle, SummaryNumbers, check_call, entries, list,
-    list_found, memory_result, numbers, pairs, with,
+    EntryNumbers, Handle, ItemsHandle, LogBatchHandle, SummaryNumbers, check_call, entries_of,
+    list, list_found, list_pairs, memory_result, numbers_of, with_handle,
 };
 use crate::{Entry, FileId, Pair, Queue, Result, Summary};
 use std::cell::Cell;
@@ -46,9 +46,9 @@ impl TablesHandle {
     }
 
     /// Counts the live records of a queue.
-    pub(crate) fn live(&self, queue: Queue) -> usize {
+    pub(crate) fn count_live(&self, queue: Queue) -> usize {
         // SAFETY: `held`: the handle holds tables.
-        with(&self.0, |tables| unsafe {
+        with_handle(&self.0, |tables| unsafe {
             raft_ffi_tables_live(tables, queue == Queue::Rewrite)
         })
     }
@@ -57,7 +57,7 @@ impl TablesHandle {
     pub(crate) fn summary(&self, region: u64) -> Option<Summary> {
         let mut summary = SummaryNumbers::default();
         // SAFETY: `held`: the handle holds tables.
-        let is_found = with(&self.0, |tables| unsafe {
+        let is_found = with_handle(&self.0, |tables| unsafe {
             raft_ffi_tables_summary(tables, region, &mut summary)
         });
         is_found.then(|| summary.into())
@@ -67,7 +67,7 @@ impl TablesHandle {
     pub(crate) fn regions(&self) -> Result<Vec<u64>> {
         list(|room, len, count| {
             // SAFETY: `held`: the handle holds tables.
-            memory_result(with(&self.0, |tables| unsafe {
+            memory_result(with_handle(&self.0, |tables| unsafe {
                 raft_ffi_tables_regions(tables, room, len, count)
             }))
         })
@@ -77,7 +77,7 @@ impl TablesHandle {
     pub(crate) fn cleaned(&self) -> Vec<u64> {
         list_found(|room, len, count| {
             // SAFETY: `held`: the handle holds tables.
-            *count = with(&self.0, |tables| unsafe {
+            *count = with_handle(&self.0, |tables| unsafe {
                 raft_ffi_tables_cleaned(tables, room, len)
             });
             true
@@ -85,17 +85,17 @@ impl TablesHandle {
         .unwrap_or_default()
     }
 
-    /// Returns where the entry of a region at an index is, `None` where none stands there.
+    /// Returns the entry of a region at an index, with its place; `None` where the region has no entry there.
     pub(crate) fn entry(&self, region: u64, index: u64) -> Option<Entry> {
         let mut entry = EntryNumbers::default();
         // SAFETY: `held`: the handle holds tables.
-        let is_found = with(&self.0, |tables| unsafe {
+        let is_found = with_handle(&self.0, |tables| unsafe {
             raft_ffi_tables_entry(tables, region, index, &mut entry)
         });
         is_found.then(|| entry.into())
     }
 
-    /// Lists the entries of a range, up to a maximal size in bytes.
+    /// Lists the entries of a range of a region's indexes, up to `max_size` bytes, if that is given.
     ///
     /// # Errors
     ///
@@ -109,7 +109,7 @@ impl TablesHandle {
         let list = list(|room, len, count| {
             check_call(|text, text_len| {
                 // SAFETY: `held`: the handle holds tables.
-                with(&self.0, |tables| unsafe {
+                with_handle(&self.0, |tables| unsafe {
                     raft_ffi_tables_entries(
                         tables,
                         region,
@@ -125,7 +125,7 @@ impl TablesHandle {
                 })
             })
         })?;
-        Ok(entries(list))
+        Ok(entries_of(list))
     }
 
     /// Lists the appended entries of a region, from the first on while their file is at or below a
@@ -133,29 +133,29 @@ impl TablesHandle {
     pub(crate) fn entries_before(&self, region: u64, gate: u64) -> Result<Vec<Entry>> {
         let list = list(|room, len, count| {
             // SAFETY: `held`: the handle holds tables.
-            memory_result(with(&self.0, |tables| unsafe {
+            memory_result(with_handle(&self.0, |tables| unsafe {
                 raft_ffi_tables_entries_before(tables, region, gate, room, len, count)
             }))
         })?;
-        Ok(entries(list))
+        Ok(entries_of(list))
     }
 
     /// Lists the rewritten entries of a region. The only error is `Memory`.
     pub(crate) fn rewritten_entries(&self, region: u64) -> Result<Vec<Entry>> {
         let list = list(|room, len, count| {
             // SAFETY: `held`: the handle holds tables.
-            memory_result(with(&self.0, |tables| unsafe {
+            memory_result(with_handle(&self.0, |tables| unsafe {
                 raft_ffi_tables_rewritten_entries(tables, region, room, len, count)
             }))
         })?;
-        Ok(entries(list))
+        Ok(entries_of(list))
     }
 
     /// Returns the value of a region's key, `None` where it has none.
     pub(crate) fn value(&self, region: u64, key: &[u8]) -> Option<Vec<u8>> {
         list_found(|room, len, count| {
             // SAFETY: `held`: the handle holds tables.
-            with(&self.0, |tables| unsafe {
+            with_handle(&self.0, |tables| unsafe {
                 raft_ffi_tables_value(tables, region, key.as_ptr(), key.len(), room, len, count)
             })
         })
@@ -164,9 +164,9 @@ impl TablesHandle {
     /// Lists the appended keys of a region whose file is at or below a gate, with their values, in
     /// order. The only error is `Memory`.
     pub(crate) fn pairs_before(&self, region: u64, gate: u64) -> Result<Vec<Pair>> {
-        pairs(|lens, lens_len, count, bytes, bytes_len, len| {
+        list_pairs(|lens, lens_len, count, bytes, bytes_len, len| {
             // SAFETY: `held`: the handle holds tables.
-            memory_result(with(&self.0, |tables| unsafe {
+            memory_result(with_handle(&self.0, |tables| unsafe {
                 raft_ffi_tables_pairs_before(
                     tables, region, gate, lens, lens_len, count, bytes, bytes_len, len,
                 )
@@ -177,9 +177,9 @@ impl TablesHandle {
     /// Lists the rewritten keys of a region with their values, in order. The only error is
     /// `Memory`.
     pub(crate) fn rewritten_pairs(&self, region: u64) -> Result<Vec<Pair>> {
-        pairs(|lens, lens_len, count, bytes, bytes_len, len| {
+        list_pairs(|lens, lens_len, count, bytes, bytes_len, len| {
             // SAFETY: `held`: the handle holds tables.
-            memory_result(with(&self.0, |tables| unsafe {
+            memory_result(with_handle(&self.0, |tables| unsafe {
                 raft_ffi_tables_rewritten_pairs(
                     tables, region, lens, lens_len, count, bytes, bytes_len, len,
                 )
@@ -190,9 +190,9 @@ impl TablesHandle {
     /// Lists all keys of a region with their values, in order. The only error is `Memory`.
     pub(crate) fn pairs(&self, region: u64) -> Result<Vec<Pair>> {
         let none: &[u8] = &[];
-        pairs(|lens, lens_len, count, bytes, bytes_len, len| {
+        list_pairs(|lens, lens_len, count, bytes, bytes_len, len| {
             // SAFETY: `held`: the handle holds tables.
-            memory_result(with(&self.0, |tables| unsafe {
+            memory_result(with_handle(&self.0, |tables| unsafe {
                 raft_ffi_tables_scan(
                     tables,
                     region,
@@ -216,9 +216,9 @@ impl TablesHandle {
     /// where they would refuse one, or `Memory`.
     pub(crate) fn check_append(&self, batch: &LogBatchHandle) -> Result<()> {
         check_call(|text, text_len| {
-            with(&self.0, |tables| {
+            with_handle(&self.0, |tables| {
                 // SAFETY: `held`, `batch`: the handles hold tables and a batch.
-                with(&batch.0, |batch| unsafe {
+                with_handle(&batch.0, |batch| unsafe {
                     raft_ffi_tables_check_append(tables, batch, text, text_len)
                 })
             })
@@ -229,9 +229,9 @@ impl TablesHandle {
     /// `number`: `Corruption` where they would refuse one, or `Memory`.
     pub(crate) fn check_share(&self, number: usize, batch: &LogBatchHandle) -> Result<()> {
         check_call(|text, text_len| {
-            with(&self.0, |tables| {
+            with_handle(&self.0, |tables| {
                 // SAFETY: `held`, `batch`: the handles hold tables and a batch.
-                with(&batch.0, |batch| unsafe {
+                with_handle(&batch.0, |batch| unsafe {
                     raft_ffi_slot_check_append(tables, number, batch, text, text_len)
                 })
             })
@@ -240,7 +240,7 @@ impl TablesHandle {
 
     /// Hands out the cleaned regions as an open batch with a `Clean` for each. The list is then
     /// empty. The only error is `Memory`. The list is then as it was.
-    pub(crate) fn cleaned_logs(&mut self) -> Result<LogBatchHandle> {
+    pub(crate) fn take_cleaned_logs(&mut self) -> Result<LogBatchHandle> {
         let mut batch = Handle::EMPTY;
         // SAFETY: `held`, `empty`: the one handle holds tables, and the other one is empty.
         memory_result(unsafe { raft_ffi_tables_cleaned_logs(self.0.as_ptr(), &mut batch) })?;
@@ -254,7 +254,7 @@ impl TablesHandle {
     /// `InvalidArgument` where they are no run of the append queue, `Corruption` where they leave a
     /// hole or begin below the first entry, `Full`, `Memory`. The tables are then as they were.
     pub(crate) fn append(&mut self, region: u64, entries: &[Entry]) -> Result<()> {
-        let run = numbers(entries);
+        let run = numbers_of(entries);
         // SAFETY: `held`: the handle holds tables.
         check_call(|text, text_len| unsafe {
             raft_ffi_tables_append(
@@ -346,7 +346,7 @@ impl TablesHandle {
         entries: &[Entry],
         gate: Option<u64>,
     ) -> Result<()> {
-        let run = numbers(entries);
+        let run = numbers_of(entries);
         // SAFETY: `held`: the handle holds tables.
         check_call(|text, text_len| unsafe {
             raft_ffi_tables_rewrite(
@@ -398,9 +398,8 @@ impl TablesHandle {
         memory_result(unsafe { raft_ffi_tables_atomic_group(self.0.as_ptr(), region, start, end) })
     }
 
-    /// Takes a region's table away, lists the region as cleaned where that is asked for, and
-    /// returns whether there was a table. The only error is `Memory`. The tables are then as they
-    /// were.
+    /// Removes a region's table, lists the region as cleaned with `is_listed`, and returns whether
+    /// there was a table. The only error is `Memory`. The tables are then as they were.
     pub(crate) fn remove(&mut self, region: u64, is_listed: bool) -> Result<bool> {
         let mut is_found = false;
         // SAFETY: `held`: the handle holds tables.
@@ -471,7 +470,7 @@ impl TablesHandle {
     pub(crate) fn apply_share(&mut self, number: usize, items: &ItemsHandle) -> Result<()> {
         check_call(|text, text_len| {
             // SAFETY: `held`, `items`: the handles hold tables and items.
-            with(&items.0, |items| unsafe {
+            with_handle(&items.0, |items| unsafe {
                 raft_ffi_slot_apply_append(self.0.as_ptr(), number, items, text, text_len)
             })
         })
@@ -488,7 +487,7 @@ impl TablesHandle {
     ) -> Result<()> {
         check_call(|text, text_len| {
             // SAFETY: `held`, `items`: the handles hold tables and items.
-            with(&items.0, |items| unsafe {
+            with_handle(&items.0, |items| unsafe {
                 raft_ffi_slot_apply_rewrite(
                     self.0.as_ptr(),
                     number,

@@ -69,7 +69,7 @@ impl Tables {
         self.handle.truncate(region, index)
     }
 
-    /// Puts a key of a region with its value, which were written to this file.
+    /// Puts a key of a region with its value, which were written to the file `file`.
     ///
     /// ```
     /// # use raft_recover::{FileId, Queue, Tables};
@@ -220,7 +220,10 @@ impl Tables {
     /// `Memory`. The list is then as it was.
     pub fn take_cleaned_logs(&mut self) -> Result<LogBatch> {
         let regions = self.cleaned();
-        Ok(LogBatch::of_cleans(self.handle.cleaned_logs()?, &regions))
+        Ok(LogBatch::of_cleans(
+            self.handle.take_cleaned_logs()?,
+            &regions,
+        ))
     }
 
     /// Writes the items of a batch of the append queue to the tables, in order.

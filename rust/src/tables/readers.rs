@@ -15,7 +15,7 @@ impl Tables {
     /// ```
     #[must_use]
     pub fn live(&self, queue: Queue) -> usize {
-        self.handle.live(queue)
+        self.handle.count_live(queue)
     }
 
     /// Returns the regions that have a table, in rising order.
@@ -49,7 +49,7 @@ impl Tables {
         self.handle.cleaned()
     }
 
-    /// Returns what a region's table has, if there is one.
+    /// Returns what a region's table has; `None` where the region has no table.
     ///
     /// ```
     /// # use raft_recover::{FileId, Queue, Tables};
@@ -65,7 +65,7 @@ impl Tables {
         self.handle.summary(region)
     }
 
-    /// Returns an entry of a region, if there is one.
+    /// Returns the entry of a region at an index, with its place; `None` where the region has no entry there.
     ///
     /// ```
     /// # use raft_recover::{Block, Entry, FileId, Queue, Tables};
@@ -155,7 +155,7 @@ impl Tables {
         self.handle.rewritten_entries(region)
     }
 
-    /// Returns the value of a region's key, if there is one.
+    /// Returns the value of a region's key; `None` where the key has no value.
     ///
     /// ```
     /// # use raft_recover::{FileId, Queue, Tables};
@@ -249,6 +249,6 @@ impl Tables {
     /// `Corruption` where an item would be refused: the text names the region, the index and the reason. `Memory`.
     pub fn check_append(&self, batch: &LogBatch) -> Result<()> {
         let checked = self.handle.check_append(batch.handle());
-        checked.map_err(|e| batch.misfit(e, |_| true, |region| self.summary(region)))
+        checked.map_err(|e| batch.name_misfit(e, |_| true, |region| self.summary(region)))
     }
 }

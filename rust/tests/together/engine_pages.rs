@@ -1,8 +1,10 @@
 //! A disk that writes unsynced pages in any order: a page of zeros may stand in front of others behind what was synced. An entry
 //! that was synced is read then, or the files are refused, with the place, whichever way it was moving when the machine stopped.
 
+use crate::common::TempFolder;
 use crate::common::engines::{engine, write};
-use raft_recover::{Ask, Engine, MemoryFiles, Options, Queue, Unsynced};
+use raft_recover::{Ask, Engine, ErrorKind, FileId, MemoryFiles, Options, Queue, Unsynced};
+use std::fs;
 
 /// The entry of a region: so many bytes, none of which is 0.
 fn entry(region: u64, len: usize) -> Vec<u8> {
@@ -127,4 +129,58 @@ fn an_entry_of_the_append_queue_stays_where_its_moved_copy_is_lost() {
     rewrite[0].1[block].fill(0);
     let left = MemoryFiles::found(files.files(Queue::Append), rewrite);
     assert_kept(left, 1, 1, 100);
+}
+
+#[test]
+fn a_page_of_zeros_among_the_entries_of_the_last_append_file_is_named_by_its_batch() {
+    const PAGE: usize = 4096;
+    let room = TempFolder::new();
+    let path = room.path().join("logs");
+    let engine = Engine::open(&path, Options::new()).unwrap();
+    for index in 1..=5 {
+        write(&engine, |batch| {
+            batch.add_entries(7, index, &[entry(7, 3 * PAGE)])?;
+            batch.put(7, b"key", &[index as u8])
+        });
+    }
+    let last = engine.files().path_of(FileId::new(Queue::Append, 1));
+    drop(engine);
+    let mut bytes = fs::read(&last).unwrap();
+    let third = blocks_of(&bytes)[2].clone();
+    let page = third.start.next_multiple_of(PAGE);
+    assert!(page + PAGE <= third.end);
+    bytes[page..page + PAGE].fill(0);
+    fs::write(&last, &bytes).unwrap();
+
+    let read_only = Engine::open_read_only(&path, Options::new()).unwrap();
+    let recovered = read_only.recovered().clone();
+    drop(read_only);
+    let engine = Engine::open(&path, Options::new()).unwrap();
+    assert_eq!(engine.recovered(), &recovered);
+    assert_eq!(recovered.cuts().count(), 0);
+    let [named] = &recovered.damaged[..] else {
+        panic!("{:?}", recovered.damaged)
+    };
+    assert_eq!(named.offset, third.start as u64 - 16);
+    assert_eq!(named.file, FileId::new(Queue::Append, 1));
+    let offset = named.offset;
+    assert_eq!(
+        named.to_string(),
+        format!("append file 1, offset {offset}: the entries of this batch are damaged")
+    );
+    assert_eq!(named.reason.kind, ErrorKind::Corruption);
+    assert_eq!(named.reason.text, format!("Corruption: {named}"));
+    let place = (named.reason.file, named.reason.offset);
+    assert_eq!(place, (Some(named.file), Some(offset)));
+    for index in 1..=5 {
+        let read = engine.entry(7, index);
+        if index == 3 {
+            let e = read.unwrap_err();
+            assert_eq!((e.file, e.offset), (Some(named.file), Some(offset + 16)));
+        } else {
+            assert_eq!(read.unwrap().unwrap(), entry(7, 3 * PAGE));
+        }
+    }
+    assert_eq!(engine.get(7, b"key").unwrap().unwrap(), [5]);
+    assert_eq!(fs::read(&last).unwrap(), bytes);
 }

@@ -245,6 +245,37 @@ fn damage_with_sound_batches_behind_is_refused_by_every_number_of_threads() {
 }
 
 #[test]
+fn damaged_entries_of_the_last_append_file_are_named_whatever_piece_they_stand_in() {
+    // of the older file they aren't looked at; more than six batches are a piece
+    let older = file_of(Queue::Append, 1, 0, &[ENTRY; 2]);
+    for damaged in [&[][..], &[0], &[5, 6], &[0, 1, 6, 7, 12, 18], &[18]] {
+        let mut files = [older.bytes.clone(), Vec::new()];
+        let mut last = file_of(Queue::Append, 2, 2, &[ENTRY; 19]);
+        for at in damaged {
+            last.bytes[last.places[*at] + 16 + ENTRY / 2] ^= 1;
+        }
+        files[0][16] ^= 1;
+        files[1] = last.bytes;
+        let expected = damaged.iter().map(|at| (last.id, last.places[*at] as u64));
+        let expected: Vec<_> = expected.collect();
+        for threads in THREADS {
+            let held = MemoryFiles::found((1..).zip(files.clone()).collect(), vec![]);
+            let options = Options::new().recovery_threads(threads);
+            let engine = Engine::with_files(held, options).unwrap();
+            let named = engine.recovered().damaged.iter();
+            let named: Vec<_> = named.map(|batch| (batch.file, batch.offset)).collect();
+            assert_eq!(named, expected, "by {threads} threads");
+            for number in 0..21 {
+                let (region, index) = place_of(Queue::Append, number);
+                let is_damaged = number == 0 || damaged.iter().any(|at| *at as u64 + 2 == number);
+                let read = engine.entry(region, index);
+                assert_eq!(read.is_err(), is_damaged, "{number}");
+            }
+        }
+    }
+}
+
+#[test]
 fn damage_is_cut_where_it_is_tolerated_and_nowhere_but_in_the_last_file() {
     let options = Options::new().recovery_mode(RecoveryMode::TolerateTailCorruption);
     for queue in [Queue::Append, Queue::Rewrite] {

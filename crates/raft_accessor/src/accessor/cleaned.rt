@@ -10,23 +10,23 @@ use std::alloc::Global;
 use std::mem;
 
 impl MemTableAccessor {
-    /// Returns the regions that were cleaned, in order.
+    /// Returns the regions that were cleaned, in order. A region may be listed twice.
     pub fn cleaned_regions(&self) -> &[u64]
         ensures { result.now ≡ self.now.cleaned }
     {
         self.cleaned.as_slice()
     }
 
-    /// Hands out the cleaned regions as a batch with a `Clean` for each, in order. The list is then
-    /// empty.
+    /// Returns a batch with a `Clean` for each region that is listed as cleaned, in order, and empties the
+    /// list.
     ///
     /// The batch belongs in the rewrite queue, once the append queue is synced. So does what else takes
-    /// rewritten records away, which is not listed: compactions, truncations, deletions of keys, and each run
+    /// rewritten records away, which isn't listed: compactions, truncations, deletions of keys, and each run
     /// that replaces entries, as the truncation at its first index.
     ///
     /// # Errors
     ///
-    /// `Memory`. The accessor is then as it was.
+    /// `Memory` alone. The accessor is unchanged then.
     pub fn take_cleaned_region_logs(&mut self) -> Result<LogBatch>
         ensures logs { IfOk result (λ logs. logs
             ≡ record empty_batch { items = map (λ id. command_item id Clean) self.old.cleaned }) }
@@ -39,7 +39,7 @@ impl MemTableAccessor {
         Ok(logs)
     }
 
-    /// Lists the cleaned regions of another accessor in the place of the own ones.
+    /// Exchanges the own list of cleaned regions with that of `appended`.
     #[doc(hidden)]
     pub fn take_cleaned(&mut self, appended: &mut MemTableAccessor)
         ensures tables { self.new.tables ≡ self.old.tables }
@@ -49,11 +49,11 @@ impl MemTableAccessor {
         mem::swap(&mut self.cleaned, &mut appended.cleaned);
     }
 
-    /// Lists a region as cleaned.
+    /// Lists the region `id` as cleaned.
     ///
     /// # Errors
     ///
-    /// `Memory`. The list is then as it was.
+    /// `Memory` alone. The list is unchanged then.
     pub(super) fn list(&mut self, id: u64) -> Result<()>
         ensures ok { OnOk result (self.new ≡ record self.old
             { cleaned = self.old.cleaned ++ id ∷ [] }) }
@@ -65,11 +65,11 @@ impl MemTableAccessor {
     }
 }
 
-/// Makes a batch with a `Clean` for each region, in order.
+/// Returns an open batch with a `Clean` for each of the regions `ids`, in order.
 ///
 /// # Errors
 ///
-/// `Memory`.
+/// `Memory` alone.
 pub fn clean_logs(alloc: Global, ids: &[u64]) -> Result<LogBatch>
     ensures ok { IfOk result (λ logs. logs ≡ record empty_batch
         { items = map (λ id. command_item id Clean) ids.now }) }

@@ -9,9 +9,14 @@ use raft_base::{AllocResult, Error, LogQueue, Result};
 use raft_table::Mark;
 
 impl MemTableAccessor {
-    /// Puts a newer neighbor's table of a region, or its absence, over the older one, as the newer region mark
-    /// says, with the errors of [`MemTable::join_under`](raft_table::MemTable::join_under), after which the counts
-    /// agree with the tables. Returns where the older entries begin, and the end of those that the first run meets.
+    /// Puts a newer neighbor's table of the region `id`, or its absence, over the older one, as the newer
+    /// region mark says. Returns the index of the first older entry, and the end of the older entries that
+    /// the mark's first run meets; both are 0 if there are none.
+    ///
+    /// # Errors
+    ///
+    /// Those of [`MemTable::join_under`](raft_table::MemTable::join_under); `Memory`. The counts still agree
+    /// with the tables then.
     #[doc(hidden)]
     pub fn join_table(
         &mut self,
@@ -31,7 +36,11 @@ impl MemTableAccessor {
         self.slots[slot_of(id)].join_table(queue, id, newer, mark, &mut self.stats)
     }
 
-    /// Makes room in a slot, up to `count` tables, or changes nothing.
+    /// Makes room for at least `count` tables in the slot numbered `slot`, below 128.
+    ///
+    /// # Errors
+    ///
+    /// `AllocError` if there is no memory for it. Nothing changes in either case.
     #[doc(hidden)]
     pub fn make_room(&mut self, slot: usize, count: usize) -> AllocResult<()>
         requires { slot < 128 }
@@ -40,7 +49,12 @@ impl MemTableAccessor {
         self.slots[slot].make_room(count)
     }
 
-    /// Lists the cleaned regions of another accessor after the own ones. The lists stay on `Memory`, the only error.
+    /// Moves the cleaned regions of `rhs` behind those that are listed here. `rhs` lists none then; its
+    /// tables stay with it.
+    ///
+    /// # Errors
+    ///
+    /// `Memory` alone. Both lists are unchanged then.
     #[doc(hidden)]
     pub fn append_cleaned(&mut self, rhs: &mut MemTableAccessor) -> Result<()>
         ensures ok { OnOk result (self.new.cleaned ≡ self.old.cleaned ++ rhs.old.cleaned) }

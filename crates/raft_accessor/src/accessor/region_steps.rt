@@ -10,14 +10,14 @@ use raft_base::{EntryIndex, FileBlockHandle, FileId, LogQueue, Result};
 use raft_table::{Mark, Run, Step};
 
 impl MemTableAccessor {
-    /// Does a step of `queue` that is read again on its region's table, which is made where there is none, and
-    /// lists the region where the step cleans it in the append queue.
+    /// Takes in a step that was read from `queue` on the table of the region `id`, which is made if there is
+    /// none. In the append queue a step that cleans the region also lists it as cleaned.
     ///
     /// # Errors
     ///
-    /// `Corruption` where the start rule refuses a run, `InvalidArgument` for a run where the table has
-    /// records of the other queue, `Full` where more than 2^64 - 1 records would be live, `Memory`. All
-    /// tables and the list are then as they were.
+    /// `Corruption` if the start rule refuses a run; `InvalidArgument` for a run if the table has records of
+    /// the other queue; `Full` if more than 2^64 - 1 records would be live; `Memory`. Tables, counts and list
+    /// are unchanged then.
     pub fn take_step(&mut self, queue: LogQueue, id: u64, step: Step) -> Result<()>
         requires { IsStepOfQueue queue (step_shown step) }
         ensures taken { IsStepTaken queue id (step_shown step) self.old.tables self.old.counts
@@ -27,9 +27,9 @@ impl MemTableAccessor {
         self.slots[slot_of(id)].take_step(queue, id, step, &mut self.stats, &mut self.cleaned)
     }
 
-    /// Puts a run that is read again, and returns where the entries of its region's table, which is made
-    /// where there is none, ended before. Nothing is returned where [`MemTableAccessor::take_step`] refuses
-    /// the run, as for want of memory. All tables are then as they were.
+    /// Puts a run that was read from `queue` into the table of the region `id`, which is made if there is
+    /// none. Returns the index after the last entry that the table had before, or 0. Returns `None`, and
+    /// changes nothing, if [`MemTableAccessor::take_step`] would refuse the run, as for want of memory.
     #[inline(never)]
     pub fn try_replay_run(&mut self, queue: LogQueue, id: u64, run: &[EntryIndex]) -> Option<u64>
         requires run { IsRunIn queue run.now }
@@ -45,8 +45,9 @@ impl MemTableAccessor {
         Some(end)
     }
 
-    /// Does what [`MemTableAccessor::try_replay_run`] does with the entries of the block at `place`, from the
-    /// index `first` on, and returns where the entries of the table began as well, in front of where they ended.
+    /// Does what [`MemTableAccessor::try_replay_run`] does with the entries at `place` with `spans`, whose
+    /// indexes rise from `first` on. Returns the index of the first entry that the table had before, and the
+    /// index after the last one; both are 0 without entries.
     #[doc(hidden)]
     #[inline(always)]
     pub fn try_replay_block(
@@ -68,9 +69,9 @@ impl MemTableAccessor {
         self.slots[slot_of(id)].try_replay(queue, id, &run, &mut self.stats)
     }
 
-    /// Does what [`MemTableAccessor::take_step`] does with the put of a key and its value, which are copied,
-    /// where the region has entries, and returns whether it did. Where it did not, as for want of memory, all
-    /// tables are as they were.
+    /// Puts copies of `key` and `value`, which is in `file`, into the table of the region `id`, if it has
+    /// entries. Returns whether it did. It doesn't either if [`MemTableAccessor::take_step`] would refuse the
+    /// put, as for want of memory; the tables are unchanged then.
     #[doc(hidden)]
     pub fn try_put(&mut self, id: u64, key: &[u8], value: &[u8], file: FileId) -> bool
         ensures taken { (queue : LogQueue) → IsStepTaken queue id (Put key.now value.now file)
@@ -82,8 +83,13 @@ impl MemTableAccessor {
         self.slots[slot_of(id)].try_put(id, key, value, file, &mut self.stats)
     }
 
-    /// Puts an appended table of a region, or its absence, over the rewritten one, as the region mark of the
-    /// append queue says, with the errors of [`MemTable::overlay`](raft_table::MemTable::overlay).
+    /// Puts an appended table of the region `id`, or its absence, over the rewritten one, as the region mark
+    /// of the append queue says.
+    ///
+    /// # Errors
+    ///
+    /// Those of [`MemTable::overlay`](raft_table::MemTable::overlay); `Memory`. The counts still agree with
+    /// the tables then.
     #[doc(hidden)]
     pub fn overlay_table(
         &mut self,

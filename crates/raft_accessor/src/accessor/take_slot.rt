@@ -10,7 +10,8 @@ use raft_table::GlobalStats;
 use std::mem;
 
 impl MemTableAccessor {
-    /// Takes the tables of one slot's regions out, with counts of their own. It takes no memory.
+    /// Takes the tables of the slot `number`, below 128, out of the accessor, with counts of their records,
+    /// which are subtracted from the own ones. It allocates nothing.
     #[doc(hidden)]
     pub fn take_slot(&mut self, number: usize) -> (RegionTables, GlobalStats)
         requires { number < 128 }
@@ -25,7 +26,7 @@ impl MemTableAccessor {
         (tables, counts)
     }
 
-    /// Returns the tables of all slots, in order.
+    /// Returns the tables of the 128 slots, in order.
     #[doc(hidden)]
     pub fn into_slots(self) -> Vec<RegionTables>
         ensures tables { together result.items ≡ self.tables }

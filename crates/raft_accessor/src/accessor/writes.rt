@@ -11,13 +11,13 @@ use raft_base::{Error, FileSeq, LogQueue, Result};
 use raft_records::LogItem;
 
 impl MemTableAccessor {
-    /// Tests whether [`apply_append_writes`](MemTableAccessor::apply_append_writes) would accept these items once
-    /// their entries have a place and their key values a file in the append queue, whatever place and file. It
-    /// looks at indexes and values, walks over the items once, and changes nothing.
+    /// Checks that [`apply_append_writes`](MemTableAccessor::apply_append_writes) would accept these items
+    /// once their entries have a place and their key values a file in the append queue, whatever place and
+    /// file. It looks at indexes and values, walks over the items once, and changes nothing.
     ///
     /// # Errors
     ///
-    /// `Corruption` where it would refuse an item: the text names the region, the index and the reason. `Memory`.
+    /// `Corruption` if it would refuse an item, with the region, the index and the reason; `Memory`.
     pub fn check_append_writes(&self, items: &[LogItem]) -> Result<()>
         ensures ok { OnOk result (AreAcceptedOncePlaced self.now.tables (map item_of items.now)) }
         ensures refused { IfErr result (λ e. e ≢ Error.Memory
@@ -31,11 +31,12 @@ impl MemTableAccessor {
         Ok(())
     }
 
-    /// Writes new items of the append queue to the tables, in order.
+    /// Writes `items`, new ones of the append queue, which must come to an end, to the tables of their
+    /// regions, in order.
     ///
     /// # Errors
     ///
-    /// Those of [`RegionTables::append_item`] at the first item that is refused. The items in front of it are
+    /// Those of [`RegionTables::append_item`] for the first item that is refused. The items before it are
     /// written, and nothing else.
     pub fn apply_append_writes<I: IntoIterator<Item = LogItem>>(&mut self, items: I) -> Result<()>
         requires { (it : I.IntoIter) → I.into_iter_gives items it
@@ -50,11 +51,12 @@ impl MemTableAccessor {
         self.write_items(Writing::Appending, items)
     }
 
-    /// Writes items of the append queue that are read again to the tables, in order.
+    /// Writes `items`, which were read from the append queue and must come to an end, to the tables of
+    /// their regions, in order.
     ///
     /// # Errors
     ///
-    /// Those of [`RegionTables::replay_item`] at the first item that is refused. The items in front of it are
+    /// Those of [`RegionTables::replay_item`] for the first item that is refused. The items before it are
     /// written, and nothing else.
     pub fn replay_append_writes<I: IntoIterator<Item = LogItem>>(&mut self, items: I) -> Result<()>
         requires { (it : I.IntoIter) → I.into_iter_gives items it
@@ -69,11 +71,12 @@ impl MemTableAccessor {
         self.write_items(Writing::Replaying(LogQueue::Append), items)
     }
 
-    /// Writes items of the rewrite queue that are read again to the tables, in order.
+    /// Writes `items`, which were read from the rewrite queue and must come to an end, to the tables of
+    /// their regions, in order.
     ///
     /// # Errors
     ///
-    /// Those of [`RegionTables::replay_item`] at the first item that is refused. The items in front of it are
+    /// Those of [`RegionTables::replay_item`] for the first item that is refused. The items before it are
     /// written, and nothing else.
     pub fn replay_rewrite_writes<I: IntoIterator<Item = LogItem>>(&mut self, items: I) -> Result<()>
         requires { (it : I.IntoIter) → I.into_iter_gives items it
@@ -88,13 +91,14 @@ impl MemTableAccessor {
         self.write_items(Writing::Replaying(LogQueue::Rewrite), items)
     }
 
-    /// Writes items that were rewritten to the file of number `new_file` of the rewrite queue to the
-    /// tables, in order. `watermark` is the gate: with one, the places that move are those in append files
-    /// at or below it, without one those that are rewritten already.
+    /// Writes `items`, which must come to an end, to the tables of their regions, in order, as items that
+    /// were rewritten to the file numbered `new_file` of the rewrite queue. `watermark` limits which places
+    /// move: with one, those in append files numbered at or below it; without one, those that are rewritten
+    /// already.
     ///
     /// # Errors
     ///
-    /// Those of [`RegionTables::rewrite_item`] at the first item that is refused. The items in front of it are
+    /// Those of [`RegionTables::rewrite_item`] for the first item that is refused. The items before it are
     /// written, and nothing else.
     pub fn apply_rewrite_writes<I: IntoIterator<Item = LogItem>>(
         &mut self,
@@ -114,12 +118,13 @@ impl MemTableAccessor {
         self.write_items(Writing::Rewriting(watermark, new_file), items)
     }
 
-    /// Writes items to the tables in order, as `how` says.
+    /// Writes items to the tables of their regions, in order, as `how` says: the loop of the four calls
+    /// above.
     ///
     /// # Errors
     ///
-    /// Those of `write_item` at the first item that is refused. The items in front of it are
-    /// written, and nothing else.
+    /// Those of [`write_item`](MemTableAccessor::write_item) for the first item that is refused. The items
+    /// before it are written, and nothing else.
     #[inline(always)]
     fn write_items<I: IntoIterator<Item = LogItem>>(&mut self, how: Writing, items: I) -> Result<()>
         requires { (it : I.IntoIter) → I.into_iter_gives items it
@@ -137,12 +142,12 @@ impl MemTableAccessor {
         Ok(())
     }
 
-    /// Writes an item to the table of its region, as `how` says.
+    /// Writes one item to the table of its region, as `how` says.
     ///
     /// # Errors
     ///
     /// Those of [`RegionTables::append_item`], [`RegionTables::replay_item`] or
-    /// [`RegionTables::rewrite_item`]. Tables, counts and list are then as they were.
+    /// [`RegionTables::rewrite_item`]. Tables, counts and list are unchanged then.
     #[inline(always)]
     fn write_item(&mut self, how: Writing, item: LogItem) -> Result<()>
         ensures { IsWritten (writing_shown how) (item_of item) result self.old self.new }
@@ -152,8 +157,8 @@ impl MemTableAccessor {
     }
 }
 
-/// States that items that are accepted are refused only for want of memory or of room in the counts, whichever of them
-/// is refused. This is a law: it computes nothing.
+/// States that new items that the tables accept are refused only for want of memory (`Memory`) or of room in
+/// the live counts (`Full`). This is a law: it computes nothing.
 pub fn accepted_items_lack_room_alone()
     ensures { (items rest : List Item) (old new : Accessor) (e : Error)
         → AreAccepted old.tables (items ++ rest) → AreItemsRefused Appending items old new e

@@ -8,7 +8,8 @@ use raft_base::LogQueue;
 use raft_table::GlobalStats;
 
 impl RegionTables {
-    /// Takes the records of all tables off the counts, and returns counts that have them alone.
+    /// Subtracts the records of all tables from the live counts `stats`, and returns counts with these
+    /// records alone.
     pub(crate) fn take_counts(&self, stats: &mut GlobalStats) -> GlobalStats
         requires { (q : LogQueue) → live_in_all q self.now ≤ live q stats.old }
         ensures taken { result ≡ counts_of self.now }
@@ -23,7 +24,7 @@ impl RegionTables {
         )
     }
 
-    /// Takes the records of all tables off the counts.
+    /// Subtracts the records of all tables from the live counts `stats`.
     fn delete_all(&self, stats: &mut GlobalStats)
         requires { (q : LogQueue) → live_in_all q self.now ≤ live q stats.old }
         ensures { stats.new ≡ with_all_deleted self.now stats.old }
@@ -34,7 +35,7 @@ impl RegionTables {
     }
 }
 
-/// Makes counts of so many live records of each queue.
+/// Returns counts with `append` live records in the append queue, and `rewrite` in the rewrite queue.
 fn new_counts(append: usize, rewrite: usize) -> GlobalStats
     ensures { result ≡ record { append = append; written = rewrite; deleted = 0 } }
 {

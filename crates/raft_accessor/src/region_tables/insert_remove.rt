@@ -9,8 +9,8 @@ use raft_base::Result;
 use raft_table::{GlobalStats, MemTable};
 
 impl RegionTables {
-    /// Puts a table under its region's id, and hands back the one that stood there, with the errors of
-    /// [`MemTableAccessor::insert`](crate::MemTableAccessor::insert).
+    /// Puts `table` under its region's id, and returns the one that was there. Does what
+    /// [`MemTableAccessor::insert`](crate::MemTableAccessor::insert) does, with its errors.
     pub fn insert(
         &mut self,
         id: u64,
@@ -25,13 +25,13 @@ impl RegionTables {
         Ok(unboxed(self.put(id, table, stats)?))
     }
 
-    /// Puts a table under its region's id and counts its records. Hands back the one that stood
-    /// there, which is taken off the counts.
+    /// Puts `table` under its region's id, in place of the one that is there, which is returned, and counts
+    /// the change.
     ///
     /// # Errors
     ///
-    /// `Full` where more than 2^64 - 1 records would be live in a queue beside the replaced table,
-    /// and `Memory`. Tables and counts are then as they were, and the new table is lost.
+    /// `Full` if more than 2^64 - 1 records would be live in a queue, the replaced table still counted;
+    /// `Memory`. Tables and counts are unchanged then, and `table` is dropped.
     pub(crate) fn put(
         &mut self,
         id: u64,
@@ -53,7 +53,8 @@ impl RegionTables {
         }
     }
 
-    /// Takes a region's table away, and its records off the counts.
+    /// Removes the table of the region `id` and returns it, or `None` if it has none, and subtracts its
+    /// records from the live counts.
     pub fn remove(&mut self, id: u64, stats: &mut GlobalStats) -> Option<MemTable>
         requires { IsCounted (table_in self.old id) stats.old }
         ensures { IsTakenOut id result self.old stats.old self.new stats.new }
@@ -61,7 +62,7 @@ impl RegionTables {
         unboxed(self.take(id, stats))
     }
 
-    /// Takes a region's table away in its box, and its records off the counts.
+    /// Does what [`RegionTables::remove`] does for the region `id`, and returns the table in its box.
     pub(crate) fn take(&mut self, id: u64, stats: &mut GlobalStats) -> Option<BoxedTable>
         requires { IsCounted (table_in self.old id) stats.old }
         ensures { IsTakenOut id result self.old stats.old self.new stats.new }
@@ -72,7 +73,8 @@ impl RegionTables {
     }
 }
 
-/// Takes the records of a table off the counts, if there is one.
+/// Subtracts the records of `table`, which was removed from the region `id`, from the live counts, if there
+/// is one.
 fn delete_replaced(id: u64, table: &Option<BoxedTable>, stats: &mut GlobalStats)
     requires { (q : LogQueue) → live_of q (table_of id table.now) ≤ live q stats.old }
     ensures counts { stats.new ≡ with_table_deleted (table_of id table.now) stats.old }

@@ -32,30 +32,30 @@ impl RegionTables {
         }
     }
 
-    /// Returns how many tables there are.
+    /// Returns the number of regions of the slot that have a table.
     pub fn len(&self) -> usize
         ensures { result ≡ finite.len self.now }
     {
         self.tables.len()
     }
 
-    /// Makes room for `count` tables.
+    /// Makes room for at least `count` tables in all.
     ///
     /// # Errors
     ///
-    /// Where there is no memory for it.
+    /// `AllocError` if there is no memory for it. Nothing changes in either case.
     pub(crate) fn make_room(&mut self, count: usize) -> AllocResult<()>
         ensures { self.new ≡ self.old }
     {
         self.tables.reserve(count.saturating_sub(self.tables.len()))
     }
 
-    /// Puts a newer table of a region over its own one, if it has one, as the newer region mark
-    /// says, and returns what `join_table` returns.
+    /// Puts a newer table of the region `id` over the own one, if it has one, as the newer region mark says.
+    /// Returns what [`RegionTables::join_table`] returns.
     ///
     /// # Errors
     ///
-    /// Those of `join_table`.
+    /// Those of [`RegionTables::join_table`].
     fn put_newer(
         &mut self,
         queue: LogQueue,
@@ -78,13 +78,13 @@ impl RegionTables {
         Ok((0, 0))
     }
 
-    /// Drops what a newer region mark takes away of a region's table, where the newer neighbor has
-    /// no table of the region. Returns what `join_table` returns.
+    /// Drops from the table of the region `id` what a newer region mark takes away, where the newer neighbor
+    /// has no table of the region. Returns what [`RegionTables::join_table`] returns.
     ///
     /// # Errors
     ///
-    /// `Corruption` where the mark's steps are refused over these entries; `Memory`. The counts
-    /// still agree with the table then.
+    /// `Corruption` if the mark's steps are refused over these entries; `Memory`. The counts still agree with
+    /// the table then.
     fn drop_under(
         &mut self,
         queue: LogQueue,
@@ -112,8 +112,8 @@ impl RegionTables {
     }
 }
 
-/// Puts a newer table over an older one as the newer region mark says. Returns where the older
-/// entries begin, and the end of those that the mark's first run meets.
+/// Puts a newer table over `older`, as the newer region mark says. Returns the index of the first older
+/// entry, and the end of the older entries that the mark's first run meets; both are 0 if there are none.
 ///
 /// # Errors
 ///
@@ -138,7 +138,7 @@ fn put_over(
     Ok((start, end))
 }
 
-/// Returns the first index of a table's entries, 0 without entries.
+/// Returns the index of the first entry of `table`, or 0 without entries.
 fn start_of(table: &MemTable) -> u64
     ensures start { result ≡ start_of table.now.entries }
     ensures run { IsRun table.now.entries }

@@ -9,12 +9,12 @@ use raft_base::Result;
 use raft_table::{GlobalStats, Mark, MemTable};
 
 impl RegionTables {
-    /// Puts an appended table of a region, or its absence, over the rewritten one, as the region
-    /// mark of the append queue says.
+    /// Puts an appended table of the region `id`, or its absence, over the rewritten one, as the region mark
+    /// of the append queue says.
     ///
     /// # Errors
     ///
-    /// Those of [`MemTable::overlay`], and `Memory`. The counts still agree with the tables then.
+    /// Those of [`MemTable::overlay`]; `Memory`. The counts still agree with the tables then.
     pub(crate) fn overlay_table(
         &mut self,
         id: u64,
@@ -34,12 +34,11 @@ impl RegionTables {
         }
     }
 
-    /// Puts an appended table of a region over the rewritten one, which is made where there is
-    /// none.
+    /// Puts an appended table of the region `id` over the rewritten one, which is made if there is none.
     ///
     /// # Errors
     ///
-    /// Those of [`MemTable::overlay`], and `Memory`. The counts still agree with the tables then.
+    /// Those of [`MemTable::overlay`]; `Memory`. The counts still agree with the tables then.
     fn put_appended(
         &mut self,
         id: u64,
@@ -71,12 +70,12 @@ impl RegionTables {
         )
     }
 
-    /// Drops of a region's rewritten table what the append queue takes away, in which it has no
-    /// table.
+    /// Drops from the rewritten table of the region `id` what the append queue, in which the region has no
+    /// table, takes away.
     ///
     /// # Errors
     ///
-    /// Those of [`MemTable::overlay`], and `Memory`. The counts still agree with the table then.
+    /// Those of [`MemTable::overlay`]; `Memory`. The counts still agree with the table then.
     fn drop_rewritten(&mut self, id: u64, mark: &Mark, stats: &mut GlobalStats) -> Result<()>
         requires counted { IsCounted (table_in self.old id) stats.old }
         ensures { IsTableOverlaid mark.now None self.old id stats.old result self.new stats.new }

@@ -11,11 +11,11 @@ use raft_base::{EntryIndex, FileId, FileSeq, LogQueue, Result};
 use raft_table::{GlobalStats, Step};
 
 impl RegionTables {
-    /// Puts a new run of the append queue into a region's table.
+    /// Puts a new run of the append queue into the table of the region `id`, which is made if there is none.
     ///
     /// # Errors
     ///
-    /// Those of [`MemTable::append`], and `Memory`. Tables and counts are then as they were.
+    /// Those of [`MemTable::append`]; `Memory`. Tables and counts are unchanged then.
     pub(crate) fn append_run(
         &mut self,
         id: u64,
@@ -34,13 +34,12 @@ impl RegionTables {
         self.update(id, stats, move |table, stats| table.append(run, stats))
     }
 
-    /// Does a step of a queue on a region's table. A clean takes the table away, and in the append
-    /// queue lists the region.
+    /// Takes in a step that was read from `queue` on the table of the region `id`, which is made if there is
+    /// none. A clean removes the table, and in the append queue appends the region to `cleaned`.
     ///
     /// # Errors
     ///
-    /// Those of [`MemTable::take_step`], and `Memory`. Tables, counts and list are then as they
-    /// were.
+    /// Those of [`MemTable::take_step`]; `Memory`. Tables, counts and list are unchanged then.
     pub(crate) fn take_step(
         &mut self,
         queue: LogQueue,
@@ -62,8 +61,9 @@ impl RegionTables {
         })
     }
 
-    /// Puts copies of a key and its value into a region's table, where that has entries, and
-    /// returns whether it did. Where it did not, as for want of memory, nothing has changed.
+    /// Puts copies of `key` and `value`, which is in `file`, into the table of the region `id`, if it has
+    /// entries. Returns whether it did. It doesn't either if the table refuses the put, as for want of
+    /// memory; nothing has changed then.
     pub(crate) fn try_put(
         &mut self,
         id: u64,
@@ -84,11 +84,11 @@ impl RegionTables {
         table.boxed.try_put(key, value, file, stats)
     }
 
-    /// Takes a region's table away, and in the append queue lists the region.
+    /// Removes the table of the region `id`, and in the append queue appends the region to `cleaned`.
     ///
     /// # Errors
     ///
-    /// `Memory`, in the append queue alone. Tables, counts and list are then as they were.
+    /// `Memory` alone, and only in the append queue. Tables, counts and list are unchanged then.
     fn clean(
         &mut self,
         queue: LogQueue,
@@ -113,11 +113,12 @@ impl RegionTables {
         }
     }
 
-    /// Gives the entries of a region's table the places of a run of the rewrite queue.
+    /// Gives entries of the region `id` the places of a run of the rewrite queue ([`MemTable::rewrite`]). Its
+    /// table is made if there is none.
     ///
     /// # Errors
     ///
-    /// Those of [`MemTable::rewrite`], and `Memory`. Tables and counts are then as they were.
+    /// Those of [`MemTable::rewrite`]; `Memory`. Tables and counts are unchanged then.
     pub(crate) fn rewrite_run(
         &mut self,
         id: u64,
@@ -139,11 +140,12 @@ impl RegionTables {
         })
     }
 
-    /// Moves a region's key to the file of number `seq` of the rewrite queue, if the gate lets it.
+    /// Moves the value of `key` of the region `id` to the file numbered `seq` of the rewrite queue, if the
+    /// `gate` lets it ([`MemTable::rewrite_key`]). The table is made if there is none.
     ///
     /// # Errors
     ///
-    /// Those of [`MemTable::rewrite_key`], and `Memory`. Tables and counts are then as they were.
+    /// Those of [`MemTable::rewrite_key`]; `Memory`. Tables and counts are unchanged then.
     pub(crate) fn rewrite_key(
         &mut self,
         id: u64,

@@ -14,8 +14,11 @@ use crate::codec::{BytesSlice, Error, Result};
 /// The sign bit of an `i64` in two's complement.
 pub(crate) const SIGN_BIT: u64 = 1 << 63;
 
-/// Takes the first `N` bytes off the slice. On `Err` there are fewer, the slice is as it was, and
-/// the error is `Io` of kind `UnexpectedEof`.
+/// Takes the first `N` bytes off `buf`.
+///
+/// # Errors
+///
+/// `Io` of the kind `UnexpectedEof` if there are fewer. `buf` is unchanged then.
 #[inline]
 fn take_front<const N: usize>(buf: &mut BytesSlice<'_>) -> Result<[u8; N]>
     ensures ok { IfOk result (λ front. buf.old.now ≡ front ++ buf.new.now) }
@@ -33,7 +36,11 @@ fn take_front<const N: usize>(buf: &mut BytesSlice<'_>) -> Result<[u8; N]>
     }
 }
 
-/// Reads one byte from the front. On `Err` the slice is empty, and the error is `Io` of kind `UnexpectedEof`.
+/// Takes the first byte off `buf`, and returns it.
+///
+/// # Errors
+///
+/// `Io` of the kind `UnexpectedEof` if there is none. `buf` is unchanged then.
 #[inline]
 pub fn read_u8(buf: &mut BytesSlice<'_>) -> Result<u8>
     ensures ok { IfOk result (λ byte. buf.old.now ≡ byte ∷ buf.new.now) }
@@ -50,8 +57,11 @@ pub fn read_u8(buf: &mut BytesSlice<'_>) -> Result<u8>
     }
 }
 
-/// Reads a number of eight bytes, the highest first. On `Err` there are fewer bytes, the slice is as it was,
-/// and the error is `Io` of kind `UnexpectedEof`.
+/// Reads a number of eight bytes, the highest first, from the start of `buf`, which is moved behind it.
+///
+/// # Errors
+///
+/// `Io` of the kind `UnexpectedEof` if there are fewer than eight bytes. `buf` is unchanged then.
 #[inline]
 pub fn decode_u64(buf: &mut BytesSlice<'_>) -> Result<u64>
     ensures ok { IfOk result (Reads (IsBig 8) buf.old.now buf.new.now) }
@@ -63,8 +73,11 @@ pub fn decode_u64(buf: &mut BytesSlice<'_>) -> Result<u64>
     Ok(u64::from_be_bytes(bytes))
 }
 
-/// Reads a number of four bytes, the highest first. On `Err` there are fewer bytes, the slice is as it was, and
-/// the error is `Io` of kind `UnexpectedEof`.
+/// Reads a number of four bytes, the highest first, from the start of `buf`, which is moved behind it.
+///
+/// # Errors
+///
+/// `Io` of the kind `UnexpectedEof` if there are fewer than four bytes. `buf` is unchanged then.
 #[inline]
 #[tactic(auto, using(crate::proofs::FixedLemmas::reads_big_4))]
 pub fn decode_u32(buf: &mut BytesSlice<'_>) -> Result<u32>
@@ -77,8 +90,11 @@ pub fn decode_u32(buf: &mut BytesSlice<'_>) -> Result<u32>
     Ok(u32::from_be_bytes(bytes))
 }
 
-/// Reads a number of two bytes, the highest first. On `Err` there are fewer bytes, the slice is as it was, and
-/// the error is `Io` of kind `UnexpectedEof`.
+/// Reads a number of two bytes, the highest first, from the start of `buf`, which is moved behind it.
+///
+/// # Errors
+///
+/// `Io` of the kind `UnexpectedEof` if there are fewer than two bytes. `buf` is unchanged then.
 #[inline]
 #[tactic(auto, using(crate::proofs::FixedLemmas::reads_big_2))]
 pub fn decode_u16(buf: &mut BytesSlice<'_>) -> Result<u16>
@@ -91,8 +107,13 @@ pub fn decode_u16(buf: &mut BytesSlice<'_>) -> Result<u16>
     Ok(u16::from_be_bytes(bytes))
 }
 
-/// Reads what `encode_u64_desc` writes. On `Err` there are fewer bytes, the slice is as it was, and the error
-/// is `Io` of kind `UnexpectedEof`.
+/// Reads a number of eight bytes from the start of `buf`, which is moved behind it: every bit complemented,
+/// the highest byte first, as
+/// [`NumberEncoder::encode_u64_desc`](crate::codec::NumberEncoder::encode_u64_desc) writes it.
+///
+/// # Errors
+///
+/// `Io` of the kind `UnexpectedEof` if there are fewer than eight bytes. `buf` is unchanged then.
 #[inline]
 pub fn decode_u64_desc(buf: &mut BytesSlice<'_>) -> Result<u64>
     ensures ok { IfOk result (Reads IsU64Desc buf.old.now buf.new.now) }
@@ -104,8 +125,13 @@ pub fn decode_u64_desc(buf: &mut BytesSlice<'_>) -> Result<u64>
     Ok(!complement)
 }
 
-/// Reads what `encode_i64` writes. On `Err` there are fewer bytes, the slice is as it was, and the error is
-/// `Io` of kind `UnexpectedEof`.
+/// Reads a number of eight bytes from the start of `buf`, which is moved behind it: two's complement with
+/// the sign bit flipped, the highest byte first, as
+/// [`NumberEncoder::encode_i64`](crate::codec::NumberEncoder::encode_i64) writes it.
+///
+/// # Errors
+///
+/// `Io` of the kind `UnexpectedEof` if there are fewer than eight bytes. `buf` is unchanged then.
 #[inline]
 pub fn decode_i64(buf: &mut BytesSlice<'_>) -> Result<i64>
     ensures ok { IfOk result (Reads IsI64 buf.old.now buf.new.now) }
@@ -117,8 +143,13 @@ pub fn decode_i64(buf: &mut BytesSlice<'_>) -> Result<i64>
     Ok((flipped ^ SIGN_BIT).cast_signed())
 }
 
-/// Reads what `encode_i64_desc` writes. On `Err` there are fewer bytes, the slice is as it was, and the error
-/// is `Io` of kind `UnexpectedEof`.
+/// Reads a number of eight bytes from the start of `buf`, which is moved behind it: the bytes of
+/// [`NumberEncoder::encode_i64`](crate::codec::NumberEncoder::encode_i64) with every bit complemented, as
+/// [`NumberEncoder::encode_i64_desc`](crate::codec::NumberEncoder::encode_i64_desc) writes it.
+///
+/// # Errors
+///
+/// `Io` of the kind `UnexpectedEof` if there are fewer than eight bytes. `buf` is unchanged then.
 #[inline]
 pub fn decode_i64_desc(buf: &mut BytesSlice<'_>) -> Result<i64>
     ensures ok { IfOk result (Reads IsI64Desc buf.old.now buf.new.now) }
@@ -130,8 +161,11 @@ pub fn decode_i64_desc(buf: &mut BytesSlice<'_>) -> Result<i64>
     Ok((flipped ^ SIGN_BIT).cast_signed())
 }
 
-/// Reads a number of two bytes, the lowest first. On `Err` there are fewer bytes, the slice is as it
-/// was, and the error is `Io` of kind `UnexpectedEof`.
+/// Reads a number of two bytes, the lowest first, from the start of `buf`, which is moved behind it.
+///
+/// # Errors
+///
+/// `Io` of the kind `UnexpectedEof` if there are fewer than two bytes. `buf` is unchanged then.
 #[inline]
 #[tactic(auto, using(crate::proofs::FixedLemmas::reads_little_2))]
 pub fn decode_u16_le(buf: &mut BytesSlice<'_>) -> Result<u16>
@@ -144,8 +178,11 @@ pub fn decode_u16_le(buf: &mut BytesSlice<'_>) -> Result<u16>
     Ok(u16::from_le_bytes(bytes))
 }
 
-/// Reads a number of four bytes, the lowest first. On `Err` there are fewer bytes, the slice is as it
-/// was, and the error is `Io` of kind `UnexpectedEof`.
+/// Reads a number of four bytes, the lowest first, from the start of `buf`, which is moved behind it.
+///
+/// # Errors
+///
+/// `Io` of the kind `UnexpectedEof` if there are fewer than four bytes. `buf` is unchanged then.
 #[inline]
 #[tactic(auto, using(crate::proofs::FixedLemmas::reads_little_4))]
 pub fn decode_u32_le(buf: &mut BytesSlice<'_>) -> Result<u32>
@@ -158,8 +195,11 @@ pub fn decode_u32_le(buf: &mut BytesSlice<'_>) -> Result<u32>
     Ok(u32::from_le_bytes(bytes))
 }
 
-/// Reads a number of eight bytes, the lowest first. On `Err` there are fewer bytes, the slice is as it
-/// was, and the error is `Io` of kind `UnexpectedEof`.
+/// Reads a number of eight bytes, the lowest first, from the start of `buf`, which is moved behind it.
+///
+/// # Errors
+///
+/// `Io` of the kind `UnexpectedEof` if there are fewer than eight bytes. `buf` is unchanged then.
 #[inline]
 pub fn decode_u64_le(buf: &mut BytesSlice<'_>) -> Result<u64>
     ensures ok { IfOk result (Reads (IsLittle 8) buf.old.now buf.new.now) }
@@ -171,8 +211,12 @@ pub fn decode_u64_le(buf: &mut BytesSlice<'_>) -> Result<u64>
     Ok(u64::from_le_bytes(bytes))
 }
 
-/// Reads two's complement in four bytes, the lowest first. On `Err` there are fewer bytes, the slice is as it
-/// was, and the error is `Io` of kind `UnexpectedEof`.
+/// Reads a number in two's complement, of four bytes, the lowest first, from the start of `buf`, which is
+/// moved behind it.
+///
+/// # Errors
+///
+/// `Io` of the kind `UnexpectedEof` if there are fewer than four bytes. `buf` is unchanged then.
 #[inline]
 pub fn decode_i32_le(buf: &mut BytesSlice<'_>) -> Result<i32>
     ensures ok { IfOk result (Reads (IsSignedLittle w32) buf.old.now buf.new.now) }
@@ -184,8 +228,12 @@ pub fn decode_i32_le(buf: &mut BytesSlice<'_>) -> Result<i32>
     Ok(bits.cast_signed())
 }
 
-/// Reads two's complement in eight bytes, the lowest first. On `Err` there are fewer bytes, the slice is as it
-/// was, and the error is `Io` of kind `UnexpectedEof`.
+/// Reads a number in two's complement, of eight bytes, the lowest first, from the start of `buf`, which is
+/// moved behind it.
+///
+/// # Errors
+///
+/// `Io` of the kind `UnexpectedEof` if there are fewer than eight bytes. `buf` is unchanged then.
 #[inline]
 pub fn decode_i64_le(buf: &mut BytesSlice<'_>) -> Result<i64>
     ensures ok { IfOk result (Reads (IsSignedLittle w64) buf.old.now buf.new.now) }
@@ -197,7 +245,7 @@ pub fn decode_i64_le(buf: &mut BytesSlice<'_>) -> Result<i64>
     Ok(bits.cast_signed())
 }
 
-/// States that what is written in a fixed count of bytes is read again, whatever follows it.
+/// States that what is written in a fixed count of bytes is read back, whatever follows it.
 pub fn fixed_is_read_again()
     ensures big { (width : ℕ) → IsReadAgain width (λ x. x < 256 ^ width) (big_bytes width) }
     ensures little { (width : ℕ) → IsReadAgain width (λ x. x < 256 ^ width) (little_bytes width) }
@@ -208,9 +256,9 @@ pub fn fixed_is_read_again()
     ensures i64_le { IsReadAgain 8 (FitsSigned w64) (signed_le_bytes w64) }
 {}
 
-/// States how bytes order. Bytes with the highest first order as their numbers do, those of `encode_i64` too,
-/// and those of `encode_u64_desc` and `encode_i64_desc` in reverse. An `i64` is written as its distance from
-/// the least one.
+/// States how bytes order. Bytes with the highest first order as their numbers do, those of `encode_i64` too;
+/// those of `encode_u64_desc` and `encode_i64_desc` in reverse. An `i64` is written as its distance from the
+/// least one.
 pub fn bytes_order_as_numbers()
     ensures big { (width : ℕ) → OrdersAs nat_cmp (λ x. x < 256 ^ width) (big_bytes width) }
     ensures u64_desc { OrdersAs (λ x y. nat_cmp y x) (λ x. x < 2 ^ 64) u64_desc_bytes }

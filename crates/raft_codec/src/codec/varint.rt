@@ -11,12 +11,16 @@ use std::alloc::AllocError;
 use std::io;
 use std::io::{ErrorKind, Write};
 
-/// The most bytes that a number takes.
+/// The most bytes that a number in base 128 takes.
 pub const MAX_VAR_U64_LEN: usize = 10;
 
-/// Reads a number from the front, also one in a longer spelling than `encode_var_u64` writes. It takes no
-/// memory. On `Err` the slice is as it was: `UnexpectedEof` where the bytes end before their number does,
-/// `InvalidData` where it passes 64 bits.
+/// Reads a number in base 128 from the start of `buf`, which is moved behind it, also one in a longer form
+/// than `encode_var_u64` writes. It allocates nothing.
+///
+/// # Errors
+///
+/// `Io` of the kind `UnexpectedEof` if the bytes end before their number does, or `InvalidData` if it passes
+/// 64 bits. `buf` is unchanged then.
 #[inline(always)]
 pub fn decode_var_u64(buf: &mut BytesSlice<'_>) -> Result<u64>
     ensures ok { IfOk result (Reads IsVarint buf.old.now buf.new.now) }
@@ -29,8 +33,11 @@ pub fn decode_var_u64(buf: &mut BytesSlice<'_>) -> Result<u64>
     Ok(number)
 }
 
-/// Returns the number in front of `bytes` and what follows it: what `decode_var_u64` reads, for readers that
-/// hold no slice to move on.
+/// Does what [`decode_var_u64`] does, but returns the number with the bytes behind it.
+///
+/// # Errors
+///
+/// Those of [`decode_var_u64`].
 #[inline(always)]
 pub fn parse_var_u64(bytes: &[u8]) -> Result<(u64, &[u8])>
     ensures ok { IfOk result (λ read. Reads IsVarint bytes.now read.1.now read.0) }
@@ -43,8 +50,8 @@ pub fn parse_var_u64(bytes: &[u8]) -> Result<(u64, &[u8])>
     }
 }
 
-/// Returns the number in front of `bytes` and what follows it, where the number takes four bytes at most, as
-/// most numbers do. Returns nothing where it takes more, or where no number is there.
+/// Reads a number in base 128 that takes at most four bytes, as most do, from the start of `bytes`. Returns
+/// it with the bytes behind it, or `None` if it takes more, or there is no number.
 #[doc(hidden)]
 #[inline(always)]
 pub fn parse_short_var_u64(bytes: &[u8]) -> Option<(u64, &[u8])>
@@ -72,7 +79,8 @@ pub fn parse_short_var_u64(bytes: &[u8]) -> Option<(u64, &[u8])>
     }
 }
 
-/// Returns the number of two septets, the lower one first. Their top bits count for nothing.
+/// Returns the number of two septets of 7 bits, the lower one in `first`, the other in `second`. The top bits
+/// of both bytes are ignored.
 #[inline(always)]
 fn two_septets(first: u8, second: u8) -> u64
     ensures { result ≡ first % 128 + 128 * (second % 128) }
@@ -80,12 +88,13 @@ fn two_septets(first: u8, second: u8) -> u64
     u64::from(first % 0x80) + (u64::from(second % 0x80) << 7)
 }
 
-/// Returns the number at the front of `bytes` and what follows it, septet by septet.
+/// Reads a number in base 128 from the start of `bytes`, septet by septet. Returns it with the bytes behind
+/// it.
 ///
 /// # Errors
 ///
-/// `UnexpectedEof` where the bytes end before their number does, `InvalidData` where it passes 64
-/// bits.
+/// `Io` of the kind `UnexpectedEof` if the bytes end before their number does, or `InvalidData` if it passes
+/// 64 bits.
 #[inline(never)]
 fn parse_septets(bytes: &[u8]) -> Result<(u64, &[u8])>
     ensures ok { IfOk result (λ read. Reads IsVarint bytes.now read.1.now read.0) }
@@ -106,7 +115,7 @@ fn parse_septets(bytes: &[u8]) -> Result<(u64, &[u8])>
     Err(Error::unexpected_eof())
 }
 
-/// Returns what a septet adds to the number at its place, the lowest of which is 0.
+/// Returns what the septet `bits` adds to a number at `place`, counted from 0, the lowest one.
 #[inline]
 fn at_place(bits: u8, place: usize) -> u64
     requires septet { bits < 128 }
@@ -117,7 +126,8 @@ fn at_place(bits: u8, place: usize) -> u64
     u64::from(bits) << (7 * place)
 }
 
-/// Writes the shortest spelling of a number into the front of `bytes`, and returns its length.
+/// Writes `number` in base 128, in its shortest form, over the start of `bytes`, and returns its length in
+/// bytes.
 #[inline]
 pub(crate) fn put_var_u64(bytes: &mut [u8; 10], number: u64) -> usize
     ensures written { take result bytes.new ≡ varint number }
@@ -136,12 +146,12 @@ pub(crate) fn put_var_u64(bytes: &mut [u8; 10], number: u64) -> usize
     MAX_VAR_U64_LEN
 }
 
-/// Writes a byte, and returns whether the writer took it at once. It may be asked again where it
-/// did not.
+/// Writes `byte`, and returns whether the writer took it at once. It didn't if the write was interrupted, and
+/// may be asked again.
 ///
 /// # Errors
 ///
-/// That of the writer, as `Io`.
+/// `Io` if the writer fails.
 pub(crate) fn takes_byte<W: Write>(writer: &mut W, byte: u8) -> Result<bool>
     ensures written { IfOk result (λ written. MatchBool written
         (Appends (W.contents writer.old) (W.contents writer.new) (byte ∷ []))
@@ -155,7 +165,11 @@ pub(crate) fn takes_byte<W: Write>(writer: &mut W, byte: u8) -> Result<bool>
     }
 }
 
-/// Appends the shortest spelling of `number`. On `Err` the vector is as it was.
+/// Appends `number` in base 128, in its shortest form: 300 is `ac 02`.
+///
+/// # Errors
+///
+/// `AllocError` if there is no memory for it. `buf` is unchanged then.
 #[doc(hidden)]
 #[inline]
 pub fn append_var_u64(buf: &mut Vec<u8>, number: u64) -> std::result::Result<(), AllocError>
@@ -181,7 +195,7 @@ pub fn append_var_u64(buf: &mut Vec<u8>, number: u64) -> std::result::Result<(),
     buf.extend_from_slice(&bytes[..len])
 }
 
-/// Returns the spelling of a number that takes two bytes.
+/// Returns the two bytes of `number`, from 2^7 to 2^14 - 1, in base 128.
 fn in_two_bytes(number: u64) -> [u8; 2]
     requires least { 128 ≤ number }
     requires below { number < 16384 }
@@ -190,7 +204,7 @@ fn in_two_bytes(number: u64) -> [u8; 2]
     [septet(number), (number >> 7) as u8]
 }
 
-/// Returns the spelling of a number that takes three bytes.
+/// Returns the three bytes of `number`, from 2^14 to 2^21 - 1, in base 128.
 fn in_three_bytes(number: u64) -> [u8; 3]
     requires least { 16384 ≤ number }
     requires below { number < 2097152 }
@@ -199,7 +213,7 @@ fn in_three_bytes(number: u64) -> [u8; 3]
     [septet(number), septet(number >> 7), (number >> 14) as u8]
 }
 
-/// Returns the spelling of a number that takes four bytes.
+/// Returns the four bytes of `number`, from 2^21 to 2^28 - 1, in base 128.
 fn in_four_bytes(number: u64) -> [u8; 4]
     requires least { 2097152 ≤ number }
     requires below { number < 268435456 }
@@ -213,15 +227,15 @@ fn in_four_bytes(number: u64) -> [u8; 4]
     ]
 }
 
-/// Returns the byte of a number's lowest septet, behind which others follow.
+/// Returns the byte for the lowest 7 bits of `number`, with the top bit that says that others follow.
 fn septet(number: u64) -> u8
     ensures { result ≡ number % 128 + 128 }
 {
     (number % 0x80) as u8 + 0x80
 }
 
-/// States that what is written is a spelling of its number, that none is shorter, and that no spelling of a
-/// number begins another. So what was written is read again, whatever follows it.
+/// States that what is written of a number is a spelling of it, that none is shorter, and that no spelling of
+/// a number is the start of another. So what was written is read back, whatever follows it.
 pub fn varint_is_read_again()
     ensures spelled { (n : ℕ) → n < 2 ^ 64 → IsVarint (varint n) n }
     ensures shortest { (n : ℕ) (bytes : List ℕ) → n < 2 ^ 64 → IsVarint bytes n →

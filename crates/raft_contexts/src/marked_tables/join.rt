@@ -10,12 +10,13 @@ use raft_accessor::{BoxedTable, MemTableAccessor, RegionTables};
 use raft_base::{AllocResult, LogQueue, Result};
 
 impl MarkedTables {
-    /// Joins the tables, region marks and cleaned regions of a newer neighbor.
+    /// Joins the tables, region marks and cleaned regions of the newer neighbor `newer`, the tables of the
+    /// batches that follow in `queue`, to these.
     ///
     /// # Errors
     ///
-    /// `Corruption` where entries leave a hole in the append queue; `Full` where both hold more
-    /// than 2^64 - 1 records; `Memory`. Some regions are then joined.
+    /// `Corruption` if entries leave a hole in the append queue; `Full` if both together have more than 2^64
+    /// - 1 records; `Memory`. Some of the regions may have been joined then.
     pub(crate) fn join(&mut self, queue: LogQueue, newer: MarkedTables) -> Result<()>
         requires older { live_in_all (other queue) self.old.accessor.tables ≡ 0 }
         requires newer { live_in_all (other queue) newer.accessor.tables ≡ 0 }
@@ -39,11 +40,12 @@ impl MarkedTables {
         self.join_rest(queue, accessor)
     }
 
-    /// Joins the regions whose newer region mark is kept, and takes their tables out.
+    /// Joins the regions whose newer region mark is among `marks`, and takes their tables out of `tables`.
+    /// The others are left to [`join_rest`](MarkedTables::join_rest).
     ///
     /// # Errors
     ///
-    /// Those of [`join`](MarkedTables::join). Some regions are then joined.
+    /// Those of [`join`](MarkedTables::join). Some of the regions may have been joined then.
     fn join_regions(
         &mut self,
         queue: LogQueue,
@@ -63,11 +65,12 @@ impl MarkedTables {
         Ok(())
     }
 
-    /// Makes room in a slot for the tables and the region marks of `count` regions.
+    /// Makes room for the tables and the region marks of `count` regions in the slot numbered `slot`, below
+    /// 128.
     ///
     /// # Errors
     ///
-    /// Where there is no memory for them.
+    /// `AllocError` if there is no memory for it. No table and no mark changes in either case.
     fn make_room(&mut self, slot: usize, count: usize) -> AllocResult<()>
         requires { slot < 128 }
         ensures { self.new ≡ self.old }
@@ -76,12 +79,12 @@ impl MarkedTables {
         self.accessor.make_room(slot, count)
     }
 
-    /// Joins the regions of a slot whose newer region mark is kept, and takes their tables out of
+    /// Joins the regions of one slot whose newer region mark is among `marks`, and takes their tables out of
     /// `tables`.
     ///
     /// # Errors
     ///
-    /// Those of [`join`](MarkedTables::join). Some regions are then joined.
+    /// Those of [`join`](MarkedTables::join). Some of the regions may have been joined then.
     fn join_slot(
         &mut self,
         queue: LogQueue,
@@ -99,12 +102,12 @@ impl MarkedTables {
         Ok(())
     }
 
-    /// Joins a newer region, with its table, if it has one, to the own one: the table under the
-    /// newer region mark, and then the marks.
+    /// Joins the newer region mark `mark` of the region `id`, and its newer table, if there is one: first the
+    /// table, under that mark, over the own one, and then the marks.
     ///
     /// # Errors
     ///
-    /// Those of [`join`](MarkedTables::join). The table may then be joined alone.
+    /// Those of [`join`](MarkedTables::join). The table may then have been joined, and the mark not.
     fn join_region(
         &mut self,
         queue: LogQueue,
@@ -142,11 +145,11 @@ impl MarkedTables {
         Ok(self.marks.join(id, queue, ends.1, mark)?)
     }
 
-    /// Joins the newer tables that are left, each under the region mark that it implies.
+    /// Joins `tables`, the newer ones that have no kept region mark, each under the one that it implies.
     ///
     /// # Errors
     ///
-    /// Those of [`join`](MarkedTables::join). Some regions are then joined.
+    /// Those of [`join`](MarkedTables::join). Some of the regions may have been joined then.
     fn join_rest(&mut self, queue: LogQueue, tables: MemTableAccessor) -> Result<()>
         requires older { live_in_all (other queue) self.old.accessor.tables ≡ 0 }
         requires newer { live_in_all (other queue) tables.tables ≡ 0 }
@@ -171,11 +174,11 @@ impl MarkedTables {
         Ok(())
     }
 
-    /// Joins newer tables, each under the region mark that it implies.
+    /// Joins `tables`, the newer ones of one slot, each under the region mark that it implies.
     ///
     /// # Errors
     ///
-    /// Those of [`join`](MarkedTables::join). Some regions are then joined.
+    /// Those of [`join`](MarkedTables::join). Some of the regions may have been joined then.
     fn join_tables(&mut self, queue: LogQueue, tables: RegionTables) -> Result<()>
         requires older { live_in_all (other queue) self.old.accessor.tables ≡ 0 }
         requires newer { live_in_all (other queue) tables ≡ 0 }
@@ -196,11 +199,11 @@ impl MarkedTables {
         Ok(())
     }
 
-    /// Joins a newer table under the region mark that it implies.
+    /// Joins the newer table `newer` of the region `id` under the region mark that it implies.
     ///
     /// # Errors
     ///
-    /// Those of [`join`](MarkedTables::join). The table may then be joined alone.
+    /// Those of [`join`](MarkedTables::join). The table may then have been joined, and the mark not.
     fn join_implied(&mut self, queue: LogQueue, id: u64, newer: BoxedTable) -> Result<()>
         requires region { newer.region_id ≡ id }
         requires own { live_of (other queue) newer ≡ 0 }

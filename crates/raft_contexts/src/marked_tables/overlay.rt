@@ -9,12 +9,13 @@ use raft_accessor::{MemTableAccessor, RegionTables};
 use raft_base::Result;
 
 impl MarkedTables {
-    /// Puts the tables of the append queue over these rewritten ones, as their region marks say,
-    /// and lists its cleaned regions alone.
+    /// Puts `appended`, the tables of the append queue, over these rewritten ones, as their region marks say.
+    /// The cleaned regions become those of the append queue.
     ///
     /// # Errors
     ///
-    /// `Full` where both hold more than 2^64 - 1 records; `Memory`. Some regions are then overlaid.
+    /// `Full` if both together have more than 2^64 - 1 records; `Memory`. Some of the regions may have been
+    /// overlaid then.
     pub(crate) fn overlay(&mut self, appended: MarkedTables) -> Result<()>
         requires own { live_in_all Rewrite appended.accessor.tables ≡ 0 }
         ensures ok { StandForSteps Rewrite (regions_in self.old)
@@ -34,12 +35,13 @@ impl MarkedTables {
         self.overlay_rest(accessor)
     }
 
-    /// Puts the regions of the append queue whose region mark is kept over the rewritten ones, and
-    /// takes their tables out.
+    /// Puts the regions of the append queue whose region mark is among `marks` over the rewritten ones, and
+    /// takes their tables out of `appended`. The others are left to
+    /// [`overlay_rest`](MarkedTables::overlay_rest).
     ///
     /// # Errors
     ///
-    /// Those of [`overlay`](MarkedTables::overlay). Some regions are then overlaid.
+    /// Those of [`overlay`](MarkedTables::overlay). Some of the regions may have been overlaid then.
     fn overlay_regions(&mut self, marks: RegionMarks, appended: &mut MemTableAccessor) -> Result<()>
         requires own { live_in_all Rewrite appended.old.tables ≡ 0 }
         ensures { AreMarksOverlaid marks result self.old.accessor.tables self.new.accessor.tables
@@ -51,12 +53,12 @@ impl MarkedTables {
         Ok(())
     }
 
-    /// Puts the regions of a slot whose region mark is kept over the rewritten ones, and takes
+    /// Puts the regions of one slot whose region mark is among `marks` over the rewritten ones, and takes
     /// their tables out of `appended`.
     ///
     /// # Errors
     ///
-    /// Those of [`overlay`](MarkedTables::overlay). Some regions are then overlaid.
+    /// Those of [`overlay`](MarkedTables::overlay). Some of the regions may have been overlaid then.
     fn overlay_slot(&mut self, marks: SlotMarks, appended: &mut MemTableAccessor) -> Result<()>
         requires own { live_in_all Rewrite appended.old.tables ≡ 0 }
         ensures { AreMarksOverlaid marks result self.old.accessor.tables self.new.accessor.tables
@@ -70,12 +72,12 @@ impl MarkedTables {
         Ok(())
     }
 
-    /// Puts tables of the append queue over the rewritten ones, each under the region mark that it
-    /// implies.
+    /// Puts `appended`, the tables of the append queue that have no kept region mark, over the rewritten
+    /// ones, each under the mark that it implies.
     ///
     /// # Errors
     ///
-    /// Those of [`overlay`](MarkedTables::overlay). Some regions are then overlaid.
+    /// Those of [`overlay`](MarkedTables::overlay). Some of the regions may have been overlaid then.
     fn overlay_rest(&mut self, appended: MemTableAccessor) -> Result<()>
         requires own { live_in_all Rewrite appended.tables ≡ 0 }
         ensures ok { AreRunsOverlaid (implied_marks appended.tables) appended.tables
@@ -94,12 +96,12 @@ impl MarkedTables {
         Ok(())
     }
 
-    /// Puts tables of the append queue over the rewritten ones, each under the region mark that it
-    /// implies.
+    /// Puts `appended`, the tables of one slot of the append queue, over the rewritten ones, each under the
+    /// region mark that it implies.
     ///
     /// # Errors
     ///
-    /// Those of [`overlay`](MarkedTables::overlay). Some regions are then overlaid.
+    /// Those of [`overlay`](MarkedTables::overlay). Some of the regions may have been overlaid then.
     fn overlay_tables(&mut self, appended: RegionTables) -> Result<()>
         requires own { live_in_all Rewrite appended ≡ 0 }
         ensures ok { AreRunsOverlaid (implied_marks appended) appended self.old.accessor.tables

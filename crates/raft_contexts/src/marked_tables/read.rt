@@ -9,11 +9,12 @@ use raft_records::{ReadBatch, ReadContent, ReadItem, is_reserved};
 use std::alloc::Global;
 
 impl MarkedTables {
-    /// Takes in the items of a batch that was read, in order.
+    /// Takes in the items of a batch of the file `file` as it was read, in order. Runs, and puts in a region
+    /// that has entries, go into their tables without an item of their own.
     ///
     /// # Errors
     ///
-    /// Those of [`take_items`](MarkedTables::take_items). Some items are then taken in.
+    /// Those of [`take_items`](MarkedTables::take_items). Some of the items may have been taken in then.
     pub(crate) fn take_read(
         &mut self,
         alloc: Global,
@@ -38,12 +39,12 @@ impl MarkedTables {
         Ok(())
     }
 
-    /// Takes in an item that was read. A run has these spans at this place.
+    /// Takes in one item as it was read. If it is a run, its entries have `spans` at `place`.
     ///
     /// # Errors
     ///
-    /// Those of [`take_items`](MarkedTables::take_items). The step may then be in one of table and
-    /// region mark alone.
+    /// Those of [`take_items`](MarkedTables::take_items). The step may then be in the table or the region
+    /// mark alone.
     fn take_read_item(
         &mut self,
         alloc: Global,
@@ -69,14 +70,14 @@ impl MarkedTables {
         self.take_item(queue, item)
     }
 
-    /// Takes in an item that is a run of entries, and returns whether it did. `false` comes for
-    /// another item, for a run without entries, and for one that the table refuses, as for want of
-    /// memory; nothing has then changed. A run that begins among the entries of its region, or
-    /// right after them, leaves the region mark as it is, which then isn't looked up.
+    /// Takes in `item` if it is a run of entries, which has `spans` at `place`, and returns whether it did.
+    /// Returns `false`, and changes nothing, for any other item, for a run without entries, and for one that
+    /// the table refuses, as for want of memory. A run that begins among the entries of its region, or right
+    /// after them, leaves the region mark as it is, which isn't even looked up.
     ///
     /// # Errors
     ///
-    /// Where there is no memory for the region mark. The run is then in its table, and not in the
+    /// `AllocError` if there is no memory for the region mark. The run is then in its table, and not in the
     /// mark.
     fn try_spans(
         &mut self,
@@ -114,8 +115,8 @@ impl MarkedTables {
         Ok(true)
     }
 
-    /// Takes in an item that puts a value, where the region has entries, and returns whether it
-    /// did. Where it did not, as for another item or for want of memory, nothing has changed.
+    /// Takes in `item` if it puts a value in a region that has entries, and returns whether it did. Returns
+    /// `false`, and changes nothing, for any other item, and if the table refuses it, as for want of memory.
     fn try_put(&mut self, place: FileBlockHandle, item: &ReadItem<'_>) -> bool
         ensures { (queue : LogQueue) (spans : List (ℕ × ℕ)) → MatchBool result
             (AreStepsTaken queue (steps_of_items (item_shown place item.now spans ∷ []))

@@ -10,14 +10,14 @@ use crate::waiting_groups::WaitingGroups;
 use raft_base::{Error, LogQueue, Result};
 
 impl ReadState {
-    /// Takes in what was read of the append queue over this, which was read of the rewrite queue.
+    /// Takes in `append`, what was read of the append queue, over this, what was read of the rewrite queue.
     /// Groups that aren't whole are dropped.
     ///
     /// # Errors
     ///
-    /// `InvalidArgument` where this isn't of the rewrite queue, or `append` isn't of the append
-    /// queue; `Full` where both hold more than 2^64 - 1 records; `Memory`. Some regions may then be
-    /// overlaid.
+    /// `InvalidArgument` if this isn't of the rewrite queue, or `append` isn't of the append queue; `Full` if
+    /// both together have more than 2^64 - 1 records; `Memory`. Some of the regions may have been overlaid
+    /// then.
     pub(crate) fn overlay(&mut self, append: ReadState) -> Result<()>
         requires rewritten { IsOfHistory (context_in self.old) }
         requires appended { IsOfHistory (context_in append) }
@@ -34,11 +34,12 @@ impl ReadState {
         self.put_append(append)
     }
 
-    /// Refuses to put over each other what isn't of the rewrite queue and of the append queue.
+    /// Checks that this was read of the rewrite queue, and `append` of the append queue. What read nothing is
+    /// of either.
     ///
     /// # Errors
     ///
-    /// `InvalidArgument`, or `Memory` where its text finds none.
+    /// `InvalidArgument` if they weren't, or `Memory` if there is none for its text.
     fn check_append(&self, append: &ReadState) -> Result<()>
         ensures queues { OnOk result (AreOfBothQueues (context_in self.now)
             (context_in append.now)) }
@@ -53,11 +54,12 @@ impl ReadState {
         Ok(())
     }
 
-    /// Puts the tables of the append queue over these, and drops region marks and groups that wait.
+    /// Puts the tables of `append`, what was read of the append queue, over these, and drops all region marks
+    /// and all groups that wait.
     ///
     /// # Errors
     ///
-    /// `Full` and `Memory`, as those of `overlay`.
+    /// `Full` and `Memory`, as those of [`ReadState::overlay`].
     fn put_append(&mut self, append: ReadState) -> Result<()>
         requires rewritten { IsOfHistory (context_in self.old) }
         requires appended { IsOfHistory (context_in append) }

@@ -14,8 +14,8 @@ use std::collections::HashMap;
 use std::collections::hash_map::IntoIter;
 use std::marker::Model;
 
-/// The region marks that a slot holds at most, so that those of all slots, and their deleted keys, can
-/// be counted.
+/// The most region marks that a slot keeps: so those of all slots can be counted in a `usize`, and their
+/// deleted keys in a `u128`.
 const MOST_MARKS: usize = (1 << 57) - 1;
 
 /// The region marks of the regions of a slot, each under its region's id.
@@ -43,7 +43,7 @@ impl Model for SlotMarks {
 }
 
 impl SlotMarks {
-    /// Makes one without region marks.
+    /// Returns a slot without region marks. It allocates nothing yet.
     pub(crate) fn new(alloc: Global) -> SlotMarks
         ensures { result ≡ finite.empty }
     {
@@ -53,7 +53,7 @@ impl SlotMarks {
         }
     }
 
-    /// Returns how many regions have a region mark.
+    /// Returns the number of regions whose region mark is kept.
     pub(crate) fn len(&self) -> usize
         ensures value { result ≡ finite.len self.now }
         ensures few { result < 2 ^ 57 }
@@ -61,25 +61,25 @@ impl SlotMarks {
         self.marks.len()
     }
 
-    /// Tests whether the region mark of a region is kept.
+    /// Tests whether a region mark is kept for the region `id`.
     pub(crate) fn has(&self, id: u64) -> bool
         ensures { result ≡ is_some (finite.get self.now id) }
     {
         self.marks.contains_key(&id)
     }
 
-    /// Returns the region mark that is kept of a region, if one is.
+    /// Returns the region mark that is kept for the region `id`, or `None` if there is none.
     pub(crate) fn get(&self, id: u64) -> Option<&SmallMark>
         ensures { option_map (λ m. m.now) result ≡ finite.get self.now id }
     {
         self.marks.get(&id)
     }
 
-    /// Keeps the region mark of a run from `start` on as that of a region.
+    /// Sets the region mark of the region `id` to that of a run that starts at index `start`.
     ///
     /// # Errors
     ///
-    /// Where there is no memory for it. The region marks are then as they were.
+    /// `AllocError` if there is no memory for it. The region marks are unchanged then.
     pub(crate) fn put_run(&mut self, id: u64, start: u64) -> AllocResult<()>
         ensures ok { OnOk result (self.new ≡ finite.insert self.old id (run_at start)) }
         ensures err { OnErr result (self.new ≡ self.old) }
@@ -87,7 +87,7 @@ impl SlotMarks {
         self.put(id, SmallMark::of_run(self.alloc, start))
     }
 
-    /// Counts the deleted keys of all region marks.
+    /// Returns the number of deleted keys that all region marks have together.
     pub(crate) fn deleted_keys(&self) -> u128
         ensures value { result ≡ total (λ (m : Mark). finset.len m.deleted) self.now }
         ensures few { result < 2 ^ 121 }
@@ -99,7 +99,7 @@ impl SlotMarks {
         count
     }
 
-    /// Counts the regions that have no table.
+    /// Returns the number of regions whose region mark is kept here and that have no table in `tables`.
     pub(crate) fn count_absent(&self, tables: &MemTableAccessor) -> u64
         ensures value { result ≡ count_absent tables.now.tables (keys_of (finite.entries self.now)) }
         ensures few { result < 2 ^ 57 }
@@ -111,12 +111,12 @@ impl SlotMarks {
         count
     }
 
-    /// Joins the region mark of a run from `start` on to that of a region, whose own entries end at
-    /// `end`.
+    /// Joins the region mark of a run that starts at index `start` to that of the region `id`. `end` is the
+    /// end of the region's own entries before the run, 0 if there are none.
     ///
     /// # Errors
     ///
-    /// Where there is no memory for it. The region marks are then as they were.
+    /// `AllocError` if there is no memory for it. The region marks are unchanged then.
     pub(crate) fn add_run(
         &mut self,
         id: u64,
@@ -135,12 +135,12 @@ impl SlotMarks {
         self.put(id, SmallMark::of_run(self.alloc, start))
     }
 
-    /// Joins the region mark of a step to that of a region. Where the step is a run, the region's
-    /// own entries in front of it end at `end`. A deleted key is copied.
+    /// Joins the region mark of a step to that of the region `id`. If the step is a run, `end` is the end of
+    /// the region's own entries before it, 0 if there are none. The key of a deletion is copied.
     ///
     /// # Errors
     ///
-    /// Where there is no memory for it. The region marks are then as they were.
+    /// `AllocError` if there is no memory for it. The region marks are unchanged then.
     pub(crate) fn add_step(
         &mut self,
         id: u64,
@@ -156,13 +156,13 @@ impl SlotMarks {
         self.update(id, move |mark: &mut Mark| mark.add_step(queue, end, step))
     }
 
-    /// Joins the region mark of newer steps to that of a region, whose own entries that their first
-    /// run meets end at `end_at_reach`.
+    /// Joins `newer`, the region mark of newer steps, to that of the region `id`. `end_at_reach` is the end
+    /// of the region's own entries that the first newer run meets.
     ///
     /// # Errors
     ///
-    /// Where there is no memory for it. The region mark may then lack deleted keys, and serves no
-    /// more.
+    /// `AllocError` if there is no memory for it. The mark of the region may lack deleted keys then, and must
+    /// not be used.
     pub(crate) fn join(
         &mut self,
         id: u64,
@@ -181,18 +181,18 @@ impl SlotMarks {
         })
     }
 
-    /// Makes room, up to `count` region marks.
+    /// Makes room for at least `count` region marks in all.
     ///
     /// # Errors
     ///
-    /// Where there is no memory for it. No region mark changes in either case.
+    /// `AllocError` if there is no memory for it. No region mark changes in either case.
     pub(crate) fn make_room(&mut self, count: usize) -> AllocResult<()>
         ensures { self.new ≡ self.old }
     {
         self.marks.reserve(count.saturating_sub(self.marks.len()))
     }
 
-    /// Returns the region marks, each with its region, in no set order.
+    /// Returns the region marks, each with the id of its region, in no set order.
     pub(crate) fn into_entries(self) -> IntoIter<u64, SmallMark>
         ensures entries { finite.from_entries result ≡ self }
         ensures once { IsDistinct nat_eq (keys_of result) }
@@ -200,12 +200,13 @@ impl SlotMarks {
         self.marks.into_iter()
     }
 
-    /// Changes the region mark of a region, that of no step where it has none. It is looked up once
-    /// where it is there.
+    /// Applies `change` to the region mark of the region `id`, or to that of no step if none is kept, and
+    /// keeps the result. A mark that is there is looked up once.
     ///
     /// # Errors
     ///
-    /// Those of the change, and where there is no memory to keep the result.
+    /// That of `change`, or `AllocError` if there is no memory to keep the result. Other regions' marks are
+    /// unchanged then.
     #[inline(always)]
     fn update<F: FnOnce(&mut Mark) -> AllocResult<()>>(
         &mut self,
@@ -224,12 +225,12 @@ impl SlotMarks {
         self.put(id, mark)
     }
 
-    /// Keeps a region mark as that of a region.
+    /// Sets the region mark of the region `id` to `mark`.
     ///
     /// # Errors
     ///
-    /// Where there is no memory for it, or as many are kept as can be counted. The region marks are
-    /// then as they were.
+    /// `AllocError` if there is no memory for it, or `MOST_MARKS` are kept already. The region marks are
+    /// unchanged then.
     fn put(&mut self, id: u64, mark: SmallMark) -> AllocResult<()>
         ensures ok { OnOk result (self.new ≡ finite.insert self.old id mark) }
         ensures err { OnErr result (self.new ≡ self.old) }
@@ -242,7 +243,7 @@ impl SlotMarks {
     }
 }
 
-/// Returns 1 for a region without a table, 0 for another.
+/// Returns 1 if the region `id` has no table in `tables`, else 0.
 fn absent(tables: &MemTableAccessor, id: u64) -> u64
     ensures { result ≡ absent_in tables.now.tables id }
 {

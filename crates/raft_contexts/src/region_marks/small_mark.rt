@@ -43,7 +43,7 @@ impl Model for SmallMark {
 }
 
 impl SmallMark {
-    /// Returns the region mark of a run from `start` on. It takes no memory.
+    /// Returns the region mark of a run that starts at index `start`. It allocates nothing.
     pub(crate) fn of_run(alloc: Global, start: u64) -> SmallMark
         ensures { result ≡ record fresh { reach = Some start; cut = Some start } }
     {
@@ -53,12 +53,12 @@ impl SmallMark {
         }
     }
 
-    /// Keeps a region mark. That of a run alone is kept as the run's start, which no clause says:
-    /// it saves room alone.
+    /// Returns `mark` as a slot keeps it: if it is seen to be that of one run alone, as the start of that
+    /// run, which saves memory and means the same; else in a box.
     ///
     /// # Errors
     ///
-    /// Where there is no memory for another one.
+    /// `AllocError` if there is no memory for the box.
     fn of(alloc: Global, mark: Mark) -> AllocResult<SmallMark>
         ensures { IfOk result (λ kept. kept ≡ mark) }
     {
@@ -79,12 +79,13 @@ impl SmallMark {
         }
     }
 
-    /// Adds what the region mark takes away of the region's rewritten table, where the appended entries begin at this index, if
-    /// there are some.
+    /// Adds what this region mark takes away from the region's rewritten table `table` to `taken`, as
+    /// [`tell_mark`] does. `first` is the index of the region's first entry in the append queue, if there is
+    /// one.
     ///
     /// # Errors
     ///
-    /// `Memory`.
+    /// `Memory` alone. Some of it may have been added then.
     pub(crate) fn tell(
         &self,
         first: Option<u64>,
@@ -101,7 +102,7 @@ impl SmallMark {
         }
     }
 
-    /// Returns the start of the run where the region mark is kept as that of a run alone.
+    /// Returns the start of the run if the mark is kept as that of one run alone, else `None`.
     pub(crate) fn run_alone(&self) -> Option<u64>
         ensures { IfSome result (λ start. self.now
             ≡ record fresh { reach = Some start; cut = Some start }) }
@@ -112,7 +113,7 @@ impl SmallMark {
         }
     }
 
-    /// Returns how many keys are deleted.
+    /// Returns the number of keys that the mark says were deleted.
     pub(crate) fn deleted_keys(&self) -> usize
         ensures { result ≡ finset.len self.now.deleted }
     {
@@ -122,11 +123,12 @@ impl SmallMark {
         }
     }
 
-    /// Joins the region mark of a run from `start` on, where the own entries end at `end`.
+    /// Joins the region mark of a newer run that starts at index `start`. `end` is the end of the own entries
+    /// before it, 0 if there are none.
     ///
     /// # Errors
     ///
-    /// Where there is no memory for it. The region mark is then as it was.
+    /// `AllocError` if there is no memory for it. The region mark is unchanged then.
     pub(crate) fn add_run(&mut self, queue: LogQueue, end: u64, start: u64) -> AllocResult<()>
         ensures ok { OnOk result (self.new ≡ joined_at queue end self.old
             (record fresh { reach = Some start; cut = Some start })) }
@@ -141,12 +143,12 @@ impl SmallMark {
         })
     }
 
-    /// Changes the region mark.
+    /// Applies `change` to the region mark.
     ///
     /// # Errors
     ///
-    /// Those of the change, and where there is no memory to keep the result. A mark of a run alone
-    /// is then as it was, another one as the change left it.
+    /// That of `change`, or `AllocError` if there is no memory to keep the result. A mark that was kept as
+    /// that of one run is unchanged then; another one is as `change` left it.
     #[inline(always)]
     pub(crate) fn update<F: FnOnce(&mut Mark) -> AllocResult<()>>(
         &mut self,
@@ -167,11 +169,11 @@ impl SmallMark {
         }
     }
 
-    /// Returns what a change makes of a region mark.
+    /// Applies `change` to `mark`, and returns the result as a slot keeps it.
     ///
     /// # Errors
     ///
-    /// Those of the change, and where there is no memory to keep the result.
+    /// That of `change`, or `AllocError` if there is no memory to keep the result.
     #[inline(always)]
     pub(crate) fn changed<F: FnOnce(&mut Mark) -> AllocResult<()>>(
         alloc: Global,
@@ -187,8 +189,8 @@ impl SmallMark {
         SmallMark::of(alloc, mark)
     }
 
-    /// Tests whether it is plain that a run from `start` on changes nothing, where the own entries
-    /// end at `end`. `false` says nothing of it.
+    /// Tests whether it is plain that a newer run from index `start` on leaves the region mark as it is,
+    /// where own entries end at `end`. `false` says nothing of it. It spares most runs a larger mark.
     fn covers(&self, end: u64, start: u64) -> bool
         ensures { MatchBool result ((queue : LogQueue) → joined_at queue end self.now
             (record fresh { reach = Some start; cut = Some start }) ≡ self.now) (Unit {0}) }
@@ -200,7 +202,7 @@ impl SmallMark {
     }
 }
 
-/// Returns the start of the run where a region mark is seen to be that of a run alone.
+/// Returns the start of the run if `mark` is seen to be that of one run alone, else `None`.
 fn only_run(mark: &Mark) -> Option<u64>
     ensures { IfSome result (λ start. mark.now
         ≡ record fresh { reach = Some start; cut = Some start }) }

@@ -1,14 +1,12 @@
 //! Rewritten records that move to a new file of the rewrite queue, and files that no table needs.
 
-ghost use Rattle.std.specs.Prelude.{◌≡◌, [], ◌∷◌, ◌++◌, IfErr, IfOk, OnErr, OnOk, true};
+ghost use Rattle.std.specs.Prelude.{◌≡◌, [], ◌∷◌, ◌++◌, IfErr, IfOk, OnOk, true};
 ghost use Rattle.raft_base.specs.declared.pipe_log.LogQueue.TheVariants.{Rewrite};
 ghost use Rattle.raft_files.specs.Asks.{Sync, ask};
-ghost use Rattle.raft_engine.specs.Faults.{Breaks, IsPurgeFault};
+ghost use Rattle.raft_engine.specs.Broken.{IsBroken};
 ghost use Rattle.raft_engine.specs.Moved.{IsReady};
 ghost use Rattle.raft_engine.specs.MovedAgain.{AreMovedAgain, AreUnmovedAgain, IsRewriteRotated, IsRewriteUnrotated};
-ghost use Rattle.raft_engine.specs.MovingFaults.{IsAgainFault, IsRewriteRotationFault};
-ghost use Rattle.raft_engine.specs.OpeningAsks.{FailsAmong};
-ghost use Rattle.raft_engine.specs.Purged.{AreDeleted, AreExpired, AreFilesPurged, AreFilesUnpurged, AreHalfDeleted, delete_asks};
+ghost use Rattle.raft_engine.specs.Purged.{AreDeleted, AreExpired, AreFilesPurged, AreFilesUnpurged, delete_asks};
 ghost use Rattle.raft_engine.specs.PurgedRewrites.{AreRewritesPurged, AreRewritesUnpurged};
 
 use super::Engine;
@@ -20,11 +18,11 @@ use raft_base::{Error, LogQueue, Result};
 use raft_files::EngineFiles;
 
 impl<F: EngineFiles> Engine<F> {
-    /// Moves what the tables have in rewrite files to a new one of them. First all that was written last is synced, and what the
-    /// rewrite queue isn't told yet is put there; then it is synced, and a new file is begun in it; then for each region the
-    /// rewritten entries are read, and put with the rewritten keys in the new file: in one batch, or, where these entries are
-    /// of several blocks and have more than 4 KiB together, in an atomic group of several. What the tables have stays the same, in other places, so that the older
-    /// rewrite files may be deleted ([`Engine::purge_rewrite_files`]). What moved isn't synced yet.
+    /// Moves what the tables have in rewrite files to a new one of them. First the append queue is synced, and what the rewrite
+    /// queue isn't told yet is put there; then that queue is synced, and a new file is begun in it. Then for each region the
+    /// rewritten entries are read, and put with the rewritten keys in the new file: in one batch, or, if they are of several
+    /// blocks and have more than 4 KiB together, in an atomic group of several. What the tables have stays the same, in other
+    /// places, so that the older rewrite files may be deleted ([`Engine::purge_rewrite_files`]). What moved isn't synced yet.
     ///
     /// # Errors
     ///
@@ -40,8 +38,6 @@ impl<F: EngineFiles> Engine<F> {
         ensures ok { OnOk result (AreMovedAgain self.old self.new) }
         ensures accepted { OnOk result (self.old.intact ≡ true) }
         ensures err { IfErr result (AreUnmovedAgain F.may_fail self.old self.new) }
-        ensures fault { IfErr result (λ e. Breaks self.old self.new
-            → IsAgainFault F.may_fail self.old self.new e) }
     {
         if !self.intact {
             return Err(Error::Failed);
@@ -61,9 +57,7 @@ impl<F: EngineFiles> Engine<F> {
     fn rotate_rewrite(&mut self) -> Result<()>
         requires { self.old.intact ≡ true }
         ensures ok { OnOk result (IsRewriteRotated self.old self.new) }
-        ensures err { IfErr result (IsRewriteUnrotated self.old self.new) }
-        ensures fault { IfErr result (λ e. Breaks self.old self.new
-            → IsRewriteRotationFault F.may_fail self.old self.new e) }
+        ensures err { IfErr result (IsRewriteUnrotated F.may_fail self.old self.new) }
     {
         asks_are_stored();
         self.rewrite.close_last()?;
@@ -85,9 +79,7 @@ impl<F: EngineFiles> Engine<F> {
     pub fn purge_rewrite_files(&mut self) -> Result<usize>
         ensures ok { IfOk result (λ count. AreRewritesPurged count self.old self.new) }
         ensures accepted { OnOk result (self.old.intact ≡ true) }
-        ensures err { IfErr result (AreRewritesUnpurged self.old self.new) }
-        ensures fault { IfErr result (λ e. Breaks self.old self.new
-            → IsPurgeFault F.may_fail Rewrite self.old self.new e) }
+        ensures err { IfErr result (AreRewritesUnpurged F.may_fail self.old self.new) }
     {
         self.purge(LogQueue::Rewrite)
     }
@@ -101,9 +93,7 @@ impl<F: EngineFiles> Engine<F> {
     pub(crate) fn purge(&mut self, queue: LogQueue) -> Result<usize>
         ensures ok { IfOk result (λ count. AreFilesPurged queue count self.old self.new) }
         ensures accepted { OnOk result (self.old.intact ≡ true) }
-        ensures err { IfErr result (AreFilesUnpurged queue self.old self.new) }
-        ensures fault { IfErr result (λ e. Breaks self.old self.new
-            → IsPurgeFault F.may_fail queue self.old self.new e) }
+        ensures err { IfErr result (AreFilesUnpurged F.may_fail queue self.old self.new) }
     {
         if !self.intact {
             return Err(Error::Failed);
@@ -132,7 +122,7 @@ impl<F: EngineFiles> Engine<F> {
         Ok(count_below(&files.closed, least))
     }
 
-    /// Syncs the rewrite queue, and deletes so many files of a queue, which no table needs, the oldest first.
+    /// Syncs the rewrite queue, and deletes the `count` oldest files of `queue`, which no table needs.
     ///
     /// # Errors
     ///
@@ -141,9 +131,8 @@ impl<F: EngineFiles> Engine<F> {
         requires ready { IsReady self.old }
         requires expired { AreExpired queue self.old count }
         ensures ok { OnOk result (AreDeleted queue count self.old self.new) }
-        ensures err { OnErr result (AreHalfDeleted queue count self.old self.new) }
-        ensures fault { IfErr result (FailsAmong F.may_fail (delete_asks queue count ++ ask Rewrite Sync ∷ [])
-            self.old.asks self.new.asks) }
+        ensures err { IfErr result (IsBroken F.may_fail (delete_asks queue count ++ ask Rewrite Sync ∷ [])
+            self.old self.new) }
     {
         asks_are_stored();
         self.intact = false;

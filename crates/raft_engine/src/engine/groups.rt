@@ -4,10 +4,8 @@ ghost use Rattle.std.specs.Prelude.{◌≡◌, ◌⊎◌, ◌↔◌, IfErr, IfOk
 ghost use Rattle.std.specs.FinMap as finite;
 ghost use Rattle.raft_accessor.specs.Writes.{AreWritten, Rewriting};
 ghost use Rattle.raft_engine.specs.GroupPlaces.{items_of_batches};
-ghost use Rattle.raft_engine.specs.Faults.{Breaks};
 ghost use Rattle.raft_engine.specs.Moved.{IsReady};
 ghost use Rattle.raft_engine.specs.MovedGroups.{AreRegionsMovedAgain, AreSomeRegionsMovedAgain, IsGroupMoved, IsGroupUnmoved, IsOnePartOf, IsRegionMovedAgain, IsRegionUnmovedAgain};
-ghost use Rattle.raft_engine.specs.MovingFaults.{IsFaultOfRegionsAgain, IsGroupFault, IsRegionFaultAgain};
 ghost use Rattle.raft_engine.specs.WrittenBatch.{IsNextRefused};
 
 use super::Engine;
@@ -34,8 +32,6 @@ impl<F: EngineFiles> Engine<F> {
         requires { IsReady self.old }
         ensures ok { OnOk result (AreRegionsMovedAgain regions.now self.old self.new) }
         ensures err { IfErr result (AreSomeRegionsMovedAgain F.may_fail regions.now self.old self.new) }
-        ensures fault { IfErr result (λ e. Breaks self.old self.new
-            → IsFaultOfRegionsAgain F.may_fail regions.now self.old self.new e) }
     {
         for region in regions {
             self.move_region_again(*region)?;
@@ -53,8 +49,6 @@ impl<F: EngineFiles> Engine<F> {
         requires { IsReady self.old }
         ensures ok { OnOk result (IsRegionMovedAgain region self.old self.new) }
         ensures err { IfErr result (IsRegionUnmovedAgain F.may_fail region self.old self.new) }
-        ensures fault { IfErr result (λ e. Breaks self.old self.new
-            → IsRegionFaultAgain F.may_fail region self.old self.new e) }
     {
         if self.is_one_part(region)? {
             return self.rewrite_region(region, None);
@@ -93,8 +87,6 @@ impl<F: EngineFiles> Engine<F> {
         ensures ok { OnOk result (((finite.get self.old.accessor.tables region ≡ None) × (self.new ≡ self.old))
             ⊎ IsGroupMoved region self.old self.new) }
         ensures err { IfErr result (IsGroupUnmoved F.may_fail region self.old self.new) }
-        ensures fault { IfErr result (λ e. Breaks self.old self.new
-            → IsGroupFault F.may_fail region self.old self.new e) }
     {
         moves_are_stored();
         moved_groups_are_stored();

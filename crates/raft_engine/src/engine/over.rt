@@ -20,16 +20,17 @@ use raft_files::EngineFiles;
 use std::alloc::Global;
 
 impl<F: EngineFiles> Engine<F> {
-    /// Opens the files that a stop of the machine left, as [`Engine::open`] does, without threads of its own: with the context of each
-    /// queue that has read the batches of its files, in order, but for the torn tail of the last one, on whichever threads.
+    /// Opens files that a stop of the machine left, as [`Engine::open`] does, but starts no threads and reads no batches: the
+    /// caller has read them. `appended` is the context that has read those of `append`, in order, up to where the last file can't
+    /// be read any further, and `rewritten` is that of `rewrite`; on which threads they were read doesn't matter.
     ///
     /// # Errors
     ///
-    /// The files are handed back. Nothing was asked of them where they are refused: for what they are, as by `open`, but for
-    /// batches that can't be read, which no context has read. `Memory`.
+    /// The files are handed back with each error. Nothing was asked of them if they are refused as [`Engine::open`] refuses
+    /// files, though never for a batch that can't be read or for the number of workers; nor for `Memory`.
     ///
-    /// Those of `EngineFiles`: some of it was asked then, and whatever is left of the files has the records that were found. They
-    /// may be found again, and opened.
+    /// If a call of `EngineFiles` fails, what was asked before stays done, and whatever is left of the files has the records that
+    /// were found. They may be listed and opened again.
     pub fn open_over(
         alloc: Global,
         version: Version,

@@ -3,10 +3,9 @@
 ghost use Rattle.std.specs.Prelude.{◌≡◌, ◌≢◌, ◌++◌, IfErr, None, OnOk, true};
 ghost use Rattle.raft_records.specs.LogBatch.{empty_batch};
 ghost use Rattle.raft_accessor.specs.Writes.{AreWritten, Rewriting};
-ghost use Rattle.raft_engine.specs.Faults.{Breaks, IsTellingFault};
 ghost use Rattle.raft_engine.specs.Moved.{AreRegionsRewritten, AreSomeRewritten, AreToMove, IsBatchMoved, IsBatchUnmoved, IsReady, IsRegionRewritten, IsRegionUnmoved, IsRewritten, IsTold, IsUnrewritten, IsUntold};
-ghost use Rattle.raft_engine.specs.MovingFaults.{AreTaken, IsBatchFault, IsFaultOfRegions, IsRegionFault, IsRewritingFault};
 ghost use Rattle.raft_engine.specs.Rewriting.{IsNextPart};
+ghost use Rattle.raft_engine.specs.Untaken.{AreTaken};
 ghost use Rattle.raft_engine.specs.WrittenBatch.{IsNextRefused, LacksRoom};
 
 use super::Engine;
@@ -41,8 +40,6 @@ impl<F: EngineFiles> Engine<F> {
         ensures ok { OnOk result (IsRewritten gate self.old self.new) }
         ensures accepted { OnOk result (self.old.intact ≡ true) }
         ensures err { IfErr result (IsUnrewritten F.may_fail gate self.old self.new) }
-        ensures fault { IfErr result (λ e. Breaks self.old self.new
-            → IsRewritingFault F.may_fail gate self.old self.new e) }
     {
         if !self.intact {
             return Err(Error::Failed);
@@ -61,8 +58,6 @@ impl<F: EngineFiles> Engine<F> {
         requires { IsReady self.old }
         ensures ok { OnOk result (AreRegionsRewritten gate regions.now self.old self.new) }
         ensures err { IfErr result (AreSomeRewritten F.may_fail gate regions.now self.old self.new) }
-        ensures fault { IfErr result (λ e. Breaks self.old self.new
-            → IsFaultOfRegions F.may_fail gate regions.now self.old self.new e) }
     {
         for region in regions {
             self.rewrite_region(*region, gate)?;
@@ -79,9 +74,7 @@ impl<F: EngineFiles> Engine<F> {
     pub(crate) fn tell(&mut self) -> Result<()>
         ensures ok { OnOk result (IsTold self.old self.new) }
         ensures accepted { OnOk result (self.old.intact ≡ true) }
-        ensures err { IfErr result (IsUntold self.old self.new) }
-        ensures fault { IfErr result (λ e. Breaks self.old self.new
-            → IsTellingFault F.may_fail self.old self.new e) }
+        ensures err { IfErr result (IsUntold F.may_fail self.old self.new) }
     {
         asks_are_stored();
         self.untold.is_read_again();
@@ -121,8 +114,6 @@ impl<F: EngineFiles> Engine<F> {
         requires { IsReady self.old }
         ensures ok { OnOk result (IsRegionRewritten gate region self.old self.new) }
         ensures err { IfErr result (IsRegionUnmoved F.may_fail gate region self.old self.new) }
-        ensures fault { IfErr result (λ e. Breaks self.old self.new
-            → IsRegionFault F.may_fail gate region self.old self.new e) }
     {
         let Some(table) = self.accessor.get(region) else {
             return Ok(());
@@ -160,8 +151,6 @@ impl<F: EngineFiles> Engine<F> {
         ensures ok { OnOk result (IsBatchMoved gate left.now region self.old self.new) }
         ensures left { gate ≢ None → OnOk result (AreToMove gate region self.new left.now) }
         ensures err { IfErr result (IsBatchUnmoved F.may_fail gate left.now region self.old self.new) }
-        ensures fault { IfErr result (λ e. Breaks self.old self.new
-            → IsBatchFault F.may_fail gate left.now region self.old self.new e) }
     {
         moves_are_stored();
         batches_are_read_back();

@@ -25,7 +25,12 @@ pub(crate) struct Crashes<'a, R: Host + Print> {
 }
 
 impl<'a, R: Host + Print> Crashes<'a, R> {
-    /// Opens the folder, with tables that so many threads recover, and looks whether the store holds what it has to.
+    /// Opens the folder that a crash has left, recovers the tables with `workers` threads, and compares what
+    /// the store then has with `expected`. A refusal is printed, and counts as different.
+    ///
+    /// # Errors
+    ///
+    /// `Io` for the output; `Memory`.
     pub(crate) fn reopen(&mut self, workers: usize, expected: &str) -> Result<()> {
         self.tried = self.tried.saturating_add(1);
         match self.recover_text(workers) {
@@ -37,7 +42,11 @@ impl<'a, R: Host + Print> Crashes<'a, R> {
         }
     }
 
-    /// Counts and prints contents that aren't those that there have to be.
+    /// Counts a difference, and prints both texts, if `found` isn't `expected`.
+    ///
+    /// # Errors
+    ///
+    /// `Io` for the output.
     pub(crate) fn compare(&mut self, found: &str, expected: &str) -> Result<()> {
         if found != expected {
             self.different = self.different.saturating_add(1);
@@ -46,7 +55,12 @@ impl<'a, R: Host + Print> Crashes<'a, R> {
         Ok(())
     }
 
-    /// Returns what the store holds that is opened from the folder, with tables that so many workers recover.
+    /// Opens a store in the folder that a crash has left, and returns what it has, as text. With more than
+    /// one of `workers` the tables are recovered once more, by that many threads.
+    ///
+    /// # Errors
+    ///
+    /// Those of [`Store::open`], of the recovery, and of reading the entries.
     fn recover_text(&self, workers: usize) -> Result<String> {
         let alloc = self.rt.alloc();
         let mut store = Store::open(self.rt, CRASHED, FILE_SIZE, 1)?;
@@ -57,8 +71,12 @@ impl<'a, R: Host + Print> Crashes<'a, R> {
     }
 }
 
-/// Recovers the tables of both queues, each of whose files is read by the next worker that is free, however small it
-/// is.
+/// Recovers the tables of both queues by `workers` threads. Each thread takes the next whole file, however
+/// small it is, so that even short files are read by several.
+///
+/// # Errors
+///
+/// `Io` for a file; those of [`replay_segments`]; `Memory`.
 fn recover_files<R: Host>(
     rt: &R,
     pipe: &FolderPipe<'_, R>,

@@ -2,7 +2,7 @@
 
 use crate::crashes::crash::{CRASHED, Crashes};
 use crate::crashes::tail::Tail;
-use crate::folder_pipe::{FileChange, path_in};
+use crate::folder_pipe::{FileChange, file_path};
 use crate::store::Host;
 use raft_base::{FileId, FileSeq, LogQueue, Result};
 use raft_samples::Dice;
@@ -23,7 +23,12 @@ pub(crate) struct DiskNotes {
 }
 
 impl DiskNotes {
-    /// Begins with an empty file of each queue and a store that holds nothing.
+    /// Returns the notes of a disk that has an empty file of each queue, numbered `first`, and of a store
+    /// without records.
+    ///
+    /// # Errors
+    ///
+    /// `Memory` alone.
     pub(crate) fn new(alloc: Global, first: FileSeq) -> Result<DiskNotes> {
         Ok(DiskNotes {
             alloc,
@@ -34,7 +39,7 @@ impl DiskNotes {
         })
     }
 
-    /// Returns the last file of a queue, to be changed.
+    /// Returns the last file of `queue`, to be changed.
     fn tail(&mut self, queue: LogQueue) -> &mut Tail {
         match queue {
             LogQueue::Append => &mut self.append,
@@ -42,8 +47,13 @@ impl DiskNotes {
         }
     }
 
-    /// Takes in a change of the store's files, after which the store holds `new`, and tries the crashes on the way.
-    pub(crate) fn take<R: Host + Print>(
+    /// Takes in one change of the store's files, and tries the crashes on the way. `new` is what the store
+    /// has after it, as text.
+    ///
+    /// # Errors
+    ///
+    /// `Io` for a file or the output; `Memory`.
+    pub(crate) fn apply_change<R: Host + Print>(
         &mut self,
         crashes: &mut Crashes<'_, R>,
         dice: &mut Dice,
@@ -53,12 +63,18 @@ impl DiskNotes {
         match change {
             FileChange::Written(id, bytes) => self.write(crashes, dice, id, &bytes, new),
             FileChange::Synced(queue) => self.sync(queue),
-            FileChange::Begun(id) => self.begin(crashes.rt, id),
+            FileChange::Begun(id) => self.begin_file(crashes.rt, id),
             FileChange::DeletedBelow(id) => self.delete_below(crashes, dice, id),
         }
     }
 
-    /// Adds a batch to the last file of a queue.
+    /// Adds `bytes`, those of a batch, to the last file of a queue, which is `id`, and tries crashes in them
+    /// and behind them. If that is an append file, `new` is what the store has with the batch. A batch of
+    /// another file counts as a difference.
+    ///
+    /// # Errors
+    ///
+    /// `Io` for a file or the output; `Memory`.
     fn write<R: Host + Print>(
         &mut self,
         crashes: &mut Crashes<'_, R>,
@@ -79,10 +95,15 @@ impl DiskNotes {
         if crashes.each_byte {
             self.try_each_byte(crashes, id.queue, old)?;
         }
-        self.try_some(crashes, dice)
+        self.try_drawn_crash(crashes, dice)
     }
 
-    /// Tries the crashes that leave more and more of what was written to a queue last.
+    /// Tries a crash for each number of bytes, from `old` on, of the last file of `queue`, short of all of
+    /// them. Everything of the other queue is left.
+    ///
+    /// # Errors
+    ///
+    /// `Io` for a file or the output; `Memory`.
     fn try_each_byte<R: Host + Print>(
         &mut self,
         crashes: &mut Crashes<'_, R>,
@@ -98,8 +119,13 @@ impl DiskNotes {
         Ok(())
     }
 
-    /// Tries a crash that leaves some of what isn't synced, with tables that one worker recovers or, at times, four.
-    fn try_some<R: Host + Print>(
+    /// Tries one crash that leaves a drawn part of what isn't synced in each queue. One worker recovers the
+    /// tables or, once in eight times, four.
+    ///
+    /// # Errors
+    ///
+    /// `Io` for a file or the output; `Memory`.
+    fn try_drawn_crash<R: Host + Print>(
         &self,
         crashes: &mut Crashes<'_, R>,
         dice: &mut Dice,
@@ -109,7 +135,12 @@ impl DiskNotes {
         self.try_crash(crashes, workers, append, rewrite)
     }
 
-    /// Opens the folder as a crash leaves it: so many bytes of the last file of each queue.
+    /// Leaves the first `append` and the first `rewrite` bytes of the last file of each queue in the folder
+    /// of crashes, and opens it ([`Crashes::reopen`]).
+    ///
+    /// # Errors
+    ///
+    /// `Io` for a file or the output; `Memory`.
     fn try_crash<R: Host + Print>(
         &self,
         crashes: &mut Crashes<'_, R>,
@@ -117,20 +148,25 @@ impl DiskNotes {
         append: usize,
         rewrite: usize,
     ) -> Result<()> {
-        self.put(crashes.rt, &self.append, append)?;
-        self.put(crashes.rt, &self.rewrite, rewrite)?;
+        self.write_prefix(crashes.rt, &self.append, append)?;
+        self.write_prefix(crashes.rt, &self.rewrite, rewrite)?;
         crashes.reopen(workers, self.text_of_prefix(append))
     }
 
-    /// Writes the last file of a queue, as far as a crash leaves it.
-    fn put<R: Host>(&self, rt: &R, tail: &Tail, len: usize) -> Result<()> {
-        let path = path_in(self.alloc, CRASHED, tail.id)?;
+    /// Writes the first `len` bytes of `tail`, the last file of a queue, to the folder of crashes.
+    ///
+    /// # Errors
+    ///
+    /// `Io` for the file; `Memory`.
+    fn write_prefix<R: Host>(&self, rt: &R, tail: &Tail, len: usize) -> Result<()> {
+        let path = file_path(self.alloc, CRASHED, tail.id)?;
         Ok(fs::write(rt, path.as_str(), tail.prefix(len))?)
     }
 
-    /// Returns what the store has to hold where so many bytes of the last append file are left.
+    /// Returns what the store must have, as text, if the first `append` bytes of the last append file are
+    /// left.
     fn text_of_prefix(&self, append: usize) -> &str {
-        let lost = self.append.count_lost_behind(append).saturating_add(1);
+        let lost = self.append.count_batches_lost(append).saturating_add(1);
         match self
             .prefix_texts
             .get(self.prefix_texts.len().saturating_sub(lost))
@@ -140,7 +176,11 @@ impl DiskNotes {
         }
     }
 
-    /// Notes that what the last file of a queue has lasts.
+    /// Notes that everything in the last file of `queue` survives a crash from now on.
+    ///
+    /// # Errors
+    ///
+    /// `Memory` alone.
     fn sync(&mut self, queue: LogQueue) -> Result<()> {
         self.tail(queue).sync();
         if queue == LogQueue::Append {
@@ -150,15 +190,25 @@ impl DiskNotes {
         Ok(())
     }
 
-    /// Begins the next file of a queue.
-    fn begin<R: Host>(&mut self, rt: &R, id: FileId) -> Result<()> {
+    /// Begins the file `id`, the next one of its queue. Everything in the files before it survives a crash
+    /// from now on, and the one before it is written to the folder of crashes.
+    ///
+    /// # Errors
+    ///
+    /// `Io` for that file; `Memory`.
+    fn begin_file<R: Host>(&mut self, rt: &R, id: FileId) -> Result<()> {
         self.sync(id.queue)?;
         let alloc = self.alloc;
         let old = mem::replace(self.tail(id.queue), Tail::new(alloc, id));
-        self.put(rt, &old, old.len())
+        self.write_prefix(rt, &old, old.len())
     }
 
-    /// Deletes the files of a queue below one, and tries the crashes after each.
+    /// Deletes the files below `id` of its queue from the folder of crashes, the oldest first, and tries a
+    /// crash behind each of them.
+    ///
+    /// # Errors
+    ///
+    /// `Io` for a file or the output; `Memory`.
     fn delete_below<R: Host + Print>(
         &mut self,
         crashes: &mut Crashes<'_, R>,
@@ -171,9 +221,9 @@ impl DiskNotes {
             LogQueue::Rewrite => rewrite,
         };
         for seq in first..id.seq {
-            let path = path_in(self.alloc, CRASHED, FileId::new(id.queue, seq))?;
+            let path = file_path(self.alloc, CRASHED, FileId::new(id.queue, seq))?;
             fs::remove_file(crashes.rt, path.as_str())?;
-            self.try_some(crashes, dice)?;
+            self.try_drawn_crash(crashes, dice)?;
         }
         // (a table's least file may be that of its group's first batch, which is gone)
         let least = first.max(id.seq);
@@ -184,22 +234,30 @@ impl DiskNotes {
         Ok(())
     }
 
-    /// Draws what a failure of power leaves of the last file of each queue, and drops the rest. Returns how many bytes
-    /// are left of each, and what the store has to hold.
-    pub(crate) fn fail(
+    /// Draws what a failure of power leaves of the last file of each queue, and drops the rest. Returns both
+    /// files, each with the number of bytes that are left of it, and what the store must then have, as text.
+    ///
+    /// # Errors
+    ///
+    /// `Memory` alone.
+    pub(crate) fn draw_failure(
         &mut self,
         dice: &mut Dice,
     ) -> Result<((FileId, usize), (FileId, usize), String)> {
         let (append, rewrite) = (self.append.draw(dice), self.rewrite.draw(dice));
         let prefix = copy_text(self.alloc, self.text_of_prefix(append))?;
-        self.append.keep(append);
-        self.rewrite.keep(rewrite);
+        self.append.cut_to_whole_batches(append);
+        self.rewrite.cut_to_whole_batches(rewrite);
         self.prefix_texts = vec![in self.alloc; copy_text(self.alloc, &prefix)?]?;
         Ok(((self.append.id, append), (self.rewrite.id, rewrite), prefix))
     }
 }
 
-/// Returns a copy of a text.
+/// Returns a copy of `text`.
+///
+/// # Errors
+///
+/// `Memory` alone.
 fn copy_text(alloc: Global, text: &str) -> Result<String> {
     Ok(format!(in alloc; "{text}")?)
 }

@@ -5,7 +5,7 @@ ghost use Rattle.raft_records.specs.LogBatch.{is_open};
 
 use crate::crashes::crash::{CRASHED, Crashes, FILE_SIZE};
 use crate::crashes::disk::DiskNotes;
-use crate::folder_pipe::{path_in, remove_folder};
+use crate::folder_pipe::{file_path, remove_folder};
 use crate::store::{Host, Store};
 use raft_base::{Error, FileId, FileSeq, LogQueue, Result};
 use raft_records::LogBatch;
@@ -20,7 +20,7 @@ pub(crate) const FOLDER: &str = "raft_group_crashes_history";
 /// move, entries are replaced and compacted to their end, and all append files go.
 static REPLACED: [u64; 4] = [24, 25, 26, 20];
 
-/// Returns the steps in a row that [`REPLACED`] lists.
+/// Returns the steps that [`REPLACED`] lists, which are taken one after another.
 fn replacing_steps() -> &'static [u64] {
     &REPLACED
 }
@@ -39,8 +39,13 @@ pub(crate) struct History<'a, R: Host> {
 }
 
 impl<'a, R: Host + Print> History<'a, R> {
-    /// Begins a history with a store of an empty file of each queue, of number 0 or 1, and empties the folder of its
-    /// crashes. In half of the histories a file has one batch or two.
+    /// Begins the history of `seed`: makes a folder with an empty file of each queue, numbered 0 or 1, opens
+    /// a store in it, and makes the same folder for its crashes. In half of the histories a file has only one
+    /// batch or two.
+    ///
+    /// # Errors
+    ///
+    /// `Io` for a file; `Memory`.
     pub(crate) fn begin(rt: &'a R, seed: u64) -> Result<History<'a, R>> {
         let first = seed % 2;
         let file_size = if seed / 2 % 2 == 0 { FILE_SIZE } else { 40 };
@@ -57,7 +62,12 @@ impl<'a, R: Host + Print> History<'a, R> {
         })
     }
 
-    /// Takes a step, looks whether the store holds what it has to, and tries the crashes on the way.
+    /// Takes one step, compares what the store then has with what it must have, and tries the crashes on the
+    /// way.
+    ///
+    /// # Errors
+    ///
+    /// `Io` for a file or the output; `Memory`; whatever a call of the store returns.
     pub(crate) fn step(&mut self, crashes: &mut Crashes<'a, R>) -> Result<()> {
         match self.next_step() {
             0..=9 => self.write()?,
@@ -69,15 +79,16 @@ impl<'a, R: Host + Print> History<'a, R> {
             }
             17..=19 => self.purge()?,
             20 | 21 => self.store = open_store(self.rt, self.file_size)?,
-            22 | 23 => self.fail(crashes)?,
+            22 | 23 => self.crash_and_reopen(crashes)?,
             24 => self.rewrite_all()?,
-            25 => self.replace()?,
+            25 => self.write_replacements()?,
             _ => self.purge_all()?,
         }
         self.follow(crashes)
     }
 
-    /// Returns the next step of the row that was begun, or else one that is drawn.
+    /// Returns the number of the next step: the next one of [`REPLACED`], once these are begun, or else one
+    /// that is drawn.
     fn next_step(&mut self) -> u64 {
         if let Some(step) = replacing_steps().get(self.taken) {
             self.taken = self.taken.saturating_add(1);
@@ -90,7 +101,12 @@ impl<'a, R: Host + Print> History<'a, R> {
         step
     }
 
-    /// Moves the records of the append queue, in half of the steps all of them.
+    /// Moves records of the append queue to the rewrite queue: in half of these steps all of them, else those
+    /// of the files before the last one.
+    ///
+    /// # Errors
+    ///
+    /// Those of [`Store::rewrite_append_queue`] and [`Store::rotate`].
     fn rewrite(&mut self) -> Result<()> {
         if self.dice.hits(2) {
             return self.rewrite_all();
@@ -99,14 +115,22 @@ impl<'a, R: Host + Print> History<'a, R> {
         Ok(())
     }
 
-    /// Moves all records of the append queue.
+    /// Begins a new append file, and moves all records of those before it to the rewrite queue.
+    ///
+    /// # Errors
+    ///
+    /// Those of [`Store::rotate`] and [`Store::rewrite_append_queue`].
     fn rewrite_all(&mut self) -> Result<()> {
         self.store.rotate(LogQueue::Append)?;
         let _ = self.store.rewrite_append_queue()?;
         Ok(())
     }
 
-    /// Deletes files, in half of the steps all append files that no table needs.
+    /// Deletes the files that no table needs; in half of these steps a new append file is begun first.
+    ///
+    /// # Errors
+    ///
+    /// Those of [`Store::rotate`] and [`Store::purge`].
     fn purge(&mut self) -> Result<()> {
         if self.dice.hits(2) {
             self.store.rotate(LogQueue::Append)?;
@@ -115,8 +139,12 @@ impl<'a, R: Host + Print> History<'a, R> {
         Ok(())
     }
 
-    /// Deletes all files that no table needs, in half of the steps after the store was opened again and has moved what it
-    /// found in the append queue.
+    /// Begins a new append file, and deletes all files that no table needs. In half of these steps the store
+    /// is first opened again, and moves all records of the append queue.
+    ///
+    /// # Errors
+    ///
+    /// Those of opening the store, of moving its records and of [`Store::purge`].
     fn purge_all(&mut self) -> Result<()> {
         if self.dice.hits(2) {
             self.store = open_store(self.rt, self.file_size)?;
@@ -127,7 +155,13 @@ impl<'a, R: Host + Print> History<'a, R> {
         Ok(())
     }
 
-    /// Compares what the store holds, and takes what was done to its files into the notes of the disk.
+    /// Compares the records of the store with those that it must have; a difference is counted in `crashes` and printed, and is
+    /// no error. Then applies the changes that the store made to its files since the last call to the model of the disk, oldest
+    /// first; the model tries crashes on the way.
+    ///
+    /// # Errors
+    ///
+    /// Those of reading the store's records; `Io` for a file or the output; `Memory`.
     fn follow(&mut self, crashes: &mut Crashes<'a, R>) -> Result<()> {
         let alloc = self.rt.alloc();
         let new = text_of(alloc, &self.kept)?;
@@ -136,16 +170,21 @@ impl<'a, R: Host + Print> History<'a, R> {
         if let Some(changes) = self.store.changes.replace(Vec::new(alloc)) {
             for change in changes {
                 self.disk
-                    .take(crashes, &mut self.dice, change, new.as_str())?;
+                    .apply_change(crashes, &mut self.dice, change, new.as_str())?;
             }
         }
         Ok(())
     }
 
-    /// Loses what a failure of power takes, and opens the store again.
-    fn fail(&mut self, crashes: &mut Crashes<'a, R>) -> Result<()> {
+    /// Cuts the last file of each queue where a drawn failure of power ends it, opens the store again, and
+    /// compares what it has with what must be left. The history goes on from there.
+    ///
+    /// # Errors
+    ///
+    /// `Io` for a file or the output; `Memory`; those of [`Store::open`].
+    fn crash_and_reopen(&mut self, crashes: &mut Crashes<'a, R>) -> Result<()> {
         let alloc = self.rt.alloc();
-        let (append, rewrite, prefix) = self.disk.fail(&mut self.dice)?;
+        let (append, rewrite, prefix) = self.disk.draw_failure(&mut self.dice)?;
         self.store.pipe.cut_file(append.0, append.1 as u64)?;
         self.store.pipe.cut_file(rewrite.0, rewrite.1 as u64)?;
         self.store = open_store(self.rt, self.file_size)?;
@@ -153,18 +192,26 @@ impl<'a, R: Host + Print> History<'a, R> {
         crashes.compare(text_of(alloc, &self.kept)?.as_str(), prefix.as_str())
     }
 
-    /// Writes a batch of one to three changes, and syncs some.
+    /// Writes a batch of one to three changes, which is synced once in four times.
+    ///
+    /// # Errors
+    ///
+    /// Those of [`Store::write`]; `Memory`.
     fn write(&mut self) -> Result<()> {
         let mut batch = LogBatch::default(self.rt.alloc());
         for _ in 0..self.dice.below(3) + 1 {
-            self.change(&mut batch)?;
+            self.add_change(&mut batch)?;
         }
         let sync = self.dice.hits(4);
         self.store.write(batch, sync)
     }
 
-    /// Writes a batch that replaces entries of both regions and compacts them to their end.
-    fn replace(&mut self) -> Result<()> {
+    /// Writes a batch that replaces entries of both regions, and compacts each to its end.
+    ///
+    /// # Errors
+    ///
+    /// Those of [`Store::write`]; `Memory`.
+    fn write_replacements(&mut self) -> Result<()> {
         let alloc = self.rt.alloc();
         let mut batch = LogBatch::default(alloc);
         for region in 1..3u64 {
@@ -179,8 +226,13 @@ impl<'a, R: Host + Print> History<'a, R> {
         self.store.write(batch, false)
     }
 
-    /// Adds a change of one of two regions to a batch, and makes it in the map.
-    fn change(&mut self, batch: &mut LogBatch) -> Result<()>
+    /// Adds a drawn change of one of two regions to the open batch `batch`, and makes the same change of the
+    /// records that the store must have.
+    ///
+    /// # Errors
+    ///
+    /// `Memory`, and what the batch returns.
+    fn add_change(&mut self, batch: &mut LogBatch) -> Result<()>
         requires { batch.old.stage ≡ is_open }
         ensures { OnOk result (batch.new.stage ≡ is_open) }
     {
@@ -191,19 +243,28 @@ impl<'a, R: Host + Print> History<'a, R> {
     }
 }
 
-/// Opens the store of a history, which then notes what it does to its files.
+/// Opens the store of a history, which from then on notes what it does to its files. A file gets `file_size`
+/// bytes before the next one is begun.
+///
+/// # Errors
+///
+/// Those of [`Store::open`].
 fn open_store<R: Host>(rt: &R, file_size: u64) -> Result<Store<'_, R>> {
     let mut store = Store::open(rt, FOLDER, file_size, 4)?;
     store.changes = Some(Vec::new(rt.alloc()));
     Ok(store)
 }
 
-/// Makes a folder with an empty file of each queue.
+/// Makes `folder` with an empty file of each queue, numbered `seq`, in place of a folder that is there.
+///
+/// # Errors
+///
+/// `Io`, or `Memory`.
 fn make_folder<R: Host>(rt: &R, folder: &str, seq: FileSeq) -> Result<()> {
     remove_folder(rt, folder)?;
     fs::create_dir_all(rt, folder)?;
     for queue in [LogQueue::Append, LogQueue::Rewrite] {
-        let path = path_in(rt.alloc(), folder, FileId::new(queue, seq))?;
+        let path = file_path(rt.alloc(), folder, FileId::new(queue, seq))?;
         fs::write(rt, path.as_str(), b"")?;
     }
     Ok(())

@@ -16,7 +16,7 @@ pub(crate) struct Tail {
 }
 
 impl Tail {
-    /// Makes an empty file.
+    /// Returns the file `id`, which is empty.
     pub(crate) fn new(alloc: Global, id: FileId) -> Tail {
         Tail {
             id,
@@ -26,28 +26,33 @@ impl Tail {
         }
     }
 
-    /// Returns how many bytes it has.
+    /// Returns the number of bytes in the file.
     pub(crate) fn len(&self) -> usize {
         self.bytes.len()
     }
 
-    /// Adds the bytes of a batch.
+    /// Appends `bytes`, those of one batch.
+    ///
+    /// # Errors
+    ///
+    /// `Memory` alone.
     pub(crate) fn write(&mut self, bytes: &[u8]) -> Result<()> {
         self.bytes.extend_from_slice(bytes)?;
         Ok(self.ends.push(self.bytes.len())?)
     }
 
-    /// Notes that all bytes last.
+    /// Notes that all bytes survive a crash from now on.
     pub(crate) fn sync(&mut self) {
         self.synced = self.bytes.len();
     }
 
-    /// Returns the first bytes.
+    /// Returns the first `len` bytes, or none if there are fewer.
     pub(crate) fn prefix(&self, len: usize) -> &[u8] {
         self.bytes.get(..len).unwrap_or(b"")
     }
 
-    /// Draws how many bytes a failure leaves: those that were synced, and of the others up to any byte or batch.
+    /// Draws how many bytes a failure of power leaves: all, those that were synced, or these and some of the
+    /// others, up to any byte or up to the end of a batch.
     pub(crate) fn draw(&self, dice: &mut Dice) -> usize {
         let unsynced = self.bytes.len().saturating_sub(self.synced) as u64;
         let drawn = dice.below(unsynced.saturating_add(1)) as usize;
@@ -60,7 +65,7 @@ impl Tail {
         }
     }
 
-    /// Returns how many of the first bytes are whole batches.
+    /// Returns how many of the first `len` bytes belong to batches that are whole in them.
     fn whole_prefix_len(&self, len: usize) -> usize {
         let mut whole = 0;
         for end in &self.ends {
@@ -71,8 +76,8 @@ impl Tail {
         whole
     }
 
-    /// Returns how many batches the first bytes lack.
-    pub(crate) fn count_lost_behind(&self, len: usize) -> usize {
+    /// Returns how many batches aren't whole in the first `len` bytes.
+    pub(crate) fn count_batches_lost(&self, len: usize) -> usize {
         let mut lost = 0usize;
         for end in &self.ends {
             if *end > len {
@@ -82,8 +87,9 @@ impl Tail {
         lost
     }
 
-    /// Drops what a failure doesn't leave; the rest lasts.
-    pub(crate) fn keep(&mut self, len: usize) {
+    /// Cuts the file behind the last batch that is whole in its first `len` bytes, as a restart does after
+    /// a crash that left these. What is left counts as synced.
+    pub(crate) fn cut_to_whole_batches(&mut self, len: usize) {
         let whole = self.whole_prefix_len(len);
         self.bytes.truncate(whole);
         self.ends.retain(|end: &usize| *end <= whole);

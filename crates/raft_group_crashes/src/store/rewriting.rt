@@ -22,8 +22,13 @@ struct MovedRecords {
 }
 
 impl MovedRecords {
-    /// Returns those in append files at or below the gate, or without one those in rewrite files.
-    fn of(alloc: Global, table: &MemTable, gate: Option<FileSeq>) -> Result<MovedRecords> {
+    /// Returns the records of `table` that are to be moved: with a `gate`, those in append files numbered at
+    /// or below it; without one, those in rewrite files.
+    ///
+    /// # Errors
+    ///
+    /// `Memory` alone.
+    fn of_table(alloc: Global, table: &MemTable, gate: Option<FileSeq>) -> Result<MovedRecords> {
         let mut records = MovedRecords {
             entries: Vec::new(alloc),
             pairs: Vec::new(alloc),
@@ -43,7 +48,12 @@ impl MovedRecords {
 }
 
 impl<R: Host> Store<'_, R> {
-    /// Moves the records of all append files but the one that is written to, and returns of how many regions.
+    /// Moves the records of all append files but the last one, which is written to, to the rewrite queue.
+    /// Returns of how many regions it moved some.
+    ///
+    /// # Errors
+    ///
+    /// Those of writing a batch and of the tables. Some of the records may have been moved then.
     pub(crate) fn rewrite_append_queue(&mut self) -> Result<usize> {
         let (first, last) = self.pipe.file_span(LogQueue::Append);
         if first == last {
@@ -52,13 +62,22 @@ impl<R: Host> Store<'_, R> {
         self.rewrite(Some(last - 1))
     }
 
-    /// Moves the records of all rewrite files to a new one, and returns of how many regions.
+    /// Moves the records of all rewrite files to a new one. Returns of how many regions it moved some.
+    ///
+    /// # Errors
+    ///
+    /// Those of writing a batch and of the tables. Some of the records may have been moved then.
     pub(crate) fn rewrite_rewrite_queue(&mut self) -> Result<usize> {
         self.rotate(LogQueue::Rewrite)?;
         self.rewrite(None)
     }
 
-    /// Deletes the files of both queues that no table needs, and returns how many. What takes their place lasts before.
+    /// Deletes the files of both queues that no table needs, and returns how many they were in each. The
+    /// rewrite queue is synced first, so that what was moved out of them survives a crash.
+    ///
+    /// # Errors
+    ///
+    /// `Io` for a file; those of writing a batch; `Memory`. Some of the files may be gone then.
     pub(crate) fn purge(&mut self) -> Result<(usize, usize)> {
         self.rewrite_tombstones()?;
         self.sync(LogQueue::Rewrite)?;
@@ -67,7 +86,11 @@ impl<R: Host> Store<'_, R> {
         Ok((appended, rewritten))
     }
 
-    /// Deletes the files of a queue below the least one that a table needs, and returns how many.
+    /// Deletes the files of `queue` below the least one that a table needs, and returns how many they were.
+    ///
+    /// # Errors
+    ///
+    /// `Io` for a file; `Memory`. Some of the files may be gone then.
     fn purge_queue(&mut self, queue: LogQueue) -> Result<usize> {
         let (_, last) = self.pipe.file_span(queue);
         let least = self.tables.fold(last, |least: FileSeq, table: &MemTable| {
@@ -79,12 +102,17 @@ impl<R: Host> Store<'_, R> {
         let least = FileId::new(queue, least);
         let deleted = self.pipe.purge_to(least)?;
         self.pipe = self.pipe.reopen()?;
-        self.note(FileChange::DeletedBelow(least))?;
+        self.note_change(FileChange::DeletedBelow(least))?;
         Ok(deleted)
     }
 
-    /// Writes to the rewrite queue what takes records there away: the cleaned regions, then all else. The append queue
-    /// lasts before, so that nothing is told, and nothing moved, of batches that a power failure takes.
+    /// Writes to the rewrite queue what takes records away there: the cleaned regions, then the commands and
+    /// deletions that it wasn't told yet. The append queue is synced before, so that nothing is told of
+    /// batches that a failure of power takes.
+    ///
+    /// # Errors
+    ///
+    /// `Io` for a file; those of writing a batch; `Memory`.
     pub(crate) fn rewrite_tombstones(&mut self) -> Result<()> {
         self.sync(LogQueue::Append)?;
         let cleaned = self.tables.take_cleaned_region_logs()?;
@@ -98,7 +126,12 @@ impl<R: Host> Store<'_, R> {
         Ok(())
     }
 
-    /// Moves the records of all regions, and returns of how many regions there were any.
+    /// Moves records of all regions to the rewrite queue: with a `gate`, those in append files numbered at or
+    /// below it; without one, those that are rewritten already. Returns of how many regions it moved some.
+    ///
+    /// # Errors
+    ///
+    /// Those of writing a batch and of the tables. Some of the records may have been moved then.
     fn rewrite(&mut self, gate: Option<FileSeq>) -> Result<usize> {
         self.rewrite_tombstones()?;
         let mut regions = Vec::new(self.rt.alloc());
@@ -113,12 +146,17 @@ impl<R: Host> Store<'_, R> {
         Ok(moved)
     }
 
-    /// Moves records of a region, and returns whether there were any.
+    /// Moves those records of `region` that `gate` lets pass, as [`Store::rewrite`] says. Returns whether
+    /// there were any.
+    ///
+    /// # Errors
+    ///
+    /// Those of writing a batch and of the tables. Some of the records may have been moved then.
     fn rewrite_region(&mut self, region: u64, gate: Option<FileSeq>) -> Result<bool> {
         let Some(table) = self.tables.get(region) else {
             return Ok(false);
         };
-        let records = MovedRecords::of(self.rt.alloc(), table, gate)?;
+        let records = MovedRecords::of_table(self.rt.alloc(), table, gate)?;
         if records.entries.is_empty() && records.pairs.is_empty() {
             return Ok(false);
         }
@@ -129,7 +167,12 @@ impl<R: Host> Store<'_, R> {
         Ok(true)
     }
 
-    /// Writes records out of append files. Each batch takes effect by itself: these files stay until all is written.
+    /// Writes `records` of `region`, which are in append files, to the rewrite queue, in batches that each
+    /// take effect by themselves: the append files stay until all are written.
+    ///
+    /// # Errors
+    ///
+    /// Those of writing a batch and of the tables.
     fn write_batches(
         &mut self,
         region: u64,
@@ -141,13 +184,17 @@ impl<R: Host> Store<'_, R> {
             self.write_moved(batch, gate)?;
         }
         let mut batch = LogBatch::default(self.rt.alloc());
-        put_all(&mut batch, region, records.pairs)?;
+        put_all_pairs(&mut batch, region, records.pairs)?;
         self.write_moved(batch, gate)?;
         Ok(())
     }
 
-    /// Writes all rewritten records of a region again, as an atomic group of two batches: all of them move, or none.
-    /// The table remembers the files of one group, so nothing may be left in an older one.
+    /// Writes all rewritten records of `region` again, as an atomic group of two batches: all of them move,
+    /// or none. The table remembers the files of one group only, so no record may be left in an older one.
+    ///
+    /// # Errors
+    ///
+    /// Those of writing a batch and of the tables.
     fn write_group(&mut self, region: u64, records: MovedRecords) -> Result<()> {
         self.last_group = self.last_group.saturating_add(1);
         let mut group = AtomicGroupBuilder::with_id(self.last_group);
@@ -156,23 +203,32 @@ impl<R: Host> Store<'_, R> {
         group.begin(&mut begin)?;
         let first = self.write_moved(begin, None)?;
         let mut end = self.batch_of(region, rest)?;
-        put_all(&mut end, region, records.pairs)?;
+        put_all_pairs(&mut end, region, records.pairs)?;
         group.end(&mut end)?;
         let last = self.write_moved(end, None)?;
         self.tables
             .apply_rewrite_atomic_group(region, first.min(last), last)
     }
 
-    /// Returns a batch of entries of a region, with their bytes from the files.
+    /// Returns an open batch with `entries` of `region`, whose bytes are read from the files.
+    ///
+    /// # Errors
+    ///
+    /// Those of reading the entry blocks; those of [`LogBatch::add_entries`].
     fn batch_of(&self, region: u64, entries: &[EntryIndex]) -> Result<LogBatch>
         ensures { IfOk result (λ batch. batch.stage ≡ is_open) }
     {
         let mut batch = LogBatch::default(self.rt.alloc());
-        batch.add_entries::<Proposals>(region, self.read(entries)?.as_slice())?;
+        batch.add_entries::<Proposals>(region, self.read_entries(entries)?.as_slice())?;
         Ok(batch)
     }
 
-    /// Writes a batch to the rewrite queue and then to the tables, and returns its file.
+    /// Writes `batch` to the rewrite queue, and then to the tables, with `gate`. Returns the number of the
+    /// file that it is in, or 0 for an empty batch, which isn't written.
+    ///
+    /// # Errors
+    ///
+    /// Those of writing a batch and of the tables.
     fn write_moved(&mut self, mut batch: LogBatch, gate: Option<FileSeq>) -> Result<FileSeq>
         requires { batch.stage ≡ is_open }
     {
@@ -185,8 +241,12 @@ impl<R: Host> Store<'_, R> {
     }
 }
 
-/// Adds key values of a region to a batch.
-fn put_all(batch: &mut LogBatch, region: u64, pairs: Vec<(Vec<u8>, Vec<u8>)>) -> Result<()>
+/// Adds a put of each of `pairs` in `region` to an open batch.
+///
+/// # Errors
+///
+/// Those of [`LogBatch::put`]. Some of them may have been added then.
+fn put_all_pairs(batch: &mut LogBatch, region: u64, pairs: Vec<(Vec<u8>, Vec<u8>)>) -> Result<()>
     requires { batch.old.stage ≡ is_open }
     ensures { OnOk result (batch.new.stage ≡ is_open) }
 {
@@ -197,7 +257,11 @@ fn put_all(batch: &mut LogBatch, region: u64, pairs: Vec<(Vec<u8>, Vec<u8>)>) ->
     Ok(())
 }
 
-/// Adds commands and deletions to a batch.
+/// Adds the commands and deletions among `items` to an open batch. Entries are left out.
+///
+/// # Errors
+///
+/// `Memory` alone. Some of them may have been added then.
 fn add_tombstones(batch: &mut LogBatch, items: &[LogItem]) -> Result<()>
     requires { batch.old.stage ≡ is_open }
     ensures { OnOk result (batch.new.stage ≡ is_open) }

@@ -14,15 +14,14 @@ use std::mem;
 const MOST_OPEN_BYTES: usize = LOG_BATCH_HEADER_LEN + MAX_LOG_ENTRIES_SIZE_PER_BATCH as usize;
 
 impl LogBatch {
-    /// Adds entries of a region to an open batch, each as the bytes of its message. No entries add
-    /// nothing.
+    /// Adds `entries` of `region` to an open batch as one item, each with the bytes of its message. No
+    /// entries add nothing.
     ///
     /// # Errors
     ///
-    /// `InvalidArgument` where their indexes are not consecutive, `Full` where the batch's entry bytes
-    /// would pass 2^31 - 1, `Message` where a message refuses to write itself, `Memory`. Memory is
-    /// asked for before the indexes are tested, so `Memory` may also come for indexes with gaps. The
-    /// batch is then as it was.
+    /// `InvalidArgument` if their indexes aren't consecutive; `Full` if the batch would have more than 2^31 -
+    /// 1 entry bytes; `Message` if a message refuses to be written; `Memory`. Memory is asked for before the
+    /// indexes are tested, so `Memory` may also come for indexes with gaps. The batch is unchanged then.
     pub fn add_entries<M: MessageExt>(&mut self, region: u64, entries: &[M::Entry]) -> Result<()>
         requires { self.old.stage ≡ is_open }
         ensures ok { OnOk result (self.new ≡ with_entries_added self.old region
@@ -51,13 +50,13 @@ impl LogBatch {
         Ok(())
     }
 
-    /// Adds entries of a region to an open batch, with the bytes of each. It asks as many byte strings
-    /// as indexes, and consecutive indexes. Each index gets the length of its bytes, and the offset at
-    /// which they stand among those of the batch; its other fields stay. Empty lists add nothing.
+    /// Adds entries of `region` to an open batch as one item: `entry_indexes`, whose indexes are consecutive,
+    /// and the bytes of each in `entries`, as many strings as indexes. Each index gets the length of its
+    /// bytes, and their offset among those of the batch; its other fields stay. Empty lists add nothing.
     ///
     /// # Errors
     ///
-    /// `Full` where the batch's entry bytes would pass 2^31 - 1, `Memory`. The batch is then as it was.
+    /// `Full` if the batch would have more than 2^31 - 1 entry bytes; `Memory`. The batch is unchanged then.
     pub fn add_raw_entries(
         &mut self,
         region: u64,
@@ -96,13 +95,14 @@ impl LogBatch {
         Ok(())
     }
 
-    /// Adds entries of a region to an open batch, with their bytes one behind another: each has as many as its index says.
-    /// It asks as many bytes as these lengths are together, and consecutive indexes. Each index gets the offset at which
-    /// its bytes stand among those of the batch; its other fields stay. Empty lists add nothing.
+    /// Adds entries of `region` to an open batch as one item: `entry_indexes`, whose indexes are consecutive,
+    /// and the bytes of all of them, one entry behind the other, in `bytes`. Each entry has as many bytes as
+    /// its index says; together these are all. Each index gets the offset of its bytes among those of the
+    /// batch; its other fields stay. Empty lists add nothing.
     ///
     /// # Errors
     ///
-    /// `Full` where the batch's entry bytes would pass 2^31 - 1, `Memory`. The batch is then as it was.
+    /// `Full` if the batch would have more than 2^31 - 1 entry bytes; `Memory`. The batch is unchanged then.
     pub fn add_joined_entries(
         &mut self,
         region: u64,
@@ -139,12 +139,12 @@ impl LogBatch {
         Ok(())
     }
 
-    /// Moves all items of `rhs` after those of the batch, and their entry bytes after its own. Both are open,
-    /// and `rhs` is left empty.
+    /// Moves the items of `rhs` behind those of this batch, and their entry bytes behind its own. Both are
+    /// open; `rhs` is left empty.
     ///
     /// # Errors
     ///
-    /// `Full` where the entry bytes would pass 2^31 - 1, `Memory`. Both are then as they were.
+    /// `Full` if the batch would have more than 2^31 - 1 entry bytes; `Memory`. Both are unchanged then.
     pub fn merge(&mut self, rhs: &mut LogBatch) -> Result<()>
         requires open { self.old.stage ≡ is_open }
         requires rhs_open { rhs.old.stage ≡ is_open }
@@ -173,12 +173,13 @@ impl LogBatch {
     }
 }
 
-/// Appends the entry bytes, a string for each index, and adds the item of the entries.
+/// Appends the entry bytes in `entries`, a string for each of `entry_indexes`, to `buf`, the buffer of a batch. Adds the item of
+/// the entries to `item_batch`, with their lengths and their offsets among the entry bytes.
 ///
 /// # Errors
 ///
-/// `Full` where the entry bytes of the batch would pass 2^31 - 1, `Memory`. The items are then as
-/// they were, and some of the bytes may be appended.
+/// `Full` if the batch would have more than 2^31 - 1 entry bytes; `Memory`. The items are unchanged then; some of the bytes may
+/// have been appended, which the caller takes off.
 fn write_strings(
     buf: &mut Vec<u8>,
     item_batch: &mut LogItemBatch,
@@ -206,12 +207,13 @@ fn write_strings(
     item_batch.add_entry_indexes(region, entry_indexes)
 }
 
-/// Appends the entry bytes, a string for each index, and sets the lengths of the entries.
+/// Appends the entry bytes in `entries`, a string for each of `entry_indexes`, to `buf`, the buffer of a
+/// batch, and sets the lengths of the entries.
 ///
 /// # Errors
 ///
-/// `Full` where the entry bytes of the batch would pass 2^31 - 1, `Memory`. Some of the bytes may
-/// then be appended, and some lengths set.
+/// `Full` if the batch would have more than 2^31 - 1 entry bytes; `Memory`. Some of the bytes may have been
+/// appended then, and some lengths set.
 fn append_strings(
     buf: &mut Vec<u8>,
     entry_indexes: &mut Vec<EntryIndex>,
@@ -238,12 +240,13 @@ fn append_strings(
     Ok(())
 }
 
-/// Appends the entry bytes, which stand one behind another, and adds the item of the entries.
+/// Appends `bytes`, those of the entries, one entry behind the other, to `buf`, the buffer of a batch, and
+/// adds the item of the entries to `item_batch`.
 ///
 /// # Errors
 ///
-/// `Full` where the entry bytes of the batch would pass 2^31 - 1, `Memory`. The items are then as
-/// they were, and the bytes may be appended.
+/// `Full` if the batch would have more than 2^31 - 1 entry bytes; `Memory`. The items are unchanged then; the
+/// bytes may have been appended, which the caller takes off.
 fn write_joined(
     buf: &mut Vec<u8>,
     item_batch: &mut LogItemBatch,
@@ -270,13 +273,14 @@ fn write_joined(
     item_batch.add_entry_indexes(region, entry_indexes)
 }
 
-/// Appends the bytes of messages, and adds the item of their entries.
+/// Appends the bytes of the messages `entries` to `buf`, the buffer of a batch, and adds the item of their
+/// entries to `item_batch`.
 ///
 /// # Errors
 ///
-/// `InvalidArgument` where their indexes are not consecutive, `Full` where the entry bytes of the
-/// batch would pass 2^31 - 1, `Message` where a message refuses to write itself, `Memory`. The
-/// items are then as they were, and some of the bytes may be appended.
+/// `InvalidArgument` if their indexes aren't consecutive; `Full` if the batch would have more than 2^31 - 1
+/// entry bytes; `Message` if a message refuses to be written; `Memory`. The items are unchanged then; some of
+/// the bytes may have been appended, which the caller takes off.
 fn write_messages<M: MessageExt>(
     buf: &mut Vec<u8>,
     item_batch: &mut LogItemBatch,
@@ -312,7 +316,7 @@ fn write_messages<M: MessageExt>(
     Ok(item_batch.add_laid_entries(region, entry_indexes, end)?)
 }
 
-/// Tests whether the indexes of messages rise by one, and none is 2^64 - 1.
+/// Tests whether the indexes of the messages `entries` rise by one, and none is 2^64 - 1.
 fn have_consecutive_indexes<M: MessageExt>(entries: &[M::Entry]) -> bool
     ensures { IsTrue result ↔ IsConsecutive (map (λ e. entry_with_index (M.index_of e)) entries.now) }
 {
@@ -329,12 +333,13 @@ fn have_consecutive_indexes<M: MessageExt>(entries: &[M::Entry]) -> bool
     true
 }
 
-/// Appends the bytes of messages, and pushes an entry for each, for which there is room.
+/// Appends the bytes of messages to `buf`, which begins with room for the header of the batch (16 bytes),
+/// and an [`EntryIndex`] for each to `entry_indexes`, which is empty, with room for them.
 ///
 /// # Errors
 ///
-/// `Full` where the entry bytes of the batch would pass 2^31 - 1, `Message` where a message refuses
-/// to write itself, `Memory`. Some of the bytes may then be appended, and some entries pushed.
+/// `Full` if the batch would have more than 2^31 - 1 entry bytes; `Message` if a message refuses to be
+/// written; `Memory`. Some of the bytes and entries may have been appended then.
 fn append_messages<M: MessageExt>(
     buf: &mut Vec<u8>,
     entry_indexes: &mut Vec<EntryIndex>,
@@ -372,12 +377,12 @@ fn append_messages<M: MessageExt>(
     Ok(())
 }
 
-/// Makes room for the entry bytes of a buffer of `len` bytes, unless the own buffer has none and
-/// can be swapped.
+/// Makes room for the entry bytes of another buffer of `len` bytes, unless the own one has no entry bytes:
+/// then [`move_entry_bytes`] swaps both.
 ///
 /// # Errors
 ///
-/// Where there is no memory for them.
+/// `AllocError` if there is no memory for them. The bytes are unchanged in either case.
 fn reserve_behind(buf: &mut Vec<u8>, len: usize) -> AllocResult<()>
     ensures same { buf.new.items ≡ buf.old.items }
     ensures room { OnOk result (16 < length buf.old.items →
@@ -389,8 +394,8 @@ fn reserve_behind(buf: &mut Vec<u8>, len: usize) -> AllocResult<()>
     Ok(())
 }
 
-/// Moves the entry bytes of another buffer behind the own ones, for which there is room. The other
-/// is left empty, and keeps 8 MiB of room at most.
+/// Moves the entry bytes of the buffer `others` behind those of `buf`, which has room for them. `others` is
+/// left empty, and keeps at most 8 MiB.
 fn move_entry_bytes(buf: &mut Vec<u8>, others: &mut Vec<u8>)
     requires { 16 < length buf.old.items →
         length buf.old.items + (length others.old.items - 16) ≤ vec_capacity buf.old }
@@ -406,7 +411,8 @@ fn move_entry_bytes(buf: &mut Vec<u8>, others: &mut Vec<u8>)
     others.shrink_to(MAX_LOG_BATCH_BUFFER_CAP);
 }
 
-/// Appends the entry bytes of another buffer, for which there is room.
+/// Appends the entry bytes of the buffer `others`, those behind its first 16, to `buf`, which has room for
+/// them.
 fn append_entry_bytes(buf: &mut Vec<u8>, others: &[u8])
     requires { length buf.old.items + (length others.now - 16) ≤ vec_capacity buf.old }
     ensures { buf.new.items ≡ buf.old.items ++ drop 16 others.now }

@@ -18,7 +18,8 @@ pub(crate) trait Kept: Sized {
     /// What is kept of this entry.
     ghost kept_of: { EntryIndex → Self };
 
-    /// Returns what is kept of the entry `index`, whose bytes go from `offset` to `tail`.
+    /// Returns what is kept of the entry `index`, whose bytes go from `offset` to `tail` in the entry bytes
+    /// of its batch.
     fn from_tail(index: u64, offset: u32, tail: u32) -> Self
         requires { offset ≤ tail }
         ensures { result ≡ kept_of (entry_between index offset tail) };
@@ -27,6 +28,7 @@ pub(crate) trait Kept: Sized {
 impl Kept for EntryIndex {
     ghost kept_of = { λ e. e };
 
+    /// Returns the whole entry `index`, without a place, with its bytes from `offset` to `tail`.
     #[inline(always)]
     fn from_tail(index: u64, offset: u32, tail: u32) -> EntryIndex {
         EntryIndex {
@@ -43,17 +45,19 @@ impl Kept for EntryIndex {
 impl Kept for (u32, u32) {
     ghost kept_of = { span_of };
 
+    /// Returns `offset` and the length of the entry's bytes, up to `tail`: its span.
     #[inline(always)]
     fn from_tail(_index: u64, offset: u32, tail: u32) -> (u32, u32) {
         (offset, tail - offset)
     }
 }
 
-/// Reads this many items, and returns what follows them.
+/// Reads `count` items from the start of `bytes` into `items`, and the spans of their entries into `spans`.
+/// Returns the bytes behind them. Room for no more items than bytes can hold is made, whatever `count` is.
 ///
 /// # Errors
 ///
-/// Those of [`LogItem::decode`](crate::LogItem::decode). Some items and spans may then be added.
+/// Those of [`LogItem::decode`](crate::LogItem::decode). Some items and spans may have been added then.
 pub(super) fn read_items<'a>(
     alloc: Global,
     bytes: &'a [u8],
@@ -85,12 +89,12 @@ pub(super) fn read_items<'a>(
     Ok(rest)
 }
 
-/// Reads an item, whose entries' bytes begin at `start`, and returns where they end and what
-/// follows it.
+/// Reads one item from the start of `bytes`, the bytes of whose entries begin at `start`. Returns where those
+/// end, and the bytes behind the item.
 ///
 /// # Errors
 ///
-/// Those of [`LogItem::decode`](crate::LogItem::decode). Some spans may then be added.
+/// Those of [`LogItem::decode`](crate::LogItem::decode). Some spans may have been added then.
 #[inline(never)]
 #[tactic(auto, using(crate::proofs::ReadBatchLemmas::held_item))]
 fn read_item<'a>(
@@ -111,12 +115,13 @@ fn read_item<'a>(
     Ok((end, rest))
 }
 
-/// Reads the content of an item, and returns it with the end of its entries' bytes and what follows
-/// it.
+/// Reads the content of an item from the start of `bytes`: the byte for its type, and what that says. Returns
+/// it with the end of its entries' bytes, which begin at `start`, and the bytes behind the content. What `T`
+/// keeps of entries is appended to `kept`.
 ///
 /// # Errors
 ///
-/// Those of [`LogItem::decode`](crate::LogItem::decode). Some entries may then be kept.
+/// Those of [`LogItem::decode`](crate::LogItem::decode). Some entries may have been kept then.
 #[tactic(auto, using(crate::proofs::ReadBatchLemmas::entries_are_content, crate::proofs::ReadBatchLemmas::command_read, crate::proofs::ReadBatchLemmas::pair_read))]
 pub(crate) fn read_content<'a, T: Kept>(
     alloc: Global,
@@ -153,12 +158,13 @@ pub(crate) fn read_content<'a, T: Kept>(
     }
 }
 
-/// Reads the entries of an item, and returns the first one's index, how many they are, the end of
-/// their bytes, and what follows them.
+/// Reads the entries of an item from the start of `bytes`. Returns the index of the first one, their number,
+/// the end of their bytes, which begin at `start`, and the bytes behind them. Both index and number are 0 if
+/// there are none.
 ///
 /// # Errors
 ///
-/// Those of [`EntryIndexes::decode`](crate::EntryIndexes::decode). Some entries may then be kept.
+/// Those of [`EntryIndexes::decode`](crate::EntryIndexes::decode). Some entries may have been kept then.
 #[tactic(auto, using(crate::proofs::ReadBatchLemmas::no_entries_read, crate::proofs::ReadBatchLemmas::run_read_of))]
 pub(crate) fn read_entries<'a, T: Kept>(
     alloc: Global,
@@ -180,12 +186,13 @@ pub(crate) fn read_entries<'a, T: Kept>(
     Ok((first, count as usize, end, rest))
 }
 
-/// Reads this many entries from the index `first` on, whose bytes begin at `start`, and returns
-/// where they end and what follows them.
+/// Reads the tail offsets of `count` entries, whose indexes rise from `first` on and whose bytes begin at
+/// `start`. Returns where their bytes end, and the bytes behind the tail offsets. Room for no more entries
+/// than bytes can hold is made, whatever `count` is.
 ///
 /// # Errors
 ///
-/// Those of [`EntryIndexes::decode`](crate::EntryIndexes::decode). Some entries may then be kept.
+/// Those of [`EntryIndexes::decode`](crate::EntryIndexes::decode). Some entries may have been kept then.
 #[inline(never)]
 fn read_tails<'a, T: Kept>(
     alloc: Global,
@@ -225,8 +232,9 @@ fn read_tails<'a, T: Kept>(
 /// The byte of [`OpType::Put`](crate::OpType::Put).
 const PUT: u8 = 1;
 
-/// Reads a run or a put whose numbers are short, as most are, where there is room; else adds nothing,
-/// and `read_item` reads it.
+/// Reads a run or a put whose numbers take at most four bytes each, as most do, if `items` and `spans` have
+/// room for it. Returns where the bytes of its entries end, and the bytes behind the item. Otherwise it
+/// returns `None` and adds nothing, and [`read_item`] reads the item, or makes the error.
 #[inline(always)]
 fn read_short_item<'a>(
     bytes: &'a [u8],
@@ -248,8 +256,9 @@ fn read_short_item<'a>(
     Some((end, rest))
 }
 
-/// Reads a run or a put whose numbers are short, and returns it with the end of its entries' bytes
-/// and what follows it. Where it isn't one, nothing is returned, and no span is added.
+/// Reads the content of a run or a put whose numbers are short. Returns it with the end of its entries'
+/// bytes, which begin at `start`, and the bytes behind it. Returns `None`, and adds no span, for any other
+/// content.
 #[inline(always)]
 fn read_short_content<'a>(
     bytes: &'a [u8],
@@ -275,7 +284,9 @@ fn read_short_content<'a>(
     }
 }
 
-/// Reads the entries of an item, whose count was a byte in front of `bytes`.
+/// Reads the entries of a run, `count` of them, the byte before `bytes`. Returns them with the end of their
+/// bytes, which begin at `start`, and the bytes behind them. Returns `None`, and adds no span, if `count`
+/// isn't from 1 to 127, `spans` has no room for them, or a number isn't short.
 #[inline(always)]
 fn read_short_run<'a>(
     count: u8,
@@ -297,7 +308,8 @@ fn read_short_run<'a>(
     Some((ReadContent::Run { first, count }, end, rest))
 }
 
-/// Reads a put behind its op type byte.
+/// Reads the key and the value of a put from the start of `bytes`, behind its op type, if both lengths are
+/// short. Returns the put and the bytes behind it, or `None`.
 #[inline(always)]
 fn parse_short_put(bytes: &[u8]) -> Option<(ReadContent<'_>, &[u8])>
     ensures { IfSome result (λ read. (p : Pair) ×
@@ -308,9 +320,9 @@ fn parse_short_put(bytes: &[u8]) -> Option<(ReadContent<'_>, &[u8])>
     Some((ReadContent::Put { key, value }, rest))
 }
 
-/// Reads this many entries whose bytes begin at `start` and whose tail offsets are short, and
-/// returns where they end and what follows them. Where one isn't, nothing is returned, and no span
-/// is added.
+/// Reads the tail offsets of `count` entries, whose bytes begin at `start`, if each takes at most four bytes.
+/// Returns where their bytes end, and the bytes behind the tail offsets. Returns `None`, and adds no span, if
+/// one is longer or refused. `spans` has room for them.
 #[inline(always)]
 fn read_short_spans<'a>(
     bytes: &'a [u8],
@@ -339,9 +351,8 @@ fn read_short_spans<'a>(
     Some((offset, rest))
 }
 
-/// Reads a short length and as many bytes, which it returns with what follows them. Nothing is
-/// returned where no length stands there, it takes more than four bytes, or fewer bytes than it
-/// says are left.
+/// Reads a length of at most four bytes and as many bytes from the start of `bytes`. Returns those, and the
+/// bytes behind them. Returns `None` if there is no such length, or fewer bytes are left.
 #[inline(always)]
 #[tactic(auto, using(crate::proofs::ItemLemmas::text_read, raft_codec::proofs::VarintLemmas::short_is_read))]
 fn parse_short_byte_string(bytes: &[u8]) -> Option<(&[u8], &[u8])>

@@ -107,7 +107,7 @@ pub(super) enum Form {
     Entries,
 }
 
-/// What is read in front of bytes.
+/// What is read at the start of bytes.
 #[derive(Clone, Copy)]
 pub(super) enum Read {
     /// What is written so again, after which so many entry bytes and so many bytes are.

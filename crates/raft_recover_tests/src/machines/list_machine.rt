@@ -10,7 +10,7 @@ use std::alloc::Global;
 /// A batch, and the file that it was written to.
 #[derive(Drop)]
 pub(crate) struct Kept {
-    batch: LogItemBatch,
+    pub(crate) batch: LogItemBatch,
     pub(crate) file: FileId,
 }
 

@@ -3,8 +3,7 @@
 use raft_base::FileBlockHandle;
 use std::collections::VecDeque;
 
-/// Neighboring entries of a table that have one place, as many as there are. Its words are those of
-/// `specs/Blocks.antt`.
+/// All neighboring entries of a table whose bytes are in one entry block. `specs/Blocks.antt` defines the terms.
 #[derive(Drop)]
 pub struct Block {
     /// The place of the entries.

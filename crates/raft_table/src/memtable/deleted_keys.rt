@@ -33,7 +33,7 @@ impl Model for DeletedKeys {
 }
 
 impl DeletedKeys {
-    /// Makes one without keys.
+    /// Returns an empty set, whose keys will be allocated by `alloc`.
     pub fn new(alloc: Global) -> DeletedKeys
         ensures { result ≡ finset.empty }
     {
@@ -42,32 +42,32 @@ impl DeletedKeys {
         }
     }
 
-    /// Returns how many keys there are.
+    /// Returns the number of keys in the set.
     pub fn len(&self) -> usize
         ensures { result ≡ finset.len self.now }
     {
         self.keys.len()
     }
 
-    /// Tests whether a key is among them.
+    /// Tests whether `key` is in the set.
     pub fn contains(&self, key: &[u8]) -> bool
         ensures { result ≡ finset.contains self.now key.now }
     {
         self.keys.contains_key(key)
     }
 
-    /// Takes all keys away.
+    /// Removes all keys from the set.
     pub fn clear(&mut self)
         ensures { self.new ≡ finset.empty }
     {
         self.keys.clear();
     }
 
-    /// Puts a key.
+    /// Adds `key`. The set stays as it is if the key is in it already.
     ///
     /// # Errors
     ///
-    /// Where there is no memory for it. The keys are then as they were.
+    /// `AllocError` if there is no memory for it. The set is unchanged then.
     pub fn insert(&mut self, key: Vec<u8>) -> AllocResult<()>
         ensures ok { OnOk result (self.new ≡ finset.insert self.old key.items) }
         ensures err { OnErr result (self.new ≡ self.old) }
@@ -76,12 +76,13 @@ impl DeletedKeys {
         Ok(())
     }
 
-    /// Puts the keys of `rhs` too: those of the smaller set are moved to the larger one. Leaves `rhs`
-    /// empty.
+    /// Adds the keys of `rhs`, and leaves `rhs` empty. The keys of the smaller set are moved into the larger
+    /// one, so that few are inserted.
     ///
     /// # Errors
     ///
-    /// Where there is no memory for all of them. Both sets then have some of the keys, and one is lost.
+    /// `AllocError` if there is no memory for a key. That key is lost then, and each of the others is in one
+    /// of both sets: neither set may be used after that.
     pub fn absorb(&mut self, rhs: &mut DeletedKeys) -> AllocResult<()>
         ensures ok { OnOk result (self.new ≡ finset.union self.old rhs.old) }
         ensures emptied { OnOk result (rhs.new ≡ finset.empty) }
@@ -93,12 +94,13 @@ impl DeletedKeys {
         self.take_each(rhs)
     }
 
-    /// Moves the keys of `rhs` into these, one after another.
+    /// Moves the keys of `rhs` into this set one by one, and leaves `rhs` empty: the loop of
+    /// [`DeletedKeys::absorb`].
     ///
     /// # Errors
     ///
-    /// Where there is no memory for a key. It is lost then, those before it have been moved, and
-    /// the others are left in `rhs`.
+    /// `AllocError` if there is no memory for a key. That key is lost then; those before it, by their bytes,
+    /// have been moved, and those after it are left in `rhs`.
     fn take_each(&mut self, rhs: &mut DeletedKeys) -> AllocResult<()>
         ensures ok { OnOk result (self.new ≡ finset.union self.old rhs.old) }
         ensures emptied { OnOk result (rhs.new ≡ finset.empty) }
@@ -109,7 +111,7 @@ impl DeletedKeys {
         Ok(())
     }
 
-    /// Takes the first key out, in the order of bytes; `None` where there is none.
+    /// Removes the least key, by its bytes, and returns it. Returns `None` from an empty set.
     fn take_first(&mut self) -> Option<Vec<u8>>
         ensures first { IfSome result (λ k. self.old ≡ finset.insert self.new k.items) }
         ensures fewer { IfSome result (λ k. finset.len self.new < finset.len self.old) }
@@ -119,7 +121,7 @@ impl DeletedKeys {
         Some(key)
     }
 
-    /// Takes the pairs of these keys away.
+    /// Removes the keys of this set, and their values, from `keys`. Keys without a value are skipped.
     pub fn delete_from(&self, keys: &mut KeyValues)
         ensures after { keys.new ≡ without self.now keys.old }
         ensures fewer { (q : LogQueue) → pair_count q keys.new ≤ pair_count q keys.old }
@@ -128,7 +130,7 @@ impl DeletedKeys {
     }
 }
 
-/// Takes the pairs of the keys in `deleted` away.
+/// Removes the keys of `deleted` from `keys`, with their values: the loop of [`DeletedKeys::delete_from`].
 fn delete_all(deleted: &BTreeMap<Vec<u8>, ()>, keys: &mut KeyValues)
     ensures after { keys.new
         ≡ without (finset.from_list (map (λ e. e.0.items) deleted.now.entries)) keys.old }

@@ -20,15 +20,19 @@ use std::marker::Model;
 
 type Blocks = VecDeque<Block>;
 
-/// The index of each block's first entry; none where blocks are few.
+/// The index of the first entry of each block, or nothing: a table of at most `FEW` blocks needn't keep them,
+/// since its blocks can be walked.
 type Starts = VecDeque<u64>;
 
+/// Where each entry of a block begins in it, and how many bytes it has.
 type Spans = VecDeque<(u32, u32)>;
 
-/// A block, and an entry of it.
+/// Where an entry is kept: the number of its block, and its position among that block's spans, both from 0.
 type Spot = (usize, usize);
 
-/// The entries of a region's table: one run of indexes, rewritten places in front of appended ones.
+/// The entries of a region's table: one run of indexes, in which rewritten entries come before appended ones.
+///
+/// They are kept in blocks, neighbors with one place together, so that an entry costs 8 bytes.
 #[derive(Drop)]
 pub struct Entries {
     first: u64,
@@ -38,14 +42,19 @@ pub struct Entries {
     rewritten: usize,
 }
 
+/// Where a run starts beside the entries of a table.
 #[derive(Clone, Copy)]
 enum Start {
-    /// It starts among them or right after them: so many stand below its start.
+    /// Among them or right after them: this many entries are below its start.
     Joins(usize),
+    /// Below the first entry.
     InFront,
+    /// Above the end of the entries, so that indexes between them would be missing.
     BehindHole,
 }
 
+/// The indexes that a run shares with the entries: the first one is at position `at` of the entries and at
+/// position `skipped` of the run, and there are `count` of them.
 #[derive(Clone, Copy)]
 struct Overlap {
     at: usize,
@@ -70,7 +79,7 @@ impl Model for Entries {
 }
 
 impl Entries {
-    /// Makes one without entries.
+    /// Returns no entries; blocks will be allocated by `alloc`.
     pub fn new(alloc: Global) -> Entries
         ensures { result ≡ [] }
     {
@@ -83,15 +92,16 @@ impl Entries {
         }
     }
 
-    /// States that the entries are one run, the rewritten ones first.
+    /// States that the entries are one run without gaps, each has a place, and the rewritten ones come first.
+    /// It computes nothing: bodies call it so that their proofs know this of the entries.
     pub fn holds_one_run(&self)
         ensures { AreTableEntries self.now }
     {
         let _ = &self.blocks;
     }
 
-    /// Returns the blocks that the entries are kept in, in order. None is empty, and neighboring
-    /// ones have different places.
+    /// Returns the blocks that the entries are kept in, in order of index. No block is empty, and neighboring
+    /// blocks have different places.
     pub fn blocks(&self) -> &VecDeque<Block>
         ensures entries { entries_in_blocks (start_of self.now) (shown result.now) ≡ self.now }
         ensures distinct { AreDistinctBlocks (shown result.now) }
@@ -100,7 +110,7 @@ impl Entries {
         &self.blocks
     }
 
-    /// Returns the index of the first entry, `None` without entries.
+    /// Returns the index of the first entry, or `None` if there is none.
     pub fn first_index(&self) -> Option<u64>
         ensures { MatchOption result (self.now ≡ []) (λ i. (self.now ≢ []) ×
             (i ≡ start_of self.now)) }
@@ -111,7 +121,7 @@ impl Entries {
         Some(self.first)
     }
 
-    /// Returns the index of the last entry, `None` without entries.
+    /// Returns the index of the last entry, or `None` if there is none.
     pub fn last_index(&self) -> Option<u64>
         ensures { MatchOption result (self.now ≡ []) (λ i. i + 1 ≡ end_of self.now) }
     {
@@ -121,7 +131,7 @@ impl Entries {
         Some(self.first + (self.len - 1) as u64)
     }
 
-    /// Returns how many entries there are.
+    /// Returns the number of entries in all blocks.
     #[tactic(auto, using(crate::proofs::BlockCuts::kept_facts))]
     pub fn len(&self) -> usize
         ensures { result ≡ length self.now }
@@ -129,7 +139,7 @@ impl Entries {
         self.len
     }
 
-    /// Returns how many entries have their place in `queue`.
+    /// Returns the number of entries whose place is in a file of `queue`.
     pub fn count_in(&self, queue: LogQueue) -> usize
         ensures { result ≡ entry_count queue self.now }
     {
@@ -139,12 +149,12 @@ impl Entries {
         }
     }
 
-    /// Returns the allocator of the blocks.
+    /// Returns the allocator that blocks are allocated by.
     pub(crate) fn allocator(&self) -> Global {
         *self.blocks.allocator()
     }
 
-    /// Returns the entry at an index, `None` where none stands there.
+    /// Returns the entry at `index`, or `None` if the table has none there.
     pub fn get(&self, index: u64) -> Option<EntryIndex>
         ensures { result ≡ entry_at index self.now }
     {

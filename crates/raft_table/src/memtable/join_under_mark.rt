@@ -14,7 +14,8 @@ use raft_base::{Error, LogQueue, Result};
 use std::mem;
 
 impl MemTable {
-    /// Returns the end of the entries that the first run of a newer region mark meets.
+    /// Returns the index after the last of these entries that the first run of `mark`, a newer region mark,
+    /// meets: of those that are neither compacted nor truncated before that run. Returns 0 if there are none.
     #[doc(hidden)]
     pub fn end_at_reach(&self, mark: &Mark) -> u64
         ensures { result ≡ end_at_reach mark.now self.now }
@@ -23,17 +24,19 @@ impl MemTable {
             .end_within(mark.reach_floor(), mark.reach_cut())
     }
 
-    /// Puts the newer table `rhs` of the same region, which the counts don't hold, over this one as
-    /// its region mark says, where the entries that this makes are a run, as they are where region mark and table
-    /// stand for steps. `rhs` is left empty. Returns the end of the older entries that the region mark's
-    /// first run meets.
+    /// Puts the newer table `rhs` of the same region over this one, as the region mark `mark` of its steps
+    /// says, counts its records, which aren't counted yet, and leaves it empty. Returns the end of the older
+    /// entries that the mark's first run meets ([`MemTable::end_at_reach`]).
+    ///
+    /// The entries that this gives are one run if `mark` and `rhs` stand for steps, as those of a context do;
+    /// otherwise nothing is promised of them.
     ///
     /// # Errors
     ///
-    /// `Corruption` where, in the append queue, a run among the region mark's steps would leave a hole after
-    /// the older entries, `Full` where the live count of a queue and the
-    /// records of `rhs` there would pass 2^64 - 1. Both tables and the counts are then as they were;
-    /// after `Memory` the counts still agree with this table.
+    /// `Corruption` if, in the append queue, a run among the mark's steps would leave a hole after the older
+    /// entries; `Full` if more than 2^64 - 1 records would be live in a queue, with those of `rhs` beside all
+    /// that are counted. Both tables and the counts are unchanged then. After `Memory` both tables may have
+    /// changed, and the counts still agree with this one.
     #[doc(hidden)]
     pub fn join_under(
         &mut self,
@@ -77,15 +80,17 @@ impl MemTable {
         Ok(end)
     }
 
-    /// Puts an appended table `rhs` of the same region, which the counts don't hold, over this
-    /// rewritten one as its region mark says, where the entries that this makes are a run, as they are where
-    /// region mark and table stand for steps. `rhs` is left empty.
+    /// Puts `rhs`, an appended table of the same region, over this rewritten one, as the region mark `mark`
+    /// of its steps says, counts its records, which aren't counted yet, and leaves it empty.
+    ///
+    /// The entries that this gives are one run if `mark` and `rhs` stand for steps, as those of a context do;
+    /// otherwise nothing is promised of them.
     ///
     /// # Errors
     ///
-    /// `Full` where the live count of a queue and the records of `rhs` there would pass 2^64 - 1.
-    /// Both tables and the counts are then as they were; after `Memory` the counts still agree with
-    /// this table.
+    /// `Full` if more than 2^64 - 1 records would be live in a queue, with those of `rhs` beside all that are
+    /// counted. Both tables and the counts are unchanged then. After `Memory` both tables may have changed,
+    /// and the counts still agree with this one.
     #[doc(hidden)]
     pub fn overlay(
         &mut self,
@@ -117,7 +122,8 @@ impl MemTable {
         Ok(())
     }
 
-    /// Tests whether the table is as a new one: it has no entry, no key, and no atomic group.
+    /// Tests whether the table has no entry, no key and no atomic group, as a new one: a join then takes the
+    /// newer table as it is.
     fn is_blank(&self) -> bool
         ensures { MatchBool result (self.now ≡ empty_table self.now.region_id) (Unit {0}) }
     {
@@ -127,9 +133,9 @@ impl MemTable {
         }
     }
 
-    /// Tests whether the entries of this rewritten table all go because those of the newer,
-    /// appended one don't join them: these don't begin at the mark's cut, or the own ones end below
-    /// it.
+    /// Tests whether all entries of this rewritten table go because they don't reach those of the newer,
+    /// appended table `rhs`: its entries don't begin at the mark's cut, or those of this table end below it.
+    /// False if there is no cut or `rhs` has no entries.
     fn is_unjoined(&self, rhs: &MemTable, mark: &Mark) -> bool
         ensures { result ≡ is_unjoined mark.now.cut (end_of self.now.entries) rhs.now.entries }
     {
@@ -139,8 +145,7 @@ impl MemTable {
         }
     }
 
-    /// Puts the atomic group of `rhs` in place of the own one, if it has one, and takes it from
-    /// `rhs`.
+    /// Takes the atomic group of `rhs`, if it has one, in place of this table's.
     pub(super) fn take_atomic_group(&mut self, rhs: &mut MemTable)
         ensures atomic_group { self.new ≡ record self.old {
           atomic_group = newer_atomic_group rhs.old.atomic_group self.old.atomic_group;
@@ -152,8 +157,8 @@ impl MemTable {
         }
     }
 
-    /// Takes the atomic group of an appended table from it. It replaces the own one where the mark
-    /// says that the region was cleaned, and else it is dropped.
+    /// Takes the atomic group of `rhs`, an appended table, from it: if `mark` says that the region was
+    /// cleaned, it replaces this table's, even if there is none; else it is dropped.
     fn take_appended_group(&mut self, rhs: &mut MemTable, mark: &Mark)
         ensures atomic_group { self.new ≡ record self.old {
           atomic_group = if mark.now.cleaned then rhs.old.atomic_group else self.old.atomic_group;
@@ -166,14 +171,14 @@ impl MemTable {
         }
     }
 
-    /// Returns the greatest index plus one, 0 without entries.
+    /// Returns the index after the last entry, or 0 without entries.
     pub fn end(&self) -> u64
         ensures { result ≡ end_of self.now.entries }
     {
         self.entries.end()
     }
 
-    /// Returns the first index, and the greatest one plus one; both are 0 without entries.
+    /// Returns the index of the first entry, and the index after the last one. Both are 0 without entries.
     #[doc(hidden)]
     pub fn ends(&self) -> (u64, u64)
         ensures { result ≡ (start_of self.now.entries, end_of self.now.entries) }
@@ -181,12 +186,13 @@ impl MemTable {
         (self.first_index().unwrap_or(0), self.end())
     }
 
-    /// Refuses a newer region mark whose steps are refused over these entries. `end` is the end of those that its
-    /// first run meets.
+    /// Checks that the steps of a newer region mark aren't refused over these entries. `end` is the end of
+    /// those that its first run meets ([`MemTable::end_at_reach`]). In the rewrite queue no step is refused.
     ///
     /// # Errors
     ///
-    /// `Corruption`, or `Memory` where its text finds none.
+    /// `Corruption`, which names the region, if a run leaves a hole after these entries; `Memory` if there is
+    /// none for that text.
     #[doc(hidden)]
     pub fn check_newer_mark(&self, queue: LogQueue, mark: &Mark, end: u64) -> Result<()>
         requires { end ≡ end_at_reach mark.now self.now }
@@ -203,11 +209,12 @@ impl MemTable {
         }
     }
 
-    /// Refuses a region mark whose first run leaves a hole after entries that end at `end`.
+    /// Checks that the first run of a newer region mark leaves no hole after these entries, of which those
+    /// that it meets end at `end`.
     ///
     /// # Errors
     ///
-    /// `Corruption`, or `Memory` where its text finds none.
+    /// `Corruption` if it does, or `Memory` if there is none for its text.
     fn check_first_run(&self, mark: &Mark, end: u64) -> Result<()>
         requires { end ≡ end_at_reach mark.now self.now }
         ensures ok { OnOk result (is_missed mark.now self.now.entries ≡ false) }
@@ -224,11 +231,12 @@ impl MemTable {
         Err(hole_error(self.entries.allocator(), self.region_id, start, end))
     }
 
-    /// Refuses a region mark that bars indexes at which entries stand.
+    /// Checks that these entries have none of the indexes that a newer region mark bars ([`Mark::barred`]).
     ///
     /// # Errors
     ///
-    /// `Corruption`, or `Memory` where its text finds none.
+    /// `Corruption` if they do, since a run of the mark's steps then leaves a hole; `Memory` if there is none
+    /// for its text.
     fn check_barred(&self, mark: &Mark) -> Result<()>
         ensures ok { OnOk result (is_barred mark.now.barred self.now.entries ≡ false) }
         ensures fault { IfErr result (IsMarkFault
@@ -247,9 +255,9 @@ impl MemTable {
         Err(hole_error_above(self.entries.allocator(), self.region_id, below, end))
     }
 
-    /// Drops what the steps of a newer region mark take away, and takes it off the counts: all
-    /// after a clean; else the deleted keys, and the entries outside of floor and cut, or all where
-    /// `gone`.
+    /// Drops what the steps of a newer region mark take away, and subtracts it from the live counts:
+    /// everything after a clean; else the deleted keys, and the entries below the mark's floor or at or above
+    /// its cut, or, if `gone`, all entries.
     fn drop_older(&mut self, gone: bool, mark: &Mark, stats: &mut GlobalStats)
         requires counted { IsCounted self.old stats.old }
         ensures left { self.new ≡ left_by gone mark.now self.old }
@@ -267,8 +275,8 @@ impl MemTable {
         self.drop_deleted(mark.deleted(), stats);
     }
 
-    /// Drops the entries outside of the mark's floor and cut, or all where `gone`, and takes them
-    /// off the counts.
+    /// Drops the entries below the mark's floor or at or above its cut, or, if `gone`, all of them. Subtracts
+    /// them from the live counts.
     fn drop_entries(&mut self, gone: bool, mark: &Mark, stats: &mut GlobalStats)
         requires counted { IsCounted self.old stats.old }
         ensures left { self.new ≡ record self.old {
@@ -284,7 +292,7 @@ impl MemTable {
         self.entries.keep_within(mark.floor(), mark.cut(), stats);
     }
 
-    /// Drops all key values, and takes them off the counts.
+    /// Drops all key values, and subtracts them from the live counts.
     fn drop_keys(&mut self, stats: &mut GlobalStats)
         requires counted { IsCounted self.old stats.old }
         ensures dropped { self.new ≡ record self.old { keys = finite.empty } }
@@ -295,7 +303,7 @@ impl MemTable {
         self.keys.clear();
     }
 
-    /// Drops the values of the deleted keys, and takes them off the counts.
+    /// Drops the values of the keys in `deleted`, and subtracts them from the live counts.
     fn drop_deleted(&mut self, deleted: &DeletedKeys, stats: &mut GlobalStats)
         requires counted { IsCounted self.old stats.old }
         ensures dropped { self.new ≡ record self.old { keys = without deleted.now self.old.keys } }

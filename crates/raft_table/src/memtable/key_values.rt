@@ -17,6 +17,7 @@ use std::collections::BTreeMap;
 use std::marker::Model;
 use std::mem::swap;
 
+/// A value, and the file that it was written to.
 #[derive(Debug, Drop)]
 struct StoredValue {
     value: Vec<u8>,
@@ -47,7 +48,7 @@ impl Model for KeyValues {
 }
 
 impl KeyValues {
-    /// Makes one without keys.
+    /// Returns an empty map; keys and values will be allocated by `alloc`.
     pub fn new(alloc: Global) -> KeyValues
         ensures { result ≡ finite.empty }
     {
@@ -58,7 +59,7 @@ impl KeyValues {
         }
     }
 
-    /// Returns how many keys have a value.
+    /// Returns the number of keys that have a value.
     pub fn len(&self) -> usize
         ensures { result ≡ finite.len self.now }
     {
@@ -72,7 +73,7 @@ impl KeyValues {
         self.pairs.is_empty()
     }
 
-    /// Takes all keys away.
+    /// Removes all keys, with their values.
     pub fn clear(&mut self)
         ensures { self.new ≡ finite.empty }
     {
@@ -80,7 +81,7 @@ impl KeyValues {
         self.rewritten = 0;
     }
 
-    /// Returns how many values are in files of `queue`.
+    /// Returns the number of values that are in files of `queue`.
     pub fn count_in(&self, queue: LogQueue) -> usize
         ensures { result ≡ pair_count queue self.now }
     {
@@ -90,18 +91,18 @@ impl KeyValues {
         }
     }
 
-    /// Returns the value of a key, `None` where it has none.
+    /// Returns the value of `key`, or `None` if it has none.
     pub fn get(&self, key: &[u8]) -> Option<&[u8]>
         ensures { option_map (λ v. v.now) result ≡ value_at self.now key.now }
     {
         Some(self.pairs.get(key)?.value.as_slice())
     }
 
-    /// Copies the keys that are in `set` too, in order.
+    /// Returns copies of the keys that have a value and are in `set`, in the order of their bytes.
     ///
     /// # Errors
     ///
-    /// Where there is no memory for them.
+    /// `AllocError` if there is no memory for them.
     pub fn keys_in(&self, set: &DeletedKeys) -> AllocResult<Vec<Vec<u8>>>
         ensures { IfOk result (λ keys. map (λ k. k.items) keys.items
             ≡ filter (finset.contains set.now) (finite.keys self.now)) }
@@ -109,19 +110,20 @@ impl KeyValues {
         copied_keys(self.alloc, &self.pairs, set)
     }
 
-    /// Returns the file that the value of a key is in, `None` where it has none.
+    /// Returns the file that the value of `key` is in, or `None` if it has no value.
     pub fn file_of(&self, key: &[u8]) -> Option<FileId>
         ensures { result ≡ file_at self.now key.now }
     {
         Some(self.pairs.get(key)?.file)
     }
 
-    /// Puts a value with its file under a key, and returns the file of the value that it replaces.
+    /// Gives `key` the value `value`, which is in `file`, and returns the file of the value that this
+    /// replaces, or `None` if the key had none.
     ///
     /// # Errors
     ///
-    /// Where there is no memory for it. The key values are then as they were, and the new one is
-    /// lost.
+    /// `AllocError` if there is no memory for it. The key values are unchanged then, and the new one is
+    /// dropped.
     #[inline(always)]
     pub fn insert(
         &mut self,
@@ -143,7 +145,7 @@ impl KeyValues {
         Ok(replaced)
     }
 
-    /// Takes a key away, and returns the file that its value was in; `None` where it had none.
+    /// Removes `key`, and returns the file that its value was in, or `None` if it had none.
     pub fn remove(&mut self, key: &[u8]) -> Option<FileId>
         ensures after { self.new ≡ finite.remove self.old key.now }
         ensures removed { result ≡ file_at self.old key.now }
@@ -155,8 +157,8 @@ impl KeyValues {
         Some(removed.file)
     }
 
-    /// Sets the file of a key's value, and returns the one before; `None` where the key has no
-    /// value.
+    /// Sets the file of the value of `key` to `file`, and returns the file that it was in. Returns `None`,
+    /// and changes nothing, if the key has no value.
     pub fn set_file(&mut self, key: &[u8], file: FileId) -> Option<FileId>
         ensures after { self.new ≡ with_moved self.old key.now file }
         ensures moved { result ≡ file_at self.old key.now }
@@ -172,8 +174,8 @@ impl KeyValues {
         Some(left)
     }
 
-    /// Returns the lowest number of a file of `queue` in which a value is; `None` where there is
-    /// none.
+    /// Returns the lowest number of the files of `queue` that values are in, or `None` if there is no value
+    /// in `queue`. Walks over all values.
     pub fn least_seq_in(&self, queue: LogQueue) -> Option<FileSeq>
         ensures { result ≡ least (seqs_in queue self.now) }
     {
@@ -186,12 +188,12 @@ impl KeyValues {
         least
     }
 
-    /// Appends copies of keys and values to `vec`, in the order of the keys: those whose file is of
-    /// `queue` and, with a gate, at or below it.
+    /// Appends copies of keys and values to `vec`, in the order of the keys: those whose file is in `queue`
+    /// and, with a `gate`, numbered at or below it.
     ///
     /// # Errors
     ///
-    /// Where there is no memory for them. `vec` is then as it was.
+    /// `AllocError` if there is no memory for them. `vec` is unchanged then.
     pub fn fetch(
         &self,
         queue: LogQueue,
@@ -210,9 +212,9 @@ impl KeyValues {
         pushed
     }
 
-    /// Calls `f` at the keys from `start` on and below `end` with their values, in the order of the
-    /// keys or, where `reverse`, from the last one back, until it returns false. A bound that is
-    /// `None` leaves its side open; where `start` is above `end` nothing is visited.
+    /// Calls `f` with each key that is at or above `start` and below `end`, and its value, until `f` returns
+    /// false: in the order of the keys or, if `reverse`, from the last one back. A bound that is `None`
+    /// leaves its side open. If `start` is above `end`, `f` isn't called.
     pub fn scan<F: FnMut(&[u8], &[u8]) -> bool>(
         &self,
         start: Option<&[u8]>,
@@ -238,8 +240,12 @@ impl KeyValues {
         }
     }
 
-    /// Puts the pairs of `rhs` over these, and leaves `rhs` empty. Where there is no memory for all, the first of them, in
-    /// the order of their keys, have been put, one is lost, and the others are left in `rhs`.
+    /// Puts the pairs of `rhs` over these, and leaves `rhs` empty: for a key in both, that of `rhs` stays.
+    ///
+    /// # Errors
+    ///
+    /// `AllocError` if there is no memory for all. The first pairs of `rhs`, by their keys, have then been
+    /// put, one is lost, and the others are left in `rhs`.
     pub fn absorb(&mut self, rhs: &mut KeyValues) -> AllocResult<()>
         ensures ok { OnOk result (self.new ≡ pairs_over rhs.old self.old) }
         ensures emptied { OnOk result (rhs.new ≡ finite.empty) }
@@ -257,7 +263,7 @@ impl KeyValues {
         Ok(())
     }
 
-    /// Takes the first key out with its value, `None` where there is none.
+    /// Removes the least key, by its bytes, and returns it with its value. Returns `None` from an empty map.
     fn take_first(&mut self) -> Option<(Vec<u8>, StoredValue)>
         ensures first { IfSome result (λ p. finite.entries self.old
             ≡ (p.0.items, record { value = p.1.value.items; file = p.1.file })
@@ -271,11 +277,12 @@ impl KeyValues {
     }
 }
 
-/// Pushes copies of the keys and values that `fetch` appends.
+/// Appends copies of the keys and values that [`KeyValues::fetch`] asks for to `vec`.
 ///
 /// # Errors
 ///
-/// Where there is no memory for one. Those before it have been pushed then.
+/// `AllocError` if there is no memory for one. Those before it have then been appended; `fetch` takes them
+/// off again.
 fn push_fetched(
     pairs: &BTreeMap<Vec<u8>, StoredValue>,
     queue: LogQueue,
@@ -295,11 +302,11 @@ fn push_fetched(
     Ok(())
 }
 
-/// Copies the keys that are in `set` too, in order.
+/// Returns copies of the keys of `pairs` that are in `set`, in order: the loop of [`KeyValues::keys_in`].
 ///
 /// # Errors
 ///
-/// Where there is no memory for them.
+/// `AllocError` if there is no memory for them.
 fn copied_keys(
     alloc: Global,
     pairs: &BTreeMap<Vec<u8>, StoredValue>,
@@ -317,33 +324,33 @@ fn copied_keys(
     Ok(keys)
 }
 
-/// Copies bytes.
+/// Returns a copy of `bytes`.
 ///
 /// # Errors
 ///
-/// Where there is no memory for them.
+/// `AllocError` if there is no memory for it.
 fn copied(bytes: &Vec<u8>) -> AllocResult<Vec<u8>>
     ensures { IfOk result (λ copy. copy.items ≡ bytes.now.items) }
 {
     bytes.clone()
 }
 
-/// Tests whether a file is of `queue` and, with a gate, at or below it.
+/// Tests whether `file` is in `queue` and, with a `gate`, numbered at or below it.
 fn is_up_to(file: FileId, queue: LogQueue, gate: Option<FileSeq>) -> bool
     ensures { result ≡ is_up_to queue gate file }
 {
     file.queue == queue && gate.is_none_or(|gate| file.seq <= gate)
 }
 
-/// Returns the file that a value is in, `None` without a value.
+/// Returns the file of `pair`, a value that was replaced, or `None` if there was none.
 fn file_in(pair: Option<StoredValue>) -> Option<FileId>
     ensures { result ≡ option_map (λ s. s.file) pair }
 {
     pair.map(|pair| pair.file)
 }
 
-/// Returns what a value in this file adds to the number of rewritten ones: 1 in the rewrite queue,
-/// 0 in the append queue or without a value.
+/// Returns what a value in `file` adds to the number of values in the rewrite queue: 1 if the file is in that
+/// queue, else 0, also without a file.
 fn rewritten(file: Option<FileId>) -> usize
     ensures { result ≡ file_weight LogQueue.Rewrite file }
 {

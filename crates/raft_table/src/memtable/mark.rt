@@ -12,29 +12,42 @@ use std::alloc::Global;
 use std::marker::Model;
 use std::mem;
 
-/// No older entry may stand from the first index on and below the second.
+/// Indexes at which no older entry may be: from the first one on and below the second.
 type Bars = Option<(u64, u64)>;
 
-/// What steps on a region do to every older table of it.
+/// A *region mark*: what steps on a region do to any older table of it, told by a few numbers and the deleted
+/// keys.
+///
+/// With it a table that was made of the later steps alone, its *own* table, is put over the table of the
+/// steps before them, as if all had been read in one go.
 #[derive(Debug, Drop)]
 pub struct Mark {
     bounds: Bounds,
     deleted: DeletedKeys,
 }
 
+/// A region mark without its deleted keys. Its fields are those of `Mark` in `specs/Marks.antt`.
 #[derive(Debug, Clone, Copy, Default)]
 struct Bounds {
+    /// Whether the region was cleaned.
     cleaned: bool,
+    /// Where the first run starts, if there was one. Steps after a clean don't count here.
     reach: Option<u64>,
+    /// The greatest compaction before that run.
     reach_floor: u64,
+    /// The least truncation before that run, if there was one.
     reach_cut: Option<u64>,
+    /// Over an older entry from the first of these indexes on and below the second, the steps are refused.
     barred: Option<(u64, u64)>,
+    /// Older entries below this index go.
     floor: u64,
+    /// Older entries from this index on go, if a run or a truncation came.
     cut: Option<u64>,
 }
 
 impl Bounds {
-    /// Returns the bounds of one step.
+    /// Returns the bounds of one `step`. For a step on key values or an atomic group they are those of no
+    /// step.
     fn of_step(step: &Step) -> Bounds
         ensures { with_bounds result ≡ record (mark_of (step_shown step.now))
             { deleted = finset.empty } }
@@ -60,7 +73,8 @@ impl Bounds {
         }
     }
 
-    /// Returns the bounds of a run that starts at `start`.
+    /// Returns the bounds of a run that starts at index `start`: older entries from there on go, and must
+    /// reach it.
     fn of_start(start: u64) -> Bounds
         ensures { with_bounds result ≡ record fresh { reach = Some start; cut = Some start } }
     {
@@ -86,7 +100,7 @@ impl Model for Mark {
 }
 
 impl Mark {
-    /// Makes the region mark of no step.
+    /// Returns the region mark of no step, which leaves older tables as they are.
     pub fn new(alloc: Global) -> Mark
         ensures { result ≡ fresh }
     {
@@ -96,7 +110,7 @@ impl Mark {
         }
     }
 
-    /// Returns the region mark of a run that starts at `start`.
+    /// Returns the region mark of a run that starts at index `start`.
     pub fn of_run(alloc: Global, start: u64) -> Mark
         ensures { result ≡ record fresh { reach = Some start; cut = Some start } }
     {
@@ -106,58 +120,63 @@ impl Mark {
         }
     }
 
-    /// Tests whether the region was cleaned.
+    /// Tests whether the steps cleaned the region, so that nothing of an older table stays.
     pub fn is_cleaned(&self) -> bool
         ensures { result ≡ self.now.cleaned }
     {
         self.bounds.cleaned
     }
 
-    /// Returns the greatest compaction before the first run.
+    /// Returns the greatest index of the compactions before the first run, or 0: older entries below it don't
+    /// count when that run looks for the end of the entries.
     pub fn reach_floor(&self) -> u64
         ensures { result ≡ self.now.reach_floor }
     {
         self.bounds.reach_floor
     }
 
-    /// Returns the least truncation before the first run; none without a run, or without such a
-    /// truncation.
+    /// Returns the least index of the truncations before the first run, or `None` if there is no such
+    /// truncation or no run: older entries from it on don't count when that run looks for the end of the
+    /// entries.
     pub fn reach_cut(&self) -> Option<u64>
         ensures { result ≡ self.now.reach_cut }
     {
         self.bounds.reach_cut
     }
 
-    /// Returns where no older entry may stand, if anywhere: from the first of these indexes on and
-    /// below the second. Over one the steps are refused, in the append queue alone.
+    /// Returns the indexes at which an older table may have no entry, from the first one up to, not including,
+    /// the second; or `None` if there are none. In the append queue the steps are refused over an older table
+    /// that has an entry there.
     pub fn barred(&self) -> Option<(u64, u64)>
         ensures { result ≡ self.now.barred }
     {
         self.bounds.barred
     }
 
-    /// Returns the start of the first run, if there was one.
+    /// Returns the index where the first run starts, or `None` if there was no run before the region was
+    /// cleaned.
     pub fn reach(&self) -> Option<u64>
         ensures { result ≡ self.now.reach }
     {
         self.bounds.reach
     }
 
-    /// Returns where older entries begin that stay.
+    /// Returns the index below which older entries go; 0 if none do.
     pub fn floor(&self) -> u64
         ensures { result ≡ self.now.floor }
     {
         self.bounds.floor
     }
 
-    /// Returns the index that the older entries stay below, if a run or a truncation came.
+    /// Returns the index from which on older entries go, or `None` if neither a run nor a truncation came.
     pub fn cut(&self) -> Option<u64>
         ensures { result ≡ self.now.cut }
     {
         self.bounds.cut
     }
 
-    /// Returns the deleted keys.
+    /// Returns the keys whose older values go: those that were deleted. After a clean everything older goes
+    /// anyway.
     #[doc(hidden)]
     pub fn deleted(&self) -> &DeletedKeys
         ensures { result.now ≡ self.now.deleted }
@@ -165,20 +184,23 @@ impl Mark {
         &self.deleted
     }
 
-    /// Tests whether the first run leaves a hole after entries that end at `end`.
+    /// Tests whether the first run leaves a hole after older entries that end before index `end`. False
+    /// without a run, and if `end` is 0, that is without older entries.
     pub fn misses(&self, end: u64) -> bool
         ensures { result ≡ misses self.now.reach end }
     {
         misses(self.bounds.reach, end)
     }
 
-    /// Joins the region mark of newer steps, whose first run meets own entries that end at
-    /// `end_at_reach`. `newer` keeps its bounds and gives its deleted keys away.
+    /// Joins the region mark of newer steps to this one, so that this one stands for the steps of both.
+    /// `end_at_reach` is the end of the own entries that the first newer run meets
+    /// ([`MemTable::end_at_reach`]). `newer` keeps its bounds, and may lose its deleted keys to this one.
     ///
     /// # Errors
     ///
-    /// Where there is no memory for the newer deleted keys. Bounds and cleans are then as they were, and the
-    /// deleted keys are divided between both region marks, but for one that is lost: neither serves on.
+    /// `AllocError` if there is no memory for the newer deleted keys. The bounds of both are unchanged then,
+    /// but the deleted keys are divided between both, and one is lost: neither region mark may be used after
+    /// that.
     #[tactic(auto, using(crate::proofs::StepMarkLemmas::bounds_joined))]
     pub fn join(&mut self, queue: LogQueue, end_at_reach: u64, newer: &mut Mark) -> AllocResult<()>
         ensures ok { OnOk result (self.new ≡ joined_at queue end_at_reach self.old newer.old) }
@@ -193,7 +215,8 @@ impl Mark {
         Ok(())
     }
 
-    /// Joins the region mark of a run that starts at `start`, where the own entries end at `end`.
+    /// Joins the region mark of one newer run, which starts at index `start`. `end` is the end of the own
+    /// entries before that run, 0 if there are none.
     pub fn add_run(&mut self, queue: LogQueue, end: u64, start: u64)
         ensures { self.new
             ≡ joined_at queue end self.old (record fresh { reach = Some start; cut = Some start }) }
@@ -204,12 +227,12 @@ impl Mark {
         self.join_bounds(queue, end, Bounds::of_start(start));
     }
 
-    /// Joins the region mark of a step. Where the step is a run, the own entries in front of it end at `end`.
-    /// A deleted key is copied.
+    /// Joins the region mark of one newer step. If it is a run, `end` is the end of the own entries before
+    /// it, 0 if there are none. The key of a deletion is copied.
     ///
     /// # Errors
     ///
-    /// Where there is no memory for a deleted key. The region mark is then as it was.
+    /// `AllocError` if there is no memory for that copy. The region mark is unchanged then.
     #[tactic(auto, using(crate::proofs::StepMarkLemmas::bounds_joined))]
     pub fn add_step(&mut self, queue: LogQueue, end: u64, step: &Step) -> AllocResult<()>
         ensures ok { OnOk result (self.new
@@ -224,12 +247,12 @@ impl Mark {
         Ok(())
     }
 
-    /// Joins the deleted keys of a step: adds a copy of the key of a deletion, and forgets all keys
-    /// after a clean.
+    /// Joins what `step`, a newer one, does to the deleted keys: adds a copy of the key of a deletion, and
+    /// forgets all keys for a clean, after which nothing older stays anyway.
     ///
     /// # Errors
     ///
-    /// Where there is no memory for the copy. The region mark is then as it was.
+    /// `AllocError` if there is no memory for the copy. The region mark is unchanged then.
     #[tactic(auto, using(crate::proofs::MarkExact::union_empty, crate::proofs::MarkExact::union_one))]
     fn delete_keys(&mut self, step: &Step) -> AllocResult<()>
         ensures ok { OnOk result (self.new ≡ record self.old
@@ -246,9 +269,9 @@ impl Mark {
         }
     }
 
-    /// Tests whether it is plain that a run from `start` on changes nothing, where the own entries
-    /// end at `end`: a run came before, this one starts at or above the cut, and it meets own
-    /// entries without a hole. `false` says nothing of it.
+    /// Tests whether it is plain that a newer run from index `start` on leaves the region mark as it is, if
+    /// own entries end at `end`: a run came before, this one starts at or above the cut, and own entries
+    /// reach its start. `false` says nothing. It spares [`Mark::add_run`] the work for most runs.
     fn covers(&self, end: u64, start: u64) -> bool
         ensures { MatchBool result ((queue : LogQueue) → joined_at queue end self.now
             (record fresh { reach = Some start; cut = Some start }) ≡ self.now) (Unit {0}) }
@@ -262,16 +285,16 @@ impl Mark {
         0 < end
     }
 
-    /// Tests whether newer steps leave the region mark as it is: after a clean, or where there is a
-    /// run and no cut, which no steps give.
+    /// Tests whether newer steps leave the region mark as it is: they do once the region is cleaned. (They do
+    /// too if there is a run but no cut, but no steps give such a mark.)
     fn is_settled(&self) -> bool
         ensures { result ≡ is_settled self.now }
     {
         self.bounds.cleaned || self.bounds.reach.is_some() && self.bounds.cut.is_none()
     }
 
-    /// Joins the bounds of newer steps, whose first run meets own entries that end at `end`. The
-    /// deleted keys stay.
+    /// Joins the bounds of newer steps, whose first run meets own entries that end at `end`. The deleted keys
+    /// are left to the caller.
     #[inline(always)]
     fn join_bounds(&mut self, queue: LogQueue, end: u64, newer: Bounds)
         ensures { self.new ≡ record (joined_at queue end self.old (with_bounds newer))
@@ -306,13 +329,13 @@ impl Mark {
         self.bounds.cleaned = newer.cleaned;
     }
 
-    /// Joins the deleted keys of newer steps, which are moved out of `newer`. Where those cleaned
-    /// the region, they alone are left.
+    /// Joins the deleted keys of newer steps, which are moved out of `newer`. If the newer steps cleaned the
+    /// region, their deleted keys replace the older ones.
     ///
     /// # Errors
     ///
-    /// Where there is no memory for them. The deleted keys are then divided between both, but for
-    /// one that is lost.
+    /// `AllocError` if there is no memory for them. The deleted keys are then divided between both, and one
+    /// is lost.
     fn join_deleted(&mut self, newer: &mut Mark) -> AllocResult<()>
         ensures err { OnErr result (self.new ≡ record self.old { deleted = self.new.deleted }) }
         ensures ok { OnOk result (self.new ≡ record self.old
@@ -327,15 +350,16 @@ impl Mark {
     }
 }
 
-/// Tests whether a run from `reach` on leaves a hole after entries that end at `end`. It is false
-/// without a run, and without entries, where `end` is 0.
+/// Tests whether a run from index `reach` on leaves a hole after entries that end before index `end`. False
+/// without a run, and if `end` is 0, that is without entries.
 fn misses(reach: Option<u64>, end: u64) -> bool
     ensures { result ≡ misses reach end }
 {
     reach.is_some_and(|start| end > 0 && end < start)
 }
 
-/// Narrows bars to the older entries that stay: those from `floor` on and, with a cut, below it.
+/// Returns what is left of `barred` indexes of newer steps over the entries that older steps leave: from
+/// `floor` on and, with a `cut`, below it.
 fn narrowed(floor: u64, cut: Option<u64>, barred: Bars) -> Bars
     ensures { result ≡ narrowed_bars floor cut barred }
 {
@@ -343,23 +367,25 @@ fn narrowed(floor: u64, cut: Option<u64>, barred: Bars) -> Bars
     Some((floor.max(from), capped(below, cut)))
 }
 
-/// Tests whether a first run meets no own entries, as `end` is 0, and starts above `bound`.
+/// Tests whether a newer first run, from `reach` on, meets no own entries (`end` is 0) and starts above
+/// `bound`, below which still older entries stay. Any such entry would then leave a hole.
 fn is_detached(reach: Option<u64>, end: u64, bound: u64) -> bool
     ensures { result ≡ is_detached reach end bound }
 {
     reach.is_some_and(|start| end == 0 && bound < start)
 }
 
-/// Tests whether, in the rewrite queue, a first run drops all that stands below it: it leaves a
-/// hole after the own entries, or meets none and starts above `bound`.
+/// Tests whether, in the rewrite queue, a newer first run drops all entries below it: it leaves a hole after
+/// the own entries, which end at `end`, or meets none of them and starts above `bound`.
 fn drops_below(reach: Option<u64>, end: u64, bound: u64) -> bool
     ensures { result ≡ is_detached reach end bound || misses reach end }
 {
     is_detached(reach, end, bound) || misses(reach, end)
 }
 
-/// Returns the bars of joined steps: the older ones, but in the append queue, where there are none,
-/// the indexes `met` if the newer run is detached, and else the newer bars.
+/// Returns the barred indexes of joined steps. In the append queue they are those of the `older` steps; if
+/// there are none, the indexes `met` if the newer first run is `detached`, and else the `newer` ones. In the
+/// rewrite queue, which refuses no hole, they are the older ones.
 fn joined_bars(queue: LogQueue, detached: bool, older: Bars, met: (u64, u64), newer: Bars) -> Bars
     ensures { result ≡ joined_barred queue detached older met newer }
 {
@@ -369,8 +395,8 @@ fn joined_bars(queue: LogQueue, detached: bool, older: Bars, met: (u64, u64), ne
     }
 }
 
-/// Returns the floor of joined steps: `floor`, and in the rewrite queue, where the run dropped what
-/// stands below it, at least `cut`.
+/// Returns the floor of joined steps: `floor`, the greater one of both. In the rewrite queue, if a newer run
+/// `dropped` what is below it, it is at least `cut`, so that no older entry stays.
 fn joined_floor(queue: LogQueue, dropped: bool, floor: u64, cut: u64) -> u64
     ensures { result ≡ joined_floor queue dropped floor cut }
 {
@@ -380,7 +406,7 @@ fn joined_floor(queue: LogQueue, dropped: bool, floor: u64, cut: u64) -> u64
     }
 }
 
-/// Returns the lesser of two bounds, or the one that there is; `None` where there is none.
+/// Returns the lesser of the bounds `a` and `b`, the one that there is, or `None`.
 pub(super) fn lesser(a: Option<u64>, b: Option<u64>) -> Option<u64>
     ensures { result ≡ lesser a b }
 {
@@ -390,7 +416,7 @@ pub(super) fn lesser(a: Option<u64>, b: Option<u64>) -> Option<u64>
     }
 }
 
-/// Returns the bound, or the other one where that is less.
+/// Returns `bound`, or `other` if there is one and it is less.
 pub(super) fn capped(bound: u64, other: Option<u64>) -> u64
     ensures { result ≡ at_most_bound bound other }
 {

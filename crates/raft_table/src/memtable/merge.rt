@@ -11,16 +11,17 @@ use crate::memtable::key_values::KeyValues;
 use raft_base::{Error, LogQueue, Result};
 
 impl MemTable {
-    /// Moves the records of the newer table `rhs` of the same region, which the counts don't hold,
-    /// into this one: its run by the start rule of the replays into its queue, then its pairs over
-    /// the own ones, and its atomic group, if it has one, in place of the own. `rhs` is left empty.
+    /// Moves the records of the newer table `rhs` of the same region, which aren't counted yet, into this
+    /// one, counts them, and leaves `rhs` empty. The run of `rhs` is put as a replay into its queue puts it
+    /// ([`MemTable::replay_append`], [`MemTable::replay_rewrite`]), its pairs over these, and its atomic
+    /// group, if it has one, in place of this table's.
     ///
     /// # Errors
     ///
-    /// `InvalidArgument` where the two tables have records in both queues, `Corruption` where the
-    /// run leaves a hole in the append queue, `Full` where the live count of a queue and the
-    /// records of `rhs` there would pass 2^64 - 1. Both tables and the counts are then as they
-    /// were; after `Memory` the counts still agree with this table.
+    /// `InvalidArgument` if the two tables have records in both queues; `Corruption` if the run leaves a hole
+    /// in the append queue; `Full` if more than 2^64 - 1 records would be live in a queue, with those of
+    /// `rhs` beside all that are counted. Both tables and the counts are unchanged then. After `Memory` both
+    /// tables may have changed, and the counts still agree with this one.
     pub fn merge_newer_neighbor(
         &mut self,
         rhs: &mut MemTable,
@@ -55,16 +56,16 @@ impl MemTable {
         Ok(())
     }
 
-    /// Moves the records of `rhs`, an appended table of the same region, which the counts don't
-    /// hold, into this rewritten one: its run by the start rule of `replay_append`, but a hole drops
-    /// the old entries, then its pairs over the own ones. `rhs` is left empty.
+    /// Moves the records of `rhs`, an appended table of the same region whose records aren't counted yet,
+    /// into this rewritten one, counts them, and leaves `rhs` empty. Entries below the run of `rhs` stay if
+    /// they reach its start, and else go; the pairs of `rhs` are put over these.
     ///
     /// # Errors
     ///
-    /// `InvalidArgument` where this table isn't rewritten alone, or `rhs` isn't appended alone or
-    /// has an atomic group; `Full` where the live count of a queue and the records of `rhs` there
-    /// would pass 2^64 - 1. Both tables and the counts are then as they were; after `Memory` the
-    /// counts still agree with this table.
+    /// `InvalidArgument` if this table has records in the append queue, or `rhs` has some in the rewrite
+    /// queue or an atomic group; `Full` if more than 2^64 - 1 records would be live in a queue, with those of
+    /// `rhs` beside all that are counted. Both tables and the counts are unchanged then. After `Memory` both
+    /// tables may have changed, and the counts still agree with this one.
     pub fn merge_append_table(&mut self, rhs: &mut MemTable, stats: &mut GlobalStats) -> Result<()>
         requires region { self.old.region_id ≡ rhs.old.region_id }
         requires counted { IsCounted self.old stats.old }
@@ -93,8 +94,8 @@ impl MemTable {
         self.merge_by_rule(rule, rhs, LogQueue::Append, stats)
     }
 
-    /// Returns the queue that has all records of both tables, the append queue where there are
-    /// none; `None` where both queues have some.
+    /// Returns the queue that all records of this table and of `rhs` are in, the append queue if there are
+    /// none, or `None` if both queues have some.
     fn joint_queue(&self, rhs: &MemTable) -> Option<LogQueue>
         ensures { result ≡ joint_queue self.now rhs.now }
     {
@@ -107,8 +108,9 @@ impl MemTable {
         Some(LogQueue::Append)
     }
 
-    /// Returns the queue whose start rule holds for an appended table over this rewritten one;
-    /// `None` where this one has appended records, or `rhs` has rewritten ones or an atomic group.
+    /// Returns the queue whose start rule holds when the appended table `rhs` is merged into this rewritten
+    /// one: the rewrite queue's, by which a hole drops the old entries. Returns `None` if this table has
+    /// appended records, or `rhs` has rewritten ones or an atomic group.
     fn append_rule(&self, rhs: &MemTable) -> Option<LogQueue>
         ensures { result ≡ append_rule self.now rhs.now }
     {
@@ -121,13 +123,15 @@ impl MemTable {
         Some(LogQueue::Rewrite)
     }
 
-    /// Moves the entries of `rhs`, by the start rule of the queue `rule`, and its pairs into this
-    /// table, and counts them. The records of `rhs` are all in `queue`, and weren't counted.
+    /// Moves the entries of `rhs` into this table, by the start rule of the queue `rule`, and its pairs over
+    /// these, and counts them. The records of `rhs` are all in `queue`, and not counted yet. Its atomic group
+    /// is left to the caller.
     ///
     /// # Errors
     ///
-    /// `Corruption` where the entries leave a hole that the rule refuses. Both tables and the
-    /// counts are then as they were; after `Memory` the counts still agree with this table.
+    /// `Corruption` if the entries leave a hole and `rule` is the append queue. Both tables and the counts
+    /// are unchanged then. After `Memory` both tables may have changed, and the counts still agree with this
+    /// one.
     pub(super) fn merge_by_rule(
         &mut self,
         rule: LogQueue,
@@ -157,12 +161,13 @@ impl MemTable {
     }
 }
 
-/// Puts the pairs of `newer`, which weren't counted, over these, and counts the change.
+/// Puts the pairs of `newer`, which aren't counted yet, over `keys`, and counts the change. Leaves `newer`
+/// empty.
 ///
 /// # Errors
 ///
-/// `Memory`. Some of the pairs have then been put and counted, one is lost, and the others are left
-/// in `newer`.
+/// `Memory` alone. Some of the pairs have then been put and counted, one is lost, and the others are left in
+/// `newer`.
 fn absorb_keys(keys: &mut KeyValues, newer: &mut KeyValues, stats: &mut GlobalStats) -> Result<()>
     requires room { (q : LogQueue) → live q stats.old + pair_count q newer.old < 2 ^ 64 }
     requires counted { (q : LogQueue) → pair_count q keys.old ≤ live q stats.old }
@@ -182,7 +187,7 @@ fn absorb_keys(keys: &mut KeyValues, newer: &mut KeyValues, stats: &mut GlobalSt
     Ok(())
 }
 
-/// Counts the pairs of `queue` as they are now, in place of the `before` ones that were counted.
+/// Counts the pairs that `keys` has in `queue` now, in place of the `before` ones that were counted.
 fn recount(stats: &mut GlobalStats, queue: LogQueue, before: usize, keys: &KeyValues)
     requires counted { before ≤ live queue stats.old }
     requires room { live queue stats.old + pair_count queue keys.now < 2 ^ 64 + before }

@@ -13,36 +13,36 @@ use crate::memtable::mark::{Mark, lesser};
 use raft_base::{AllocResult, EntryIndex, Error, FileId, FileSeq, LogQueue, Result};
 
 impl MemTable {
-    /// Returns how many blocks the entries are kept in.
+    /// Returns the number of blocks that the entries are kept in.
     pub fn block_count(&self) -> usize
         ensures { result ≡ block_count self.now.entries }
     {
         self.entries.blocks().len()
     }
 
-    /// Returns how many entries there are.
+    /// Returns the number of entries, whichever queue their places are in.
     pub fn entries_count(&self) -> usize
         ensures { result ≡ length self.now.entries }
     {
         self.entries.len()
     }
 
-    /// Returns how many keys have a value.
+    /// Returns the number of keys that have a value.
     pub fn key_count(&self) -> usize
         ensures { result ≡ finite.len self.now.keys }
     {
         self.keys.len()
     }
 
-    /// Appends the entries from `begin` on and below `end`, in order, to `vec`. With a maximal size
-    /// it stops before the first one with which the total of lengths passes that size and exceeds
-    /// the entry's own length.
+    /// Appends the entries at the indexes `begin..end` to `vec`, in order. With a `max_size`, in bytes, it
+    /// stops before the first entry with which the sum of their lengths passes that size and exceeds the
+    /// entry's own length: so the first entry of a range always comes.
     ///
     /// # Errors
     ///
-    /// Where the range isn't empty: `EntryNotFound` without entries, `EntryCompacted` where it
-    /// begins below the first entry, `EntryNotFound` where `end` is above the end of the entries; else
-    /// `Memory` alone. The vector is then as it was.
+    /// If the range isn't empty: `EntryNotFound` without entries, `EntryCompacted` if `begin` is below the
+    /// first entry, `EntryNotFound` if `end` is above the end of the entries; otherwise `Memory` alone. `vec`
+    /// is unchanged then.
     pub fn fetch_entries_to(
         &self,
         begin: u64,
@@ -58,11 +58,12 @@ impl MemTable {
         self.entries.fetch_to(begin, end, max_size, vec)
     }
 
-    /// Appends the appended entries from the first on while their file is at or below `gate` to `vec`.
+    /// Appends entries whose place is in the append queue to `vec`: from the first such entry on, as long as
+    /// their files are numbered at or below `gate`.
     ///
     /// # Errors
     ///
-    /// `Memory`. The vector is then as it was.
+    /// `Memory` alone. `vec` is unchanged then.
     pub fn fetch_entry_indexes_before(&self, gate: FileSeq, vec: &mut Vec<EntryIndex>) -> Result<()>
         ensures ok { OnOk result (vec.new.items
             ≡ vec.old.items ++ appended_before gate self.now.entries) }
@@ -72,11 +73,11 @@ impl MemTable {
         self.entries.fetch_before(gate, vec)
     }
 
-    /// Appends the rewritten entries to `vec`.
+    /// Appends the entries whose place is in the rewrite queue to `vec`.
     ///
     /// # Errors
     ///
-    /// `Memory`. The vector is then as it was.
+    /// `Memory` alone. `vec` is unchanged then.
     pub fn fetch_rewritten_entry_indexes(&self, vec: &mut Vec<EntryIndex>) -> Result<()>
         ensures ok { OnOk result (vec.new.items
             ≡ vec.old.items ++ placed_in Rewrite self.now.entries) }
@@ -86,12 +87,12 @@ impl MemTable {
         self.entries.fetch_rewritten(vec)
     }
 
-    /// Appends the keys and values of the appended pairs whose file is at or below `gate` to `vec`, in
-    /// the order of the keys.
+    /// Appends copies of the keys and values whose file is in the append queue and numbered at or below
+    /// `gate` to `vec`, in the order of the keys.
     ///
     /// # Errors
     ///
-    /// `Memory`. The vector is then as it was.
+    /// `Memory` alone. `vec` is unchanged then.
     pub fn fetch_kvs_before(&self, gate: FileSeq, vec: &mut Vec<(Vec<u8>, Vec<u8>)>) -> Result<()>
         ensures ok { OnOk result (pairs_shown vec.new.items
             ≡ pairs_shown vec.old.items ++ pairs_up_to Append (Some gate) self.now.keys) }
@@ -102,11 +103,12 @@ impl MemTable {
         Ok(())
     }
 
-    /// Appends the keys and values of the rewritten pairs to `vec`, in the order of the keys.
+    /// Appends copies of the keys and values whose file is in the rewrite queue to `vec`, in the order of the
+    /// keys.
     ///
     /// # Errors
     ///
-    /// `Memory`. The vector is then as it was.
+    /// `Memory` alone. `vec` is unchanged then.
     pub fn fetch_rewritten_kvs(&self, vec: &mut Vec<(Vec<u8>, Vec<u8>)>) -> Result<()>
         ensures ok { OnOk result (pairs_shown vec.new.items
             ≡ pairs_shown vec.old.items ++ pairs_up_to Rewrite None self.now.keys) }
@@ -117,11 +119,11 @@ impl MemTable {
         Ok(())
     }
 
-    /// Copies the keys with a value that a region mark deletes, in order.
+    /// Returns copies of the keys of this table that `mark` deletes, in the order of their bytes.
     ///
     /// # Errors
     ///
-    /// Where there is no memory for them.
+    /// `AllocError` if there is no memory for them.
     #[doc(hidden)]
     pub fn keys_deleted_by(&self, mark: &Mark) -> AllocResult<Vec<Vec<u8>>>
         ensures { IfOk result (λ keys. map (λ k. k.items) keys.items
@@ -130,9 +132,9 @@ impl MemTable {
         self.keys.keys_in(mark.deleted())
     }
 
-    /// Calls `f` at the keys from `start` on and below `end` with their values, in the order of the
-    /// keys or, where `reverse`, from the last one back, until it returns false. A bound that is `None`
-    /// leaves its side open; where `start` is above `end` nothing is visited. It is always `Ok`.
+    /// Calls `f` with each key that is at or above `start` and below `end`, and its value, until `f` returns
+    /// false: in the order of the keys or, if `reverse`, from the last one back. A bound that is `None`
+    /// leaves its side open. If `start` is above `end`, `f` isn't called. It always returns `Ok`.
     pub fn scan<F: FnMut(&[u8], &[u8]) -> bool>(
         &self,
         start: Option<&[u8]>,
@@ -150,14 +152,14 @@ impl MemTable {
         Ok(())
     }
 
-    /// Returns the least of the file of the first entry in `queue` and the files of the pairs in it.
-    /// In the rewrite queue one at or below the last file of the region's atomic group is lowered to
-    /// at most the group's first.
+    /// Returns the lower one of two file numbers: that of the first entry in `queue`, and the lowest one of a
+    /// key value in `queue`. In the rewrite queue, one at or below the last file of the region's atomic group
+    /// is lowered to at most the group's first file. Returns `None` if the table has no record in `queue`.
     ///
-    /// No record of a recovered table is in a file below it. In a table that is kept, that holds
-    /// where the files of the entries in the queue don't fall from one index to the next. They fall
-    /// where rewritten entries are rewritten again from the first on, but not up to the last one: the
-    /// others lie in older files. So these are rewritten all at once, in one batch or one whole group.
+    /// No record of a recovered table is in a file below it. In a table that is kept, that holds as long as
+    /// the files of the entries in the queue don't fall from one index to the next. They fall if rewritten
+    /// entries are rewritten again from the first one on, but not up to the last one: the others are in older
+    /// files. So these are rewritten all at once, in one batch or one whole group.
     pub fn min_file_seq(&self, queue: LogQueue) -> Option<FileSeq>
         ensures { result ≡ least_of queue self.now }
     {
@@ -171,8 +173,8 @@ impl MemTable {
         }
     }
 
-    /// Tests whether there are `count` entries, and the file number of the last of them is at or
-    /// below the gate's, whatever its queue.
+    /// Tests whether there are at least `count` entries, and the file number of the one at position `count -
+    /// 1` is at or below that of `gate`, whatever its queue. `count` is at least 1.
     pub fn has_at_least_some_entries_before(&self, gate: FileId, count: usize) -> bool
         requires { 0 < count }
         ensures { result
@@ -184,8 +186,8 @@ impl MemTable {
     }
 }
 
-/// Lowers a file number that is at or below the last file of an atomic group to at most the group's
-/// first.
+/// Lowers `seq` to at most the first file of `atomic_group` if it is at or below the group's last file.
+/// Returns `None` if `seq` is `None`.
 fn lowered(atomic_group: Option<(FileSeq, FileSeq)>, seq: Option<FileSeq>) -> Option<FileSeq>
     ensures { result ≡ at_most_group_seq atomic_group seq }
 {
@@ -195,8 +197,8 @@ fn lowered(atomic_group: Option<(FileSeq, FileSeq)>, seq: Option<FileSeq>) -> Op
     }
 }
 
-/// States that a run is refused as `Full` only where the live count of its queue and the run's
-/// length together pass 2^64 - 1.
+/// States that a run is refused with `Full` only if the live count of its queue and the length of the run
+/// together pass 2^64 - 1.
 #[tactic(auto, using(crate::proofs::RunCounts::append_full, crate::proofs::RunCounts::replay_full))]
 pub fn full_runs_pass_the_limit()
     ensures append { (q : LogQueue) (counts : Counts) (es run : List EntryIndex)
@@ -207,8 +209,8 @@ pub fn full_runs_pass_the_limit()
         → 2 ^ 64 ≤ live q counts + length run }
 {}
 
-/// States that a table has as many entries as its end is above its first index, and in both queues
-/// together as many records as entries and key values.
+/// States that a table has as many entries as its end is above its first index. Each entry is in one of both
+/// queues, and the records in both queues together are all entries and key values.
 #[tactic(auto, using(crate::proofs::SizeLemmas::length_by_ends, crate::proofs::SizeLemmas::entries_of_both, crate::proofs::SizeLemmas::records_of_both))]
 pub fn tables_add_up()
     ensures length { (es : List EntryIndex) → AreTableEntries es → 0 < length es →
@@ -219,9 +221,10 @@ pub fn tables_add_up()
         → live_of Append t + live_of Rewrite t ≡ length t.entries + finite.len t.keys }
 {}
 
-/// States that a range that is found has every index from its begin to below its end once, in
-/// order. Without a limit a fetch returns all of it. With one it returns the first entry, and then
-/// as many as have lengths of at most the limit together, but for entries in front without bytes.
+/// States what a fetch returns. A range that is found has every index from its begin to below its end once,
+/// in order. Without a limit a fetch returns all of it. With a limit it returns the first entry, and then as
+/// many as have at most that many bytes together; only entries without bytes may come before one that passes
+/// the limit alone. A limit leaves one answer.
 #[tactic(auto, using(crate::proofs::SizeLemmas::between_by_index, crate::proofs::SizeLemmas::found_is_whole, crate::proofs::SizeLemmas::unlimited_is_all, crate::proofs::SizeLemmas::first_is_fetched, crate::proofs::SizeLemmas::limit_is_kept, crate::proofs::SizeLemmas::one_limit_count))]
 pub fn fetches_answer_ranges()
     ensures between { (begin end i : ℕ) (es : List EntryIndex)
@@ -241,8 +244,8 @@ pub fn fetches_answer_ranges()
         → IsLimitCount limit es n → m ≡ n }
 {}
 
-/// States that a scan visits exactly the pairs whose key is at or above the first bound and below
-/// the second, in the order of the keys, or in the reversed order.
+/// States that a scan visits exactly the pairs whose key is at or above the first bound and below the second,
+/// in the order of the keys, or in the reversed order.
 #[tactic(auto, using(crate::proofs::SizeLemmas::visited_are_pairs, crate::proofs::SizeLemmas::pairs_are_visited, crate::proofs::SizeLemmas::visits_rise))]
 pub fn scans_visit_pairs()
     ensures visited { (start end : Option (List ℕ)) (keys : Keys) →
@@ -258,7 +261,8 @@ pub fn scans_visit_pairs()
         → pairs_between start end true keys ≡ reverse (pairs_between start end false keys) }
 {}
 
-/// States that the least of some numbers is one of them, and none of them is below it.
+/// States that the least of some numbers is one of them, and none of them is below it. There is none only
+/// without numbers.
 pub fn least_is_lowest()
     ensures none { (ns : List ℕ) → least ns ≡ None → ns ≡ [] }
     ensures found { (ns : List ℕ) (n : ℕ) → least ns ≡ Some n → Contains ns n }

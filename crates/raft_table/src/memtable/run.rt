@@ -21,7 +21,7 @@ pub enum Run<'a> {
 }
 
 impl Run<'_> {
-    /// Returns the index of the first entry, `None` without entries.
+    /// Returns the index of the first entry, or `None` without entries.
     pub(crate) fn first_index(&self) -> Option<u64>
         ensures { MatchOption result (run_shown self.now ≡ [])
             (λ i. (i ≡ start_of (run_shown self.now)) × (0 < length (run_shown self.now))) }
@@ -32,7 +32,7 @@ impl Run<'_> {
         }
     }
 
-    /// Returns how many entries there are.
+    /// Returns the number of entries in the run.
     pub(crate) fn len(&self) -> usize
         ensures { result ≡ length (run_shown self.now) }
     {
@@ -43,9 +43,10 @@ impl Run<'_> {
     }
 }
 
-/// States that a region mark and an own table stand for the steps on a region: those of one step for it;
-/// those of two neighbors, joined, for the steps of both, or one reading refuses where the join does; and
-/// the own table is what one reading of the steps gives.
+/// States that a region mark and an own table stand for steps on a region. Those of one step stand for it.
+/// Those of two neighbors, joined, stand for the steps of both. Where the join is refused, reading the steps
+/// of both in order is refused too. The own table is what reading the steps alone gives. The deleted keys of
+/// a mark are those that its steps delete, or none after a clean.
 pub fn marks_stand_for_steps()
     ensures one { (q : LogQueue) (id : ℕ) (s : Step) → IsStep s →
         Stands q id (mark_of s) (own_of id s) (s ∷ []) }
@@ -65,8 +66,9 @@ pub fn marks_stand_for_steps()
         → finset.len m.deleted ≤ finset.len (deleted_of finset.empty ss) }
 {}
 
-/// States that in the append queue a region mark that stands for steps holds what an overlay reads of
-/// them, so the overlay by the region mark is that by the steps, and its entries are a run.
+/// States that in the append queue a region mark holds what an overlay has to know of its steps: of one step,
+/// and of two neighbors, joined. So the overlay by the region mark is the one by the steps, and its entries
+/// are one run.
 pub fn overlays_by_marks()
     ensures one { (s : Step) → IsExactMark (mark_of s) (s ∷ []) }
     ensures joins { (id : ℕ) (m n : Mark) (t : Option Table) (ss rs : List Step) →
@@ -79,8 +81,9 @@ pub fn overlays_by_marks()
         → IsRun (overlay_under m (table_of id a) r).entries }
 {}
 
-/// States that where nothing truncates or cleans, the rewritten entries below the least start of a run
-/// stay exactly where they reach it: the appended ones begin there, or no rewritten one stays.
+/// States which rewritten entries stay in an overlay if no step truncates or cleans: of those that aren't
+/// compacted, all if there is no run, else those below the least start of a run, but only if they reach that
+/// start.
 pub fn overlays_reach_without_truncations()
     ensures { (id : ℕ) (ss : List Step) (appended : Option Table) (es : List EntryIndex) →
         AreSteps ss

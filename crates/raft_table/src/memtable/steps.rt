@@ -10,13 +10,13 @@ use crate::step::Step;
 use raft_base::{Error, FileId, LogQueue, Result};
 
 impl MemTable {
-    /// Does a step that is read again, any but a [`Step::Clean`], which leaves no table.
+    /// Takes in a step that was read from `queue`, other than [`Step::Clean`], which leaves no table.
     ///
     /// # Errors
     ///
-    /// For a run those of [`MemTable::replay_append`] or [`MemTable::replay_rewrite`], and
-    /// `InvalidArgument` where the table has records of the other queue; for a put those of
-    /// [`MemTable::put`]. The table and the counts are then as they were.
+    /// For a run `InvalidArgument` if the table has records of the other queue, and the errors of
+    /// [`MemTable::replay_append`] or [`MemTable::replay_rewrite`]; for a put those of [`MemTable::put`].
+    /// Other steps aren't refused. The table and the counts are unchanged then.
     pub fn take_step(&mut self, queue: LogQueue, step: Step, stats: &mut GlobalStats) -> Result<()>
         requires of_queue { IsStepOfQueue queue (step_shown step) }
         requires stays { LeavesTable (step_shown step) }
@@ -70,9 +70,9 @@ impl MemTable {
         }
     }
 
-    /// Does what [`MemTable::put`] does with copies of a key and its value, where there are entries, and
-    /// returns whether it did. It does not where that call refuses, nor where there is no memory for the
-    /// copies. The table and the counts are then as they were.
+    /// Puts copies of `key` and `value`, as [`MemTable::put`] does, if the table has entries. Returns whether
+    /// it did. It doesn't either if `put` would be refused, or there is no memory for the copies; the table
+    /// and the counts are unchanged then.
     #[doc(hidden)]
     pub fn try_put(
         &mut self,

@@ -33,7 +33,7 @@ impl<'a> Group<'a> {
     }
 
     /// Takes all batches that wait by now, among them the leader's own.
-    pub(in crate::engine) fn take(&mut self) {
+    pub(in crate::engine) fn take_waiting(&mut self) {
         let mut line = locks::lock(&self.commits.line);
         self.taken.append(&mut line.waiting);
         self.unsynced.append(&mut line.unsynced);
@@ -49,19 +49,19 @@ impl<'a> Group<'a> {
         self.taken.iter().filter(|commit| commit.is_written).count() as u64
     }
 
-    /// Once they were written, lets the threads go on whose batches were refused, or needn't last.
+    /// Lets the threads go on whose batches were refused, or needn't be synced. The batches that are to be written are none then.
     pub(in crate::engine) fn release_unsynced(&mut self) {
         let mut taken = mem::take(&mut self.taken);
         for commit in taken.iter_mut().filter(|commit| !commit.sync) {
             commit.result.get_or_insert(Ok(()));
         }
         let over = taken.extract_if(.., |commit| commit.result.is_some());
-        self.commits.change(|line| line.over.extend(over));
+        self.commits.change_line(|line| line.over.extend(over));
         self.unsynced.append(&mut taken);
     }
 
-    /// Tests whether the leader is to make a sync: somebody waits for one, and the leader does so too. Where it doesn't, one of
-    /// those who do leads next.
+    /// Tests whether the leader is to make a sync: its own batch waits for one. Where others alone do, one of their threads leads
+    /// next.
     pub(in crate::engine) fn is_sync_due(&mut self) -> bool {
         let mut unsynced = self.unsynced.iter();
         let is_due = unsynced.any(|commit| commit.ticket == self.leader);
@@ -69,21 +69,20 @@ impl<'a> Group<'a> {
         is_due
     }
 
-    /// Lets the threads of all other batches go on, and tells those that have no result yet this
-    /// one.
-    pub(in crate::engine) fn end(&mut self, result: &Result<()>) {
+    /// Lets the threads of all batches that are left go on. Those whose batch has no result yet are told `result`.
+    pub(in crate::engine) fn end_with(&mut self, result: &Result<()>) {
         let mut all = mem::take(&mut self.taken);
         all.append(&mut self.unsynced);
         for commit in &mut all {
             commit.result.get_or_insert_with(|| result.clone());
         }
-        self.commits.change(|line| line.over.append(&mut all));
+        self.commits.change_line(|line| line.over.append(&mut all));
     }
 }
 
 impl Drop for Group<'_> {
     fn drop(&mut self) {
-        self.commits.change(|line| {
+        self.commits.change_line(|line| {
             line.over.append(&mut self.taken);
             let unsynced = if self.is_handed_on {
                 &mut line.unsynced

@@ -69,7 +69,7 @@ impl LockedFolder {
     }
 }
 
-/// Turns the answer of a lock into a refusal with the path.
+/// Returns the answer of a lock, as a refusal with the path where the lock wasn't given.
 ///
 /// # Errors
 ///

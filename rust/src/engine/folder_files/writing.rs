@@ -3,11 +3,12 @@
 use std::fs::File;
 use std::io::{self, Write};
 
-/// Writes bytes behind those of a file. Where there is no room for all of them the first ones are taken back.
+/// Writes bytes at the end of a file. Where there is no room for all of them those that were written are cut off again.
 ///
 /// # Errors
 ///
-/// Those of the system. Where it isn't said that all is as before some of the bytes may be there.
+/// Those of the system: as [`Unmade::AsBefore`] where there is no room and the file has none of the bytes, else as
+/// [`Unmade::InPart`].
 pub(super) fn write_all_or_nothing(
     mut file: &File,
     bytes: &[u8],
@@ -20,7 +21,7 @@ pub(super) fn write_all_or_nothing(
             Err(e) if e.kind() == io::ErrorKind::Interrupted => {}
             Err(e) => {
                 let written = (bytes.len() - rest.len()) as u64;
-                if lacks_room(&e) && (written == 0 || take_back(file, written).is_ok()) {
+                if lacks_room(&e) && (written == 0 || cut_last_bytes(file, written).is_ok()) {
                     return Err(Unmade::AsBefore(e));
                 }
                 return Err(e.into()); // what is there is cut as a torn tail
@@ -50,7 +51,7 @@ impl From<io::Error> for Unmade {
 /// # Errors
 ///
 /// Those of the system.
-fn take_back(file: &File, count: u64) -> io::Result<()> {
+fn cut_last_bytes(file: &File, count: u64) -> io::Result<()> {
     file.set_len(file.metadata()?.len().saturating_sub(count))
 }
 

@@ -38,7 +38,7 @@ pub(super) struct Piece<'r> {
 }
 
 impl<'a, F: Files> FilePieces<'a, F> {
-    /// Begins with the first byte of a file of `len` bytes.
+    /// Makes the pieces of a file of `len` bytes, the first of which begins with its first byte. Nothing is read yet.
     pub(super) fn new(files: &'a F, file: FileId, len: u64) -> FilePieces<'a, F> {
         FilePieces {
             files,
@@ -51,8 +51,8 @@ impl<'a, F: Files> FilePieces<'a, F> {
         }
     }
 
-    /// Returns how many bytes of the file are still to be read; 0 where no piece comes any more.
-    pub(super) fn left(&self) -> u64 {
+    /// Returns how many bytes of the file weren't read yet; 0 where no piece comes any more.
+    pub(super) fn bytes_left(&self) -> u64 {
         match self.is_done {
             true => 0,
             false => self.len - self.at - self.begun.len() as u64,
@@ -60,22 +60,22 @@ impl<'a, F: Files> FilePieces<'a, F> {
     }
 
     /// Returns how many pieces were lent.
-    pub(super) fn count(&self) -> usize {
+    pub(super) fn count_lent(&self) -> usize {
         self.count
     }
 
-    /// Has no piece come any more.
-    pub(super) fn end(&mut self) {
+    /// Ends the reading: no piece comes any more.
+    pub(super) fn stop(&mut self) {
         self.is_done = true;
     }
 
-    /// Reads the next piece into the room, if there is one, and lends it.
+    /// Reads the next piece into `room`, and lends it; `None` where no piece comes any more.
     ///
     /// # Errors
     ///
     /// `Io` with file and offset, `InvalidArgument` where the file begins with raft-engine's header, `Memory`. No piece comes then
     /// any more.
-    pub(super) fn next<'r>(&mut self, room: &'r mut Vec<u8>) -> Result<Option<Piece<'r>>> {
+    pub(super) fn read_next<'r>(&mut self, room: &'r mut Vec<u8>) -> Result<Option<Piece<'r>>> {
         if self.is_done {
             return Ok(None);
         }
@@ -89,7 +89,7 @@ impl<'a, F: Files> FilePieces<'a, F> {
         let offset = self.at;
         let whole = whole_batches(read);
         let (bytes, begun) = read.split_at(if whole > 0 { whole } else { read.len() });
-        self.keep(begun)?;
+        self.keep_begun(begun)?;
         self.at += bytes.len() as u64;
         self.count += 1;
         self.is_done = whole == 0 || self.at == self.len;
@@ -100,8 +100,8 @@ impl<'a, F: Files> FilePieces<'a, F> {
         }))
     }
 
-    /// Reads a piece into the room, behind what was read of it, until the batch at its front is whole, if it can be. Returns how many
-    /// bytes are there then.
+    /// Reads a piece into `room`, behind what was read of it before, until its first batch is whole, or the file ends. Returns how
+    /// many bytes of the piece were read.
     ///
     /// # Errors
     ///
@@ -123,12 +123,12 @@ impl<'a, F: Files> FilePieces<'a, F> {
         }
     }
 
-    /// Keeps what was read of the next piece.
+    /// Keeps `begun`, what was read of the next piece.
     ///
     /// # Errors
     ///
     /// `Memory`.
-    fn keep(&mut self, begun: &[u8]) -> Result<()> {
+    fn keep_begun(&mut self, begun: &[u8]) -> Result<()> {
         self.begun.clear();
         self.begun
             .try_reserve_exact(begun.len())
@@ -137,11 +137,11 @@ impl<'a, F: Files> FilePieces<'a, F> {
         Ok(())
     }
 
-    /// Makes room for so many bytes.
+    /// Makes `room` at least `len` bytes long.
     ///
     /// # Errors
     ///
-    /// `Memory`.
+    /// `Memory`, with file and offset.
     fn make_room(&self, room: &mut Vec<u8>, len: usize) -> Result<()> {
         if len > room.len() {
             room.try_reserve_exact(len - room.len())
@@ -168,7 +168,7 @@ pub(super) fn read_into(
         .map_err(|e| Error::system("the file can't be read", e).at(file, offset))
 }
 
-/// Returns how many bytes the batches have that are whole in these bytes, by their headers.
+/// Returns how many of the bytes, from the first on, are whole batches, by their headers.
 fn whole_batches(bytes: &[u8]) -> usize {
     let mut at = 0;
     while let Some(len) = batch_len(&bytes[at..]) {
@@ -180,8 +180,8 @@ fn whole_batches(bytes: &[u8]) -> usize {
     at
 }
 
-/// Returns how many bytes to read behind these, where the file has `left` more; 0 where the batch at their front is whole, or none
-/// of them can make it so.
+/// Returns how many bytes are to be read behind `bytes`, where the file has `left` more; 0 where the first batch is whole already, or
+/// the file ends in its midst.
 fn bytes_wanted(bytes: &[u8], left: u64) -> usize {
     let missing = match batch_len(bytes) {
         _ if bytes.len() < HEADER_LEN => 0,

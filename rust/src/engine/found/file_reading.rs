@@ -23,7 +23,8 @@ pub(super) struct FileReading<'a, F> {
 }
 
 impl<'a, F: Files> FileReading<'a, F> {
-    /// Begins with the first byte of a file of `len` bytes, which may be the last one of its queue.
+    /// Makes the reading of a file of `len` bytes, of which nothing is read yet. `is_last` says whether it is the last one of its
+    /// queue, and `is_named` whether a batch that doesn't fit those before it is to be named.
     pub(super) fn new(
         files: &'a F,
         file: LogFile,
@@ -42,41 +43,44 @@ impl<'a, F: Files> FileReading<'a, F> {
         }
     }
 
-    /// Returns how many bytes no piece has yet.
-    pub(super) fn left(&self) -> u64 {
+    /// Returns how many bytes of the file weren't read yet.
+    pub(super) fn bytes_left(&self) -> u64 {
         self.left.load(Relaxed)
     }
 
-    /// Returns about how many pieces it has.
-    pub(super) fn pieces_about(&self) -> u64 {
+    /// Returns about how many pieces the file has.
+    pub(super) fn estimate_pieces(&self) -> u64 {
         self.len.div_ceil(PIECE as u64)
     }
 
-    /// Reads the next piece into the room, and lends it, with its number.
+    /// Reads the next piece into `room`, and lends it, with its number from 0 on; `None` where no piece comes any more.
     ///
     /// # Errors
     ///
-    /// Those of [`FilePieces::next`], with the number of the piece that isn't read.
-    pub(super) fn next<'r>(&self, room: &'r mut Vec<u8>) -> (usize, Result<Option<Piece<'r>>>) {
+    /// Those of [`FilePieces::read_next`], with the number of the piece that isn't read.
+    pub(super) fn read_next<'r>(
+        &self,
+        room: &'r mut Vec<u8>,
+    ) -> (usize, Result<Option<Piece<'r>>>) {
         let mut pieces = locks::lock(&self.pieces);
-        let number = pieces.count();
-        let piece = pieces.next(room);
-        self.left.store(pieces.left(), Relaxed);
+        let number = pieces.count_lent();
+        let piece = pieces.read_next(room);
+        self.left.store(pieces.bytes_left(), Relaxed);
         (number, piece)
     }
 
-    /// Has no further piece be read.
-    pub(super) fn end(&self) {
-        locks::lock(&self.pieces).end();
+    /// Ends the reading: no thread gets a further piece.
+    pub(super) fn stop(&self) {
+        locks::lock(&self.pieces).stop();
         self.left.store(0, Relaxed);
     }
 
-    /// Replays the next piece, and returns what stands in the file from the first batch on that can't be read, if it is the last
-    /// one of its queue.
+    /// Replays the batches of a piece, and returns the reader. Where the file is the last one of its queue, and a batch of the piece
+    /// can't be read, it returns also all that stands in the file from there on; `None` elsewhere.
     ///
     /// # Errors
     ///
-    /// The refusal of the first batch that is refused; `Io`, `Memory`.
+    /// The refusal of the first batch that is refused; `Io`, `Memory`. The reader is then gone.
     pub(super) fn replay(
         &self,
         reader: ReaderHandle,
@@ -91,7 +95,7 @@ impl<'a, F: Files> FileReading<'a, F> {
             return Ok((reader.replay(part)?, None));
         }
         let (reader, front) = match self.is_named {
-            true => replay_front(reader, part)?,
+            true => replay_prefix(reader, part)?,
             false => reader.replay_last(part)?,
         };
         match piece.bytes.split_at(front) {
@@ -103,11 +107,11 @@ impl<'a, F: Files> FileReading<'a, F> {
         }
     }
 
-    /// Returns all that stands in the file from `offset` on, of which these bytes were read.
+    /// Reads all that stands in the file from `offset` on. The bytes `read` of it were read before.
     ///
     /// # Errors
     ///
-    /// `Io`, `Memory`.
+    /// `Io`, `Memory`, with file and offset.
     fn read_rest(&self, offset: u64, read: &[u8]) -> Result<Vec<u8>> {
         let memory = || Error::memory().at(self.file.into(), offset);
         let len = usize::try_from(self.len - offset).map_err(|_| memory())?;
@@ -130,7 +134,7 @@ impl<'a, F: Files> FileReading<'a, F> {
 /// # Errors
 ///
 /// The refusal of the first batch that is refused; `Memory`.
-fn replay_front(reader: ReaderHandle, part: FilePart<'_>) -> Result<(ReaderHandle, usize)> {
+fn replay_prefix(reader: ReaderHandle, part: FilePart<'_>) -> Result<(ReaderHandle, usize)> {
     match readable_front(part)? {
         (_, Some(e)) if e.kind == ErrorKind::Memory => Err(e),
         (front, _) => {

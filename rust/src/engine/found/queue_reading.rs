@@ -17,8 +17,8 @@ const LEAST_SHARE: u64 = 1 << 20;
 /// # Errors
 ///
 /// The refusal of the first batch that is refused, but for the tail of the last file; `Io` with file and offset; `InvalidArgument`
-/// where a file is one of raft-engine; `Memory`. What several threads find first may vary, so files that they refuse are read once more
-/// by one, and where a refusal names no batch, once more to name it.
+/// where a file is one of raft-engine; `Memory`. What several threads find first may vary, so files that they refuse are read once
+/// more by one, and where a refusal names no batch, once more to name it.
 pub(super) fn read_queue(
     files: &impl Files,
     queue: Queue,
@@ -61,7 +61,8 @@ pub(super) struct QueueReading<'a, F> {
 }
 
 impl<'a, F: Files> QueueReading<'a, F> {
-    /// Begins with the first byte of each file. What is refused may be to be named.
+    /// Makes the reading of the files that are listed, by number and length, of which nothing is read yet. `is_named` says whether a
+    /// batch that doesn't fit those before it is to be named.
     fn new(
         files: &'a F,
         queue: Queue,
@@ -83,14 +84,14 @@ impl<'a, F: Files> QueueReading<'a, F> {
         }
     }
 
-    /// Reads the files on at most this many threads, the caller's with them, or on fewer where some can't be started. Returns what
+    /// Reads the files on at most `threads` threads, the caller's with them, or on fewer where some can't be started. Returns what
     /// was read, and what stands in the last file from the first batch on that can't be read.
     ///
     /// # Errors
     ///
     /// The refusal of the first piece that is refused, or of a merge; `Memory`.
     fn read(self, threads: usize) -> Result<(ReaderHandle, Vec<u8>)> {
-        let most: u64 = self.files.iter().map(FileReading::pieces_about).sum();
+        let most: u64 = self.files.iter().map(FileReading::estimate_pieces).sum();
         let threads = threads.min(usize::try_from(most).unwrap_or(usize::MAX));
         thread::scope(|scope| {
             let others: Vec<_> = (1..threads)
@@ -107,13 +108,14 @@ impl<'a, F: Files> QueueReading<'a, F> {
         self.stretches.finish()
     }
 
-    /// Returns the file in which a thread reads next: one in which none has read, or that of which most is left.
+    /// Returns the file in which a thread reads next: one in which none has read yet, or that of which most is left; `None` where too
+    /// little is left of each for one more thread.
     pub(super) fn next_file(&self) -> Option<usize> {
         let next = self.next.fetch_add(1, Relaxed);
         if next < self.files.len() {
             return Some(next);
         }
-        let left = self.files.iter().map(FileReading::left);
+        let left = self.files.iter().map(FileReading::bytes_left);
         let (file, left) = left.enumerate().max_by_key(|(_, left)| *left)?;
         (left >= LEAST_SHARE).then_some(file)
     }

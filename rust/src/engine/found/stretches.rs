@@ -17,7 +17,7 @@ pub(super) struct Position {
 pub(super) struct Stretch {
     /// The first of them.
     pub(super) from: Position,
-    /// The one behind them; `None` where none is read on from there.
+    /// The one behind them; `None` where the reading of the queue ends in the midst of the last one.
     pub(super) to: Option<Position>,
     pub(super) reader: ReaderHandle,
 }
@@ -38,8 +38,8 @@ pub(super) struct Stretches {
 }
 
 impl Position {
-    /// Returns that of the piece behind, which may be the first one of the next file.
-    pub(super) fn behind(self, is_last: bool) -> Position {
+    /// Returns the position of the piece behind: the first one of the next file where this piece is the last one of its file.
+    pub(super) fn next_position(self, is_last: bool) -> Position {
         match is_last {
             true => Position {
                 file: self.file + 1,
@@ -63,9 +63,9 @@ impl Stretches {
         }
     }
 
-    /// Adds a stretch, and merges it with its neighbors. Where that is refused the reading ends there.
+    /// Adds a stretch, and merges it with its neighbors. Where a merge is refused the reading of the queue ends between the two.
     pub(super) fn add(&self, mut stretch: Stretch) {
-        while let Some((older, newer)) = self.with_neighbor(stretch) {
+        while let Some((older, newer)) = self.pair_with_neighbor(stretch) {
             let seam = newer.from;
             stretch = match older.merge(newer, self.queue) {
                 Ok(both) => both,
@@ -74,8 +74,8 @@ impl Stretches {
         }
     }
 
-    /// Takes the neighbor of a stretch out, and returns both, the older one first; keeps the stretch where it has none.
-    fn with_neighbor(&self, stretch: Stretch) -> Option<(Stretch, Stretch)> {
+    /// Takes a neighbor of a stretch out, and returns both, the older one first; `None` where it has no neighbor, and is kept.
+    fn pair_with_neighbor(&self, stretch: Stretch) -> Option<(Stretch, Stretch)> {
         let mut read = locks::lock(&self.read);
         let older = read.range(..stretch.from).next_back();
         let older = older.filter(|(_, older)| older.to == Some(stretch.from));
@@ -90,7 +90,7 @@ impl Stretches {
         None
     }
 
-    /// Has the reading end at a piece, unless it does at one before it.
+    /// Notes that the reading ends at a piece, and how, unless it ends at one before it.
     pub(super) fn end_at(&self, piece: Position, end: End) {
         let mut first = locks::lock(&self.end);
         if first.as_ref().is_none_or(|(at, _)| piece < *at) {
@@ -98,13 +98,14 @@ impl Stretches {
         }
     }
 
-    /// Tests whether the reading ends before a file.
-    pub(super) fn end_before(&self, file: usize) -> bool {
+    /// Tests whether the reading ends in a file before the one at a position.
+    pub(super) fn ends_before(&self, file: usize) -> bool {
         let first = locks::lock(&self.end);
         first.as_ref().is_some_and(|(at, _)| at.file < file)
     }
 
-    /// Returns what was read, up to where the reading ends, and what stands there in the last file.
+    /// Returns a reader that has read the queue up to where the reading ends, and what stands in the last file from there on: no
+    /// bytes where the file ends there.
     ///
     /// # Errors
     ///
@@ -131,7 +132,7 @@ impl Stretches {
 }
 
 impl Stretch {
-    /// Makes one that has read nothing, and goes on with a piece.
+    /// Makes a stretch of no piece, behind which the piece at a position stands.
     ///
     /// # Errors
     ///
@@ -144,11 +145,11 @@ impl Stretch {
         })
     }
 
-    /// Takes in the one behind it.
+    /// Merges a stretch with the newer one, which stands right behind it.
     ///
     /// # Errors
     ///
-    /// Those of [`ReaderHandle::merge`].
+    /// Those of [`ReaderHandle::merge`]. Both are then gone.
     fn merge(self, newer: Stretch, queue: Queue) -> Result<Stretch> {
         Ok(Stretch {
             from: self.from,

@@ -9,12 +9,12 @@ use crate::{Files, Result};
 /// A thread that reads pieces of files, and replays them.
 pub(super) struct Worker<'q, 'a, F> {
     queue: &'q QueueReading<'a, F>,
-    /// What it has read last.
+    /// The stretch that it has read, as long as it goes on there.
     own: Option<Stretch>,
 }
 
 impl<'q, 'a, F: Files> Worker<'q, 'a, F> {
-    /// Makes one that has read nothing.
+    /// Makes a thread's work on a queue. It has read nothing yet.
     pub(super) fn new(queue: &'q QueueReading<'a, F>) -> Worker<'q, 'a, F> {
         Worker { queue, own: None }
     }
@@ -24,19 +24,20 @@ impl<'q, 'a, F: Files> Worker<'q, 'a, F> {
         let mut room = Vec::new();
         let stretches = &self.queue.stretches;
         while let Some(file) = self.queue.next_file()
-            && !stretches.end_before(file)
+            && !stretches.ends_before(file)
         {
-            while self.read_piece(file, &mut room) && !stretches.end_before(file) {}
+            while self.read_piece(file, &mut room) && !stretches.ends_before(file) {}
         }
         if let Some(own) = self.own {
             stretches.add(own);
         }
     }
 
-    /// Reads the next piece of a file into the room, and replays it. Returns whether another one may come behind it.
+    /// Reads the next piece of the file at a position into `room`, and replays it. Returns whether another one may come behind it.
+    /// Where the reading ends there, that is noted with the stretches.
     fn read_piece(&mut self, file: usize, room: &mut Vec<u8>) -> bool {
         let reading = &self.queue.files[file];
-        let (number, piece) = reading.next(room);
+        let (number, piece) = reading.read_next(room);
         let from = Position {
             file,
             piece: number,
@@ -51,13 +52,13 @@ impl<'q, 'a, F: Files> Worker<'q, 'a, F> {
             Ok(Some(rest)) => End::Rest(rest),
             Err(e) => End::Refused(e),
         };
-        reading.end();
+        reading.stop();
         self.queue.stretches.end_at(from, end);
         false
     }
 
-    /// Replays a piece. Returns what stands in the last file of the queue from the first batch on that can't be read, where one of
-    /// the piece can't.
+    /// Replays the piece at the position `from`. Returns what stands in the last file of the queue from the first batch on that
+    /// can't be read, where one of the piece can't; `None` elsewhere.
     ///
     /// # Errors
     ///
@@ -70,7 +71,7 @@ impl<'q, 'a, F: Files> Worker<'q, 'a, F> {
     ) -> Result<Option<Vec<u8>>> {
         let own = self.stretch_up_to(from)?;
         let (reader, rest) = reading.replay(own.reader, piece)?;
-        let to = rest.is_none().then(|| from.behind(piece.is_last));
+        let to = rest.is_none().then(|| from.next_position(piece.is_last));
         self.own = Some(Stretch {
             from: own.from,
             to,
@@ -79,7 +80,8 @@ impl<'q, 'a, F: Files> Worker<'q, 'a, F> {
         Ok(rest)
     }
 
-    /// Returns what this thread has read last, if a piece stands right behind it; else a new stretch, which begins with the piece.
+    /// Returns the stretch that this thread has read, if the piece at a position stands right behind it; else a new stretch, which
+    /// begins with that piece. The old one is then added to the others.
     ///
     /// # Errors
     ///

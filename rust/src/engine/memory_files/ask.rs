@@ -16,20 +16,20 @@ use crate::{FileId, Queue};
 #[derive(Clone, PartialEq, Eq, Hash, Debug)]
 #[non_exhaustive]
 pub enum Ask {
-    /// These bytes behind those of this file.
+    /// The bytes are to be written at the end of the file.
     Write(FileId, Vec<u8>),
-    /// What was asked of the queue is to outlast a crash.
+    /// All that was asked of the queue is to be safe from a crash.
     Sync(Queue),
-    /// A new file.
+    /// The file is to be begun, behind the last one of its queue.
     Begin(FileId),
     /// The oldest file of its queue is to go.
     Delete(FileId),
-    /// The file is to have this many bytes, if it has more.
+    /// The file is to be cut to a length in bytes, if it is longer.
     Cut(FileId, u64),
 }
 
 impl Ask {
-    /// Returns the queue that it is asked of.
+    /// Returns the queue of which it was asked.
     ///
     /// ```
     /// # use raft_recover::{FileId, Files, MemoryFiles, Queue};

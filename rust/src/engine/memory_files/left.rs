@@ -15,7 +15,7 @@ pub(super) struct Left<'a> {
 }
 
 impl<'a> Left<'a> {
-    /// Begins with the files of a queue as they were found, all of which last.
+    /// Begins with the files of a queue as they were found, which no crash takes away.
     pub(super) fn of(found: &[(u64, Vec<u8>)]) -> Left<'a> {
         Left {
             certain: found.to_vec(),
@@ -25,15 +25,15 @@ impl<'a> Left<'a> {
         }
     }
 
-    /// Takes in what was asked next.
-    pub(super) fn take(&mut self, ask: &'a Ask) {
+    /// Takes in what was asked next of the queue.
+    pub(super) fn take_ask(&mut self, ask: &'a Ask) {
         match ask {
             Ask::Sync(_) => {
-                self.settle(usize::MAX);
+                self.do_first(usize::MAX);
                 self.gone += std::mem::take(&mut self.going);
             }
             Ask::Begin(_) => {
-                self.settle(usize::MAX);
+                self.do_first(usize::MAX);
                 self.since.push(ask);
             }
             Ask::Delete(_) => self.going += 1,
@@ -41,8 +41,8 @@ impl<'a> Left<'a> {
         }
     }
 
-    /// Does the first steps of what was asked since, and drops the rest.
-    fn settle(&mut self, mut steps: usize) {
+    /// Does the first `steps` steps of what was asked since then, and drops the rest.
+    fn do_first(&mut self, mut steps: usize) {
         for ask in self.since.drain(..) {
             let last = self.certain.last_mut().map(|(_, bytes)| bytes);
             match (ask, last) {
@@ -67,9 +67,10 @@ impl<'a> Left<'a> {
         }
     }
 
-    /// Returns the files once so much more of it is done.
+    /// Returns the files that a crash leaves: those that stand for certain, with as much of what was asked since then as `stays`
+    /// says.
     pub(super) fn files_after_crash(mut self, stays: Unsynced) -> Vec<(u64, Vec<u8>)> {
-        self.settle(stays.steps);
+        self.do_first(stays.steps);
         let gone = self.gone + self.going.min(stays.deletions);
         self.certain.split_off(gone.min(self.certain.len()))
     }

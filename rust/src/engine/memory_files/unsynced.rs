@@ -23,7 +23,7 @@ pub struct Unsynced {
 }
 
 impl Unsynced {
-    /// Returns how much isn't synced once this is done too.
+    /// Returns how much isn't synced once `ask` is done too.
     pub(super) fn with_ask(self, ask: &Ask) -> Unsynced {
         let Unsynced { steps, deletions } = self;
         match ask {

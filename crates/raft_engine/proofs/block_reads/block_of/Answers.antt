@@ -1,5 +1,4 @@
-use Rattle.std.proofs.Common.{List, ℕ, inr, subst}
-use Rattle.raft_records.specs.Header.{IsEntryBlockOf, IsLentBlockFault}
+use Rattle.raft_engine.proofs.Common.{List, ℕ, inr, subst, IsEntryBlockOf, IsLentBlockFault}
 use Rattle.raft_engine.proofs.BlockReadLemmas.{unsound_read}
 use Rattle.raft_engine.proofs.block_reads.block_of.Goals as goal
 

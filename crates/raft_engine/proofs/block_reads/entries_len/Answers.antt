@@ -1,5 +1,4 @@
-use Rattle.std.proofs.Common.{subst}
-use Rattle.raft_records.specs.Header.{IsEntryBlockOf}
+use Rattle.raft_engine.proofs.Common.{subst, IsEntryBlockOf}
 use Rattle.raft_engine.proofs.BlockReadLemmas.{entries_first}
 use Rattle.raft_engine.proofs.block_reads.entries_len.Goals as goal
 

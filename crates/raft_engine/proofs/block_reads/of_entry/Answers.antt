@@ -1,6 +1,4 @@
-use Rattle.std.proofs.Common.{◌≡◌, List, ℕ, ◌++◌, ap, codes, string_bytes, ◌∙◌, append_assoc}
-use Rattle.std.specs.Fmt.{decimal}
-use Rattle.raft_replay.specs.Stops.{queue_text}
+use Rattle.raft_engine.proofs.Common.{◌≡◌, List, ℕ, ◌++◌, ap, codes, string_bytes, ◌∙◌, append_assoc, decimal, queue_text}
 use Rattle.raft_engine.proofs.block_reads.of_entry.Goals as goal
 
 -- a reason behind an entry and its place

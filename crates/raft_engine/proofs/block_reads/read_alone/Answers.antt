@@ -1,5 +1,4 @@
-use Rattle.std.proofs.Common.{[], None, inr, refl}
-use Rattle.std.proofs.lemmas.Result.{IfErr-weaker, IfOk-weaker, err_from_is_err_and}
+use Rattle.raft_engine.proofs.Common.{[], None, inr, refl, IfErr-weaker, IfOk-weaker, err_from_is_err_and}
 use Rattle.raft_engine.proofs.BlockReadLemmas.{next_block, next_bytes, no_next_block, no_next_bytes, none_yet}
 use Rattle.raft_engine.proofs.block_reads.read_alone.Goals as goal
 

@@ -1,5 +1,4 @@
-use Rattle.std.proofs.Common.{rules, ◌<◌, length, inl, refl}
-use Rattle.std.proofs.lemmas.Result.{err_from_is_err_and}
+use Rattle.raft_engine.proofs.Common.{rules, ◌<◌, length, inl, refl, err_from_is_err_and}
 use Rattle.raft_engine.proofs.BlockReadLemmas.{block_at, bytes_at, no_block_at, no_bytes_at}
 use Rattle.raft_engine.proofs.block_reads.read_by_blocks.Goals as goal
 

@@ -1,4 +1,4 @@
-use Rattle.std.proofs.Common.{map, take}
+use Rattle.raft_engine.proofs.Common.{map, take}
 use Rattle.raft_engine.proofs.BlockReadLemmas.{AreReadSoFar}
 use Rattle.raft_engine.proofs.block_reads.read_by_blocks.Given as goal
 

@@ -1,5 +1,4 @@
-use Rattle.std.proofs.Common.{rules, ◌<◌, length, refl}
-use Rattle.std.proofs.lemmas.Result.{err_from_is_err_and}
+use Rattle.raft_engine.proofs.Common.{rules, ◌<◌, length, refl, err_from_is_err_and}
 use Rattle.raft_engine.proofs.BlockReadLemmas.{all_joined, joined_at, unjoined_block_at, unjoined_bytes_at}
 use Rattle.raft_engine.proofs.block_reads.read_joined.Goals as goal
 

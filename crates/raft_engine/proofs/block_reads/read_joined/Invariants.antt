@@ -1,4 +1,4 @@
-use Rattle.std.proofs.Common.{take}
+use Rattle.raft_engine.proofs.Common.{take}
 use Rattle.raft_engine.proofs.BlockReadLemmas.{AreJoinedSoFar}
 use Rattle.raft_engine.proofs.block_reads.read_joined.Given as goal
 

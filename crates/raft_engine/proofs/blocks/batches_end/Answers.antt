@@ -1,6 +1,4 @@
-use Rattle.std.proofs.Common.{length, ap, subst, sym}
-use Rattle.raft_engine_prefixes.specs.TornTails.{StopsAt}
-use Rattle.raft_engine.specs.CutTails.{IsTailOf}
+use Rattle.raft_engine.proofs.Common.{length, ap, subst, sym, StopsAt, IsTailOf}
 use Rattle.raft_engine.proofs.blocks.batches_end.Goals as goal
 
 pub returns-in-Some : goal.returns-in-Some

@@ -1,5 +1,4 @@
-use Rattle.std.proofs.Common.{arith}
-use Rattle.std.proofs.lemmas.Result.{err_from_is_err_and}
+use Rattle.raft_engine.proofs.Common.{arith, err_from_is_err_and}
 use Rattle.raft_engine.proofs.BlockLemmas.{all_checked, next_stands, next_unsound, none_checked, one_checked, rises}
 use Rattle.raft_engine.proofs.blocks.check_all.Goals as goal
 

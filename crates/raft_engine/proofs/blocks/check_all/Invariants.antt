@@ -1,4 +1,4 @@
-use Rattle.std.proofs.Common.{◌-◌}
+use Rattle.raft_engine.proofs.Common.{◌-◌}
 use Rattle.raft_engine.proofs.BlockLemmas.{IsCheckedTo}
 use Rattle.raft_engine.proofs.blocks.check_all.Given as goal
 

@@ -1,10 +1,4 @@
-use Rattle.std.proofs.Common.{◌∙◌, ap, drop, subst}
-use Rattle.std.proofs.lemmas.Result.{err_from_is_err_and}
-use Rattle.raft_base.specs.Corruption.{IsCorruption}
-use Rattle.raft_base.specs.declared.pipe_log.FileId.{FileId}
-use Rattle.raft_codec.specs.Reading.{HasNoFront}
-use Rattle.raft_records.specs.Header.{IsHeader}
-use Rattle.raft_engine.specs.SoundBlocks.{damaged_entries_text}
+use Rattle.raft_engine.proofs.Common.{◌∙◌, ap, drop, subst, err_from_is_err_and, IsCorruption, FileId, HasNoFront, IsHeader, damaged_entries_text}
 use Rattle.raft_engine.proofs.BlockLemmas.{block_ends, block_sound, block_unsound, has_header}
 use Rattle.raft_engine.proofs.blocks.check_block.Goals as goal
 

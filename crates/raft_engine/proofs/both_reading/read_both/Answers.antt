@@ -1,4 +1,4 @@
-use Rattle.raft_base.specs.declared.pipe_log.LogQueue.TheVariants.{Append, Rewrite}
+use Rattle.raft_engine.proofs.Common.{Append, Rewrite}
 use Rattle.raft_engine.proofs.RecoveredLemmas.{few_files}
 use Rattle.raft_engine.proofs.both_reading.read_both.Goals as goal
 

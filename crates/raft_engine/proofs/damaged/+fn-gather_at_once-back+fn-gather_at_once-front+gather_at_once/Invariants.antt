@@ -1,4 +1,4 @@
-use Rattle.std.proofs.Common.{◌+◌, ◌*◌}
+use Rattle.raft_engine.proofs.Common.{◌+◌, ◌*◌}
 use Rattle.raft_engine.proofs.damaged.+fn-gather_at_once-back+fn-gather_at_once-front+gather_at_once.Given as goal
 
 abbrev pub decreases-back : goal.decreases-back

@@ -1,4 +1,4 @@
-use Rattle.std.proofs.lemmas.Result.{IfOk-weaker}
+use Rattle.raft_engine.proofs.Common.{IfOk-weaker}
 use Rattle.raft_engine.proofs.DamagedLemmas.{damaged_whole, stop_reached}
 use Rattle.raft_engine.proofs.damaged.damaged_batches.Goals as goal
 

@@ -1,6 +1,4 @@
-use Rattle.std.proofs.Common.{◌∙◌, ap, drop, subst}
-use Rattle.raft_codec.specs.Reading.{HasNoFront}
-use Rattle.raft_records.specs.Header.{IsHeader}
+use Rattle.raft_engine.proofs.Common.{◌∙◌, ap, drop, subst, HasNoFront, IsHeader}
 use Rattle.raft_engine.proofs.BlockLemmas.{block_ends, has_header}
 use Rattle.raft_engine.proofs.damaged.end_of_batch.Goals as goal
 

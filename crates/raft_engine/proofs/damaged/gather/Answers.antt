@@ -1,6 +1,4 @@
-use Rattle.std.proofs.Common.{arith, sym, subst, List, []}
-use Rattle.raft_engine.specs.DamagedStretches.{AreDamagedBetween}
-use Rattle.raft_engine.specs.declared.recovered.DamagedBatch.{DamagedBatch}
+use Rattle.raft_engine.proofs.Common.{arith, sym, subst, AreDamagedBetween}
 use Rattle.raft_engine.proofs.DamagedLemmas.{all_gathered, is_reached, none_there, none_walked, one_gathered, one_walked, rises}
 use Rattle.raft_engine.proofs.damaged.gather.Goals as goal
 

@@ -1,5 +1,4 @@
-use Rattle.std.proofs.Common.{◌-◌}
-use Rattle.raft_engine.specs.DamagedStretches.{AreDamagedBetween}
+use Rattle.raft_engine.proofs.Common.{◌-◌, AreDamagedBetween}
 use Rattle.raft_engine.proofs.DamagedLemmas.{IsWalkedTo}
 use Rattle.raft_engine.proofs.damaged.gather.Given as goal
 

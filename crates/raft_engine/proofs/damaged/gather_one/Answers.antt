@@ -1,6 +1,4 @@
-use Rattle.std.proofs.Common.{inl, inr, refl, ◌∙◌, ap, drop, subst}
-use Rattle.raft_codec.specs.Reading.{HasNoFront}
-use Rattle.raft_records.specs.Header.{IsHeader}
+use Rattle.raft_engine.proofs.Common.{inl, inr, refl, ◌∙◌, ap, drop, subst, HasNoFront, IsHeader}
 use Rattle.raft_engine.proofs.BlockLemmas.{block_ends, block_sound, block_unsound, has_header}
 use Rattle.raft_engine.proofs.damaged.gather_one.Goals as goal
 

@@ -1,4 +1,4 @@
-use Rattle.std.proofs.Common.{◌<◌, arith}
+use Rattle.raft_engine.proofs.Common.{arith}
 use Rattle.raft_engine.proofs.DamagedLemmas.{ends_behind, none_walked, one_walked, rises, stands}
 use Rattle.raft_engine.proofs.damaged.middle_between.Goals as goal
 

@@ -1,4 +1,4 @@
-use Rattle.std.proofs.Common.{◌-◌}
+use Rattle.raft_engine.proofs.Common.{◌-◌}
 use Rattle.raft_engine.proofs.DamagedLemmas.{IsWalkedTo}
 use Rattle.raft_engine.proofs.damaged.middle_between.Given as goal
 

@@ -1,4 +1,4 @@
-use Rattle.raft_accessor.specs.Writes.{Appending}
+use Rattle.raft_engine.proofs.Common.{Appending}
 use Rattle.raft_engine.proofs.DrainLemmas.{apply_so, next_refused, room_so}
 use Rattle.raft_engine.proofs.engine.apply.Goals as goal
 

@@ -1,7 +1,4 @@
-use Rattle.std.proofs.Common.{ap, ◌∙◌}
-use Rattle.raft_base.specs.declared.pipe_log.FileId.{FileId}
-use Rattle.raft_base.specs.declared.pipe_log.Version.{Version}
-use Rattle.raft_engine.specs.FoundFiles.{other_version}
+use Rattle.raft_engine.proofs.Common.{ap, ◌∙◌, FileId, Version, other_version}
 use Rattle.raft_engine.proofs.FoundLemmas.{other_none}
 use Rattle.raft_engine.proofs.found.begins_in_other.Goals as goal
 

@@ -1,5 +1,4 @@
-use Rattle.std.proofs.lemmas.Result.{err_from_is_err_and}
-use Rattle.std.proofs.Common.{arith}
+use Rattle.raft_engine.proofs.Common.{err_from_is_err_and, arith}
 use Rattle.raft_engine.proofs.FileNumbers.{next_read, read_more, stand_together}
 use Rattle.raft_engine.proofs.found.check_numbers.Goals as goal
 

@@ -1,6 +1,4 @@
-use Rattle.std.proofs.Common.{map, drop}
-use Rattle.raft_files.specs.HeldFiles.{file_shown}
-use Rattle.raft_engine_prefixes.specs.Done.{numbers}
+use Rattle.raft_engine.proofs.Common.{map, drop, file_shown, numbers}
 use Rattle.raft_engine.proofs.FileNumbers.{AreReadUpTo}
 use Rattle.raft_engine.proofs.found.check_numbers.Given as goal
 

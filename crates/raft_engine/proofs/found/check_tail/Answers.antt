@@ -1,8 +1,5 @@
-use Rattle.std.proofs.lemmas.Result.{err_from_is_err_and}
-use Rattle.std.proofs.Common.{inl, inr, length, refl}
-use Rattle.raft_engine_prefixes.specs.TornTails.{StopsAt}
+use Rattle.raft_engine.proofs.Common.{err_from_is_err_and, inl, inr, length, refl, StopsAt, IsTailOf}
 use Rattle.raft_engine.proofs.FoundLemmas.{begins_as, tolerated, whole_not_other}
-use Rattle.raft_engine.specs.CutTails.{IsTailOf}
 use Rattle.raft_engine.proofs.FoundQueueLemmas.{tail_of_version, tail_refused, tail_tolerated, tail_unreadable}
 use Rattle.raft_engine.proofs.found.check_tail.Goals as goal
 

@@ -1,5 +1,4 @@
-use Rattle.std.proofs.Common.{◌∙◌, inl, inr, sym}
-use Rattle.std.proofs.lemmas.Bool.{false≢true}
+use Rattle.raft_engine.proofs.Common.{◌∙◌, inl, inr, sym, false≢true}
 use Rattle.raft_engine.proofs.FoundLemmas.{elsewhere_stands, nothing_stands, sound_stands}
 use Rattle.raft_engine.proofs.found.check_undamaged.Goals as goal
 

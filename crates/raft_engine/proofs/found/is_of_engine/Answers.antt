@@ -1,7 +1,4 @@
-use Rattle.std.proofs.Common.{◌∙◌, drop, length, sym}
-use Rattle.std.proofs.lemmas.Bool.Decides.{Decides-eqb}
-use Rattle.std.proofs.lemmas.Slice.Eq.{starts_is}
-use Rattle.raft_engine.specs.FoundFiles.{engine_header}
+use Rattle.raft_engine.proofs.Common.{◌∙◌, drop, length, sym, Decides-eqb, starts_is, engine_header}
 use Rattle.raft_engine.proofs.found.is_of_engine.Goals as goal
 
 pub returns : goal.returns

@@ -1,5 +1,4 @@
-use Rattle.std.proofs.Common.{inl, inr, subst}
-use Rattle.raft_engine_prefixes.specs.TornTails.{StopsAt}
+use Rattle.raft_engine.proofs.Common.{inl, inr, subst, StopsAt}
 use Rattle.raft_engine.proofs.FoundQueueLemmas.{is_tail}
 use Rattle.raft_engine.proofs.found.tail_of.Goals as goal
 

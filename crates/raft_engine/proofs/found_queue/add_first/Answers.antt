@@ -1,5 +1,4 @@
-use Rattle.std.proofs.Common.{List, ap, ◌∙◌}
-use Rattle.raft_base.specs.declared.pipe_log.FileId.{FileId}
+use Rattle.raft_engine.proofs.Common.{List, ap, ◌∙◌, FileId}
 use Rattle.raft_engine.proofs.FoundQueueLemmas.{first_whole}
 use Rattle.raft_engine.proofs.found_queue.add_first.Goals as goal
 

@@ -1,9 +1,5 @@
-use Rattle.std.proofs.Common.{subst, arith}
-use Rattle.std.specs.Prelude.{List}
-use Rattle.raft_files.specs.Asks.{NumberedBytes}
-use Rattle.raft_recover.specs.Files.{AreWholeFiles}
-use Rattle.raft_engine.specs.FoundQueues.{IsMissingOf}
-use Rattle.raft_engine.specs.declared.missing.Missing.TheVariants.{Cut, FirstFile}
+use Rattle.raft_engine.proofs.Common.{subst, arith, List, NumberedBytes, AreWholeFiles, IsMissingOf, FirstFile}
+use Rattle.raft_engine.specs.declared.missing.Missing.TheVariants.{Cut}
 use Rattle.raft_engine.proofs.FoundQueueLemmas.{first_added}
 use Rattle.raft_engine.proofs.found_queue.complete_segments.Goals as goal
 

@@ -1,5 +1,4 @@
-use Rattle.std.proofs.Common.{subst, sym}
-use Rattle.raft_recover.specs.Files.{AreWholeFiles}
+use Rattle.raft_engine.proofs.Common.{subst, sym, AreWholeFiles}
 use Rattle.raft_engine.proofs.FoundQueueLemmas.{cut_whole, last_inside}
 use Rattle.raft_engine.proofs.found_queue.cut_last.Goals as goal
 

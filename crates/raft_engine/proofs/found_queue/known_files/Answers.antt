@@ -1,8 +1,4 @@
-use Rattle.std.proofs.Common.{sym, ap, map, ◌∙◌, arith}
-use Rattle.std.proofs.lemmas.Bool.Decides.{Decides-eqb}
-use Rattle.std.proofs.lemmas.List.{nil_from_length}
-use Rattle.std.specs.Vec.{vec_len}
-use Rattle.raft_files.specs.HeldFiles.{file_shown}
+use Rattle.raft_engine.proofs.Common.{sym, ap, map, ◌∙◌, arith, Decides-eqb, nil_from_length, vec_len, file_shown}
 use Rattle.raft_engine.proofs.FoundQueueLemmas.{first_known}
 use Rattle.raft_engine.proofs.found_queue.known_files.Goals as goal
 

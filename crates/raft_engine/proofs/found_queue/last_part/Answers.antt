@@ -1,7 +1,4 @@
-use Rattle.std.proofs.Common.{◌≡◌, ◌∙◌, length, List, subst, sym}
-use Rattle.std.proofs.lemmas.List.{nil_from_length}
-use Rattle.raft_records.specs.FilePart.{Part}
-use Rattle.raft_recover.specs.Files.{AreWholeFiles}
+use Rattle.raft_engine.proofs.Common.{◌≡◌, ◌∙◌, length, List, subst, sym, nil_from_length, Part, AreWholeFiles}
 use Rattle.raft_engine.proofs.FoundQueueLemmas.{last_whole, no_files, no_part}
 use Rattle.raft_engine.proofs.found_queue.last_part.Goals as goal
 

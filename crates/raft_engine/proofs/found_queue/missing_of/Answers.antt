@@ -1,7 +1,6 @@
-use Rattle.std.proofs.lemmas.Result.{err_from_is_err_and}
-use Rattle.std.proofs.Common.{inl, inr, refl}
+use Rattle.raft_engine.proofs.Common.{err_from_is_err_and, inl, inr, refl, Nothing}
 use Rattle.raft_engine.proofs.FoundQueueLemmas.{block_fault, first_missing, last_missing, missing_fault, torn_as}
-use Rattle.raft_engine.specs.declared.missing.Missing.TheVariants.{Cut, Nothing}
+use Rattle.raft_engine.specs.declared.missing.Missing.TheVariants.{Cut}
 use Rattle.raft_engine.proofs.found_queue.missing_of.Goals as goal
 
 pub check_tail-requires : goal.check_tail-requires

@@ -1,11 +1,5 @@
-use Rattle.std.proofs.Common.{◌≡◌, ℕ, List, ◌∷◌, [], ◌++◌, ap, ◌∙◌, subst}
-use Rattle.raft_records.specs.Group.{AtomicGroupBuilder}
-use Rattle.raft_records.specs.LogBatch.{Batch}
-use Rattle.raft_records.specs.declared.atomic_group.AtomicGroupStatus.TheVariants.{Begin, End}
-use Rattle.raft_table.specs.KeyValues.{pairs_shown}
-use Rattle.raft_engine.specs.GroupBatches.{marker_batch}
-use Rattle.raft_engine.specs.GroupParts.{ArePartsAdded}
-use Rattle.raft_engine.specs.Rewriting.{with_puts}
+use Rattle.raft_engine.proofs.Common.{◌≡◌, ℕ, List, ◌∷◌, [], ◌++◌, ap, ◌∙◌, subst, AtomicGroupBuilder, Batch, End, pairs_shown, marker_batch, ArePartsAdded, with_puts}
+use Rattle.raft_records.specs.declared.atomic_group.AtomicGroupStatus.TheVariants.{Begin}
 use Rattle.raft_engine.proofs.PartLemmas.{group_made, parts_only}
 use Rattle.raft_engine.proofs.RewrittenRegions.{on_any}
 use Rattle.raft_engine.proofs.group_batches.moving_group.Goals as goal

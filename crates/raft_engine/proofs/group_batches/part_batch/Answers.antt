@@ -1,8 +1,4 @@
-use Rattle.std.proofs.Common.{inr, length, sym, ap, ◌∙◌}
-use Rattle.std.proofs.lemmas.Result.{err_from_is_err_and}
-use Rattle.raft_records.specs.Entries.{strings_in}
-use Rattle.raft_records.specs.ItemBatch.{entry_lengths}
-use Rattle.raft_records.specs.LogBatch.{Batch}
+use Rattle.raft_engine.proofs.Common.{inr, length, sym, ap, ◌∙◌, err_from_is_err_and, strings_in, entry_lengths, Batch}
 use Rattle.raft_engine.proofs.UnmovedLemmas.{joined_refused}
 use Rattle.raft_engine.proofs.group_batches.part_batch.Goals as goal
 

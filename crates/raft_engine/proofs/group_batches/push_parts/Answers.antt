@@ -1,8 +1,4 @@
-use Rattle.std.proofs.lemmas.Result.{err_from_is_err_and}
-use Rattle.std.proofs.Common.{rules, ◌≡◌, ◌≢◌, ℕ, List, [], sym, ◌∙◌, subst}
-use Rattle.raft_base.specs.Runs.{IsConsecutive}
-use Rattle.raft_base.specs.declared.entry_index.EntryIndex.{EntryIndex}
-use Rattle.raft_engine.specs.GroupParts.{IsPartRead, IsPartRefused}
+use Rattle.raft_engine.proofs.Common.{err_from_is_err_and, rules, ◌≡◌, ◌≢◌, ℕ, List, [], sym, ◌∙◌, subst, IsConsecutive, EntryIndex, IsPartRead, IsPartRefused}
 use Rattle.raft_engine.proofs.PartLemmas.{ArePartsSoFar, both_read, prefix_consecutive, part_more, parts_added, parts_refused, so_far_only}
 use Rattle.raft_engine.proofs.ReadKept.{read_only}
 use Rattle.raft_engine.proofs.RewrittenRegions.{on_any}

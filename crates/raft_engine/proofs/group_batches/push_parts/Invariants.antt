@@ -1,5 +1,4 @@
-use Rattle.std.proofs.Common.{◌≡◌, length}
-use Rattle.raft_records.specs.Group.{IsRunning}
+use Rattle.raft_engine.proofs.Common.{◌≡◌, length, IsRunning}
 use Rattle.raft_engine.proofs.PartLemmas.{ArePartsSoFar}
 use Rattle.raft_engine.proofs.group_batches.push_parts.Given as goal
 

@@ -1,5 +1,4 @@
-use Rattle.std.proofs.Common.{rules, ◌≤◌, ◌^◌, refl}
-use Rattle.raft_engine.specs.StoredAsks.{IsWritableBatch}
+use Rattle.raft_engine.proofs.Common.{rules, ◌≤◌, ◌^◌, refl, IsWritableBatch}
 use Rattle.raft_engine.proofs.GroupPutLemmas.{next_some, one_made}
 use Rattle.raft_engine.proofs.group_puts.encode_all.Goals as goal
 

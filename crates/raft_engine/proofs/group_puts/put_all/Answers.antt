@@ -1,5 +1,4 @@
-use Rattle.std.proofs.lemmas.Result.{err_from_is_err_and}
-use Rattle.std.proofs.Common.{arith, refl}
+use Rattle.raft_engine.proofs.Common.{err_from_is_err_and, arith, refl}
 use Rattle.raft_engine.proofs.GroupPutLemmas.{fails_at, low_at, made_at, may_put_at, one_put_at, size_at}
 use Rattle.raft_engine.proofs.group_puts.put_all.Goals as goal
 

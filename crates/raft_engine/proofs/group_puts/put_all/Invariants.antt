@@ -1,4 +1,4 @@
-use Rattle.std.proofs.Common.{take, drop}
+use Rattle.raft_engine.proofs.Common.{take, drop}
 use Rattle.raft_engine.proofs.GroupPutLemmas.{ArePutSoFar}
 use Rattle.raft_engine.proofs.group_puts.put_all.Given as goal
 

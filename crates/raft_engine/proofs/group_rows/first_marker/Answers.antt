@@ -1,6 +1,4 @@
-use Rattle.std.proofs.Common.{◌+◌, ◌∷◌, List, drop, map, subst, sym, ap, ◌∙◌}
-use Rattle.std.proofs.lemmas.List.{drop_more, drop_all}
-use Rattle.raft_records.specs.Item.{item_of}
+use Rattle.raft_engine.proofs.Common.{◌+◌, ◌∷◌, List, drop, map, subst, sym, ap, ◌∙◌, drop_more, drop_all, item_of}
 use Rattle.raft_engine.proofs.MarkerLemmas.{IsMarkerAhead, found_some, none_found, passed_none}
 use Rattle.raft_engine.proofs.group_rows.first_marker.Goals as goal
 

@@ -1,5 +1,4 @@
-use Rattle.std.proofs.Common.{drop, map}
-use Rattle.raft_records.specs.Item.{item_of}
+use Rattle.raft_engine.proofs.Common.{drop, map, item_of}
 use Rattle.raft_engine.proofs.MarkerLemmas.{IsMarkerAhead}
 use Rattle.raft_engine.proofs.group_rows.first_marker.Given as goal
 

@@ -1,8 +1,5 @@
-use Rattle.std.proofs.Common.{rules}
-use Rattle.std.proofs.lemmas.Iterator.{YieldsList-from_slice, cases_from_all}
+use Rattle.raft_engine.proofs.Common.{rules, YieldsList-from_slice, cases_from_all, ReadItem, IsUnmarked}
 use borrow.Author.Tests.{tests}
-use Rattle.raft_records.specs.declared.read_batch.ReadItem.{ReadItem}
-use Rattle.raft_engine.specs.RowsShown.{IsUnmarked}
 use Rattle.raft_engine.proofs.GroupRowLemmas.{all_unmarked}
 use Rattle.raft_engine.proofs.group_rows.have_no_marker.Goals as goal
 

@@ -1,12 +1,4 @@
-use Rattle.std.proofs.lemmas.Result.{err_from_is_err_and}
-use Rattle.std.proofs.lemmas.Bool.{false≢true}
-use Rattle.std.proofs.Common.{[], refl, sym, subst, ◌∙◌, arith}
-use Rattle.std.proofs.lemmas.List.{take_all}
-use Rattle.raft_replay.specs.Segments.{CannotBeRead}
-use Rattle.raft_replay.proofs.MachineOrderLemmas.{each_more, unread_behind}
-use Rattle.raft_replay.proofs.ReplayedLemmas.{none_replayed, replayed_more}
-use Rattle.raft_replay.proofs.SegmentLemmas.{item_between, item_taken}
-use Rattle.raft_replay.proofs.Words.{PartsHold}
+use Rattle.raft_engine.proofs.Common.{err_from_is_err_and, false≢true, [], refl, sym, subst, ◌∙◌, arith, take_all, CannotBeRead, each_more, unread_behind, none_replayed, replayed_more, item_between, item_taken, PartsHold}
 use Rattle.raft_engine.proofs.GroupRowLemmas.{Summed, invalid, rows_held, rows_out}
 use Rattle.raft_engine.proofs.groups.check_groups.Goals as goal
 

@@ -1,6 +1,4 @@
-use Rattle.std.proofs.Common.{take}
-use Rattle.raft_replay.specs.Replays.{HasReplayed}
-use Rattle.raft_replay.specs.Segments.{SegmentsHold}
+use Rattle.raft_engine.proofs.Common.{take, HasReplayed, SegmentsHold}
 use Rattle.raft_engine.proofs.GroupRowLemmas.{Summed}
 use Rattle.raft_engine.proofs.groups.check_groups.Given as goal
 

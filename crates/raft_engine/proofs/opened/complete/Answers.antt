@@ -1,8 +1,4 @@
-use Rattle.std.proofs.lemmas.Result.{err_from_is_err_and}
-use Rattle.std.proofs.Common.{◌++◌, List, ap, ◌∙◌, sym, append_assoc}
-use Rattle.raft_base.specs.declared.pipe_log.LogQueue.TheVariants.{Append, Rewrite}
-use Rattle.raft_files.specs.Asks.{Ask}
-use Rattle.raft_engine.specs.OpeningAsks.{asks_that_tell, missing_asks}
+use Rattle.raft_engine.proofs.Common.{err_from_is_err_and, ◌++◌, List, ap, ◌∙◌, sym, append_assoc, Append, Rewrite, Ask, asks_that_tell, missing_asks}
 use Rattle.raft_engine.proofs.AskedLemmas.{more_failed, part_failed, some_failed}
 use Rattle.raft_engine.proofs.opened.complete.Goals as goal
 

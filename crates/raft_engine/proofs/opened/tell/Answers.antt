@@ -1,10 +1,4 @@
-use Rattle.std.proofs.lemmas.Result.{err_from_is_err_and}
-use Rattle.std.proofs.Common.{rules, ◌≡◌, ◌≢◌, ◌∷◌, [], ap, ◌∙◌}
-use Rattle.raft_base.specs.declared.pipe_log.FileId.{FileId}
-use Rattle.raft_base.specs.declared.pipe_log.LogFileContext.{LogFileContext}
-use Rattle.raft_base.specs.declared.pipe_log.LogQueue.TheVariants.{Rewrite}
-use Rattle.raft_files.specs.Asks.{Ask, Put, ask}
-use Rattle.raft_engine.specs.BatchBytes.{bytes_for}
+use Rattle.raft_engine.proofs.Common.{err_from_is_err_and, rules, ◌≡◌, ◌≢◌, ◌∷◌, [], ap, ◌∙◌, FileId, LogFileContext, Rewrite, Ask, Put, ask, bytes_for}
 use Rattle.raft_engine.proofs.AskedLemmas.{put_failed, told_so}
 use Rattle.raft_engine.proofs.opened.tell.Goals as goal
 

@@ -1,5 +1,4 @@
-use Rattle.std.proofs.Common.{rules, ◌<◌, length, refl}
-use Rattle.std.proofs.lemmas.Bool.{false≢true}
+use Rattle.raft_engine.proofs.Common.{rules, ◌<◌, length, refl, false≢true}
 use Rattle.raft_engine.proofs.PartLengths.{block_ends, first_is, no_block, none_first, one_of_block, whole_block}
 use Rattle.raft_engine.proofs.parts.block_len.Goals as goal
 

@@ -1,4 +1,4 @@
-use Rattle.std.proofs.Common.{rules, ◌<◌, arith, length}
+use Rattle.raft_engine.proofs.Common.{rules, ◌<◌, arith, length}
 use Rattle.raft_engine.proofs.PartLengths.{capped, more_counted}
 use Rattle.raft_engine.proofs.parts.bytes_of.Goals as goal
 

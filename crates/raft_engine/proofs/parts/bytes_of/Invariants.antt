@@ -1,5 +1,4 @@
-use Rattle.std.proofs.Common.{◌≡◌, ◌<◌, ◌^◌, take}
-use Rattle.raft_engine.specs.Parts.{bytes_of_entries}
+use Rattle.raft_engine.proofs.Common.{◌≡◌, ◌<◌, ◌^◌, take, bytes_of_entries}
 use Rattle.raft_engine.proofs.parts.bytes_of.Given as goal
 
 abbrev pub invariant-loop-entry : goal.invariant-loop-entry

@@ -1,6 +1,4 @@
-use Rattle.std.proofs.Common.{rules, ◌≡◌, ◌≢◌, ◌+◌, ◌<◌, ◌≤◌, [], length, refl, sym, ◌∙◌, subst, arith}
-use Rattle.std.proofs.lemmas.Bool.{eqb-true}
-use Rattle.raft_engine.specs.Parts.{IsCapped}
+use Rattle.raft_engine.proofs.Common.{rules, ◌≡◌, ◌≢◌, ◌+◌, ◌<◌, ◌≤◌, [], length, refl, sym, ◌∙◌, subst, arith, eqb-true, IsCapped}
 use Rattle.raft_engine.proofs.PartLengths.{all_behind, all_in_part, none_in_part, none_left, one_more_block, part_is_full, some_left}
 use Rattle.raft_engine.proofs.parts.part_len.Goals as goal
 use Rattle.raft_engine.proofs.parts.part_len.Goals.{else-len-gt0-via-then-len-gt0+else-bytes-gt-MAX_REWRITE_BATCH_BYTES, else-len-gt0-via-else-len-gt0}

@@ -1,4 +1,4 @@
-use Rattle.std.proofs.Common.{◌≡◌, length, drop}
+use Rattle.raft_engine.proofs.Common.{◌≡◌, length, drop}
 use Rattle.raft_engine.proofs.PartLengths.{ArePartSoFar}
 use Rattle.raft_engine.proofs.parts.part_len.Given as goal
 

@@ -1,5 +1,4 @@
-use Rattle.std.proofs.Common.{◌≡◌, ◌+◌, drop}
-use Rattle.raft_engine.specs.Purged.{front_below}
+use Rattle.raft_engine.proofs.Common.{◌≡◌, ◌+◌, drop, front_below}
 use Rattle.raft_engine.proofs.purge.count_below.Given as goal
 
 -- all so far are below, and those that are left decide

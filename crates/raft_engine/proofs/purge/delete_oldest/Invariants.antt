@@ -1,5 +1,4 @@
-use Rattle.std.proofs.Common.{◌≡◌, ◌++◌}
-use Rattle.raft_engine.specs.Purged.{delete_asks}
+use Rattle.raft_engine.proofs.Common.{◌≡◌, ◌++◌, delete_asks}
 use Rattle.raft_engine.proofs.purge.delete_oldest.Given as goal
 
 -- one file for each turn was deleted

@@ -1,5 +1,4 @@
-use Rattle.std.proofs.Common.{◌≡◌, drop, map}
-use Rattle.raft_engine.specs.Purged.{least_among}
+use Rattle.raft_engine.proofs.Common.{◌≡◌, drop, map, least_among}
 use Rattle.raft_engine.proofs.purge.least_among.Given as goal
 
 -- the least so far and the tables that are left decide

@@ -1,5 +1,4 @@
-use Rattle.std.proofs.Common.{map, subst, sym}
-use Rattle.raft_engine.specs.Purged.{IsLeastNeeded}
+use Rattle.raft_engine.proofs.Common.{map, subst, sym, IsLeastNeeded}
 use Rattle.raft_engine.proofs.NeededLemmas.{least_needed}
 use Rattle.raft_engine.proofs.purge.least_needed.Goals as goal
 

@@ -1,9 +1,4 @@
-use Rattle.std.proofs.Common.{◌≡◌, ℕ, List, ap, subst, ◌∙◌}
-use Rattle.std.proofs.lemmas.Result.{err_from_is_err_and}
-use Rattle.raft_base.specs.Signature.{signature_of}
-use Rattle.raft_records.specs.LogBatch.{Batch, log_batch_bytes, sealed}
-use Rattle.raft_files.specs.Asks.{MayBeAsked, Put, ask}
-use Rattle.raft_engine.specs.BatchBytes.{bytes_for}
+use Rattle.raft_engine.proofs.Common.{◌≡◌, ℕ, List, ap, subst, ◌∙◌, err_from_is_err_and, signature_of, Batch, log_batch_bytes, sealed, MayBeAsked, Put, ask, bytes_for}
 use Rattle.raft_engine.proofs.put.put.Goals as goal
 
 pub returns-in_err-append-clause-err : goal.returns-in_err-append-clause-err

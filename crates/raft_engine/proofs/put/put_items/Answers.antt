@@ -1,4 +1,4 @@
-use Rattle.std.proofs.Common.{rules, ◌≢◌, []}
+use Rattle.raft_engine.proofs.Common.{rules, ◌≢◌, []}
 use Rattle.raft_engine.proofs.FaultLemmas.{put_so}
 use Rattle.raft_engine.proofs.put.put_items.Goals as goal
 

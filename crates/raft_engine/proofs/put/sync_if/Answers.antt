@@ -1,4 +1,4 @@
-use Rattle.std.proofs.Common.{rules, ◌≡◌, true}
+use Rattle.raft_engine.proofs.Common.{rules, ◌≡◌, true}
 use Rattle.raft_engine.proofs.FaultLemmas.{sync_so}
 use Rattle.raft_engine.proofs.put.sync_if.Goals as goal
 

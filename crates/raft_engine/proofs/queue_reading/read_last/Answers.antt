@@ -1,6 +1,4 @@
-use Rattle.std.proofs.Common.{◌∷◌, [], IfOk, subst}
-use Rattle.raft_records.specs.FilePart.{Part}
-use Rattle.raft_engine.specs.ReadQueues.{IsReplayedTo}
+use Rattle.raft_engine.proofs.Common.{◌∷◌, [], IfOk, subst, Part, IsReplayedTo}
 use Rattle.raft_engine.proofs.ReadQueueLemmas.{merged_last, only_last}
 use Rattle.raft_engine.proofs.queue_reading.read_last.Goals as goal
 

@@ -1,4 +1,4 @@
-use Rattle.std.proofs.Common.{◌≡◌, ◌+◌, ℕ, arith, length, refl}
+use Rattle.raft_engine.proofs.Common.{◌≡◌, ◌+◌, ℕ, arith, length, refl}
 use Rattle.raft_engine.proofs.ReadQueueLemmas.{front_of, last_file, last_read, last_whole_file}
 use Rattle.raft_engine.proofs.queue_reading.read_queue.Goals as goal
 

@@ -1,4 +1,4 @@
-use Rattle.std.proofs.Common.{arith}
+use Rattle.raft_engine.proofs.Common.{arith}
 use Rattle.raft_engine.proofs.ReadQueueLemmas.{same_replayed}
 use Rattle.raft_engine.proofs.queue_reading.replay_shares.Goals as goal
 

@@ -1,10 +1,4 @@
-use Rattle.std.proofs.Common.{◌≡◌, [], ◌∷◌, refl, arith}
-use Rattle.raft_records.specs.FilePart.{part_of}
-use Rattle.raft_records.proofs.PartLemmas.{batch_inside}
-use Rattle.raft_history.specs.ReplayMachine.{event}
-use Rattle.raft_replay.specs.Replays.{HasReplayed}
-use Rattle.raft_replay.proofs.ReplayedLemmas.{none_replayed, replayed_more}
-use Rattle.raft_replay.proofs.StopLemmas.{longer_front}
+use Rattle.raft_engine.proofs.Common.{◌≡◌, [], ◌∷◌, refl, arith, part_of, batch_inside, event, HasReplayed, none_replayed, replayed_more, longer_front}
 use Rattle.raft_engine.proofs.readable_replay.replay_readable.Goals as goal
 
 pub loop-next-init : goal.loop-next-init

@@ -1,7 +1,4 @@
-use Rattle.std.proofs.Common.{◌-◌, ◌≤◌, length}
-use Rattle.raft_records.specs.FilePart.{part_of}
-use Rattle.raft_replay.specs.Replays.{HasReplayed}
-use Rattle.raft_engine.specs.ReadQueues.{IsHistoryUpTo}
+use Rattle.raft_engine.proofs.Common.{◌-◌, ◌≤◌, length, part_of, HasReplayed, IsHistoryUpTo}
 use Rattle.raft_engine.proofs.readable_replay.replay_readable.Given as goal
 
 abbrev pub invariant-loop-next : goal.invariant-loop-next

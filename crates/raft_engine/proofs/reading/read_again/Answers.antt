@@ -1,8 +1,4 @@
-use Rattle.std.proofs.lemmas.Result.{err_from_is_err_and}
-use Rattle.std.proofs.Common.{inl, inr}
-use Rattle.raft_base.specs.declared.pipe_log.LogQueue.TheVariants.{Append, Rewrite}
-use Rattle.raft_engine.specs.Unopened.{AreUnrecoveredAs}
-use Rattle.raft_engine.specs.FoundQueues.{left_by}
+use Rattle.raft_engine.proofs.Common.{err_from_is_err_and, inl, inr, Append, Rewrite, AreUnrecoveredAs, left_by}
 use Rattle.raft_engine.proofs.RecoveredLemmas.{any_refusal, of_slice, out_of_rows, read_sound, reading_refused, replayed_by, unreadable_as}
 use Rattle.raft_engine.proofs.reading.read_again.Goals as goal
 

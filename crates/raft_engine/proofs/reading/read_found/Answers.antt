@@ -1,9 +1,4 @@
-use Rattle.std.proofs.lemmas.Result.{err_from_is_err_and}
-use Rattle.std.proofs.Common.{inl, inr, map, sym, subst}
-use Rattle.raft_base.specs.declared.pipe_log.LogQueue.TheVariants.{Append, Rewrite}
-use Rattle.raft_files.specs.HeldFiles.{file_shown}
-use Rattle.raft_recover.specs.Files.{AreWholeFiles}
-use Rattle.raft_engine.specs.Unopened.{AreUnrecoveredAs}
+use Rattle.raft_engine.proofs.Common.{err_from_is_err_and, inl, inr, map, sym, subst, Append, Rewrite, file_shown, AreWholeFiles, AreUnrecoveredAs}
 use Rattle.raft_engine.proofs.RecoveredLemmas.{both_read_by, reading_refused}
 use Rattle.raft_engine.proofs.reading.read_found.Goals as goal
 

@@ -1,10 +1,4 @@
-use Rattle.std.proofs.lemmas.Result.{err_from_is_err_and}
-use Rattle.std.proofs.Common.{inl, inr, map, [], ◌++◌}
-use Rattle.raft_base.specs.declared.pipe_log.LogQueue.TheVariants.{Append, Rewrite}
-use Rattle.raft_files.specs.HeldFiles.{file_shown}
-use Rattle.raft_engine.specs.FoundQueues.{left_by}
-use Rattle.raft_engine.specs.OpeningAsks.{missing_asks}
-use Rattle.raft_engine.specs.Unopened.{AreUngroupedAs}
+use Rattle.raft_engine.proofs.Common.{err_from_is_err_and, inl, inr, map, [], ◌++◌, Append, Rewrite, file_shown, left_by, missing_asks, AreUngroupedAs}
 use Rattle.raft_engine.proofs.RecoveredLemmas.{any_refusal, of_slice, out_of_rows, read_by, read_sound, reading_refused}
 use Rattle.raft_engine.proofs.RestartLemmas.{ready_held}
 use Rattle.raft_engine.proofs.reading.read_over.Goals as goal

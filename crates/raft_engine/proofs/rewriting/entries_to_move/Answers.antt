@@ -1,4 +1,4 @@
-use Rattle.std.proofs.Common.{Some, None}
+use Rattle.raft_engine.proofs.Common.{Some, None}
 use Rattle.raft_engine.proofs.FetchedLemmas.{fetched_consecutive}
 use Rattle.raft_engine.proofs.rewriting.entries_to_move.Goals as goal
 

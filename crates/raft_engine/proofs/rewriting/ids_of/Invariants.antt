@@ -1,4 +1,4 @@
-use Rattle.std.proofs.Common.{◌≡◌, ◌++◌, drop, map}
+use Rattle.raft_engine.proofs.Common.{◌≡◌, ◌++◌, drop, map}
 use Rattle.raft_engine.proofs.rewriting.ids_of.Given as goal
 
 -- the ids so far, and those of the tables that are left, are those of all

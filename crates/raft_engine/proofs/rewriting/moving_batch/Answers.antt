@@ -1,8 +1,4 @@
-use Rattle.std.proofs.lemmas.Result.{err_from_is_err_and}
-use Rattle.std.proofs.Common.{inl, inr, length, sym, ap, ◌∙◌}
-use Rattle.raft_records.specs.ItemBatch.{entry_lengths}
-use Rattle.raft_records.specs.LogBatch.{Batch}
-use Rattle.raft_table.specs.KeyValues.{pairs_shown}
+use Rattle.raft_engine.proofs.Common.{err_from_is_err_and, inl, inr, length, sym, ap, ◌∙◌, entry_lengths, Batch, pairs_shown}
 use Rattle.raft_engine.proofs.ReadKept.{read_only, unread_only}
 use Rattle.raft_engine.proofs.RewrittenRegions.{on_any}
 use Rattle.raft_engine.proofs.UnmovedLemmas.{entries_refused, joined_refused, records_refused}

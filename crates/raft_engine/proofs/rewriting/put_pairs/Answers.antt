@@ -1,6 +1,4 @@
-use Rattle.std.proofs.lemmas.Result.{err_from_is_err_and}
-use Rattle.std.proofs.Common.{ap}
-use Rattle.raft_table.specs.KeyValues.{pairs_shown}
+use Rattle.raft_engine.proofs.Common.{err_from_is_err_and, ap, pairs_shown}
 use Rattle.raft_engine.proofs.PutLemmas.{key_refused, one_put}
 use Rattle.raft_engine.proofs.rewriting.put_pairs.Goals as goal
 

@@ -1,4 +1,4 @@
-use Rattle.raft_table.specs.KeyValues.{pairs_shown}
+use Rattle.raft_engine.proofs.Common.{pairs_shown}
 use Rattle.raft_engine.proofs.PutLemmas.{ArePutSo}
 use Rattle.raft_engine.proofs.rewriting.put_pairs.Given as goal
 

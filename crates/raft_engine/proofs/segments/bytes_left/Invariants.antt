@@ -1,5 +1,4 @@
-use Rattle.std.proofs.Common.{◌≡◌, ◌+◌, drop}
-use Rattle.raft_replay.specs.WrittenParts.{bytes_of_parts}
+use Rattle.raft_engine.proofs.Common.{◌≡◌, ◌+◌, drop, bytes_of_parts}
 use Rattle.raft_engine.proofs.segments.bytes_left.Given as goal
 
 abbrev pub invariant-loop-part : goal.invariant-loop-part

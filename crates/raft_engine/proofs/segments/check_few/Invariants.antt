@@ -1,5 +1,4 @@
-use Rattle.std.proofs.Common.{◌≡◌, ◌+◌, ◌<◌, ◌^◌, drop}
-use Rattle.raft_replay.specs.WrittenParts.{bytes_of_segments}
+use Rattle.raft_engine.proofs.Common.{◌≡◌, ◌+◌, ◌<◌, ◌^◌, drop, bytes_of_segments}
 use Rattle.raft_engine.proofs.segments.check_few.Given as goal
 
 abbrev pub invariant-loop-segment : goal.invariant-loop-segment

@@ -1,7 +1,4 @@
-use Rattle.std.proofs.Common.{Option, ap}
-use Rattle.raft_base.specs.Runs.{end_of}
-use Rattle.raft_table.specs.Steps.{table_of}
-use Rattle.raft_table.specs.Table.{Table}
+use Rattle.raft_engine.proofs.Common.{Option, ap, end_of, table_of, Table}
 use Rattle.raft_engine.proofs.untold.end_in.Goals as goal
 
 pub returns-in-None : goal.returns-in-None

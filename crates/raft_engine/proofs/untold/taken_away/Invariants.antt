@@ -1,7 +1,4 @@
-use Rattle.std.proofs.Common.{◌≡◌, ◌++◌, drop, map}
-use Rattle.raft_records.specs.Item.{item_of}
-use Rattle.raft_records.specs.LogBatch.{empty_batch}
-use Rattle.raft_engine_laws.specs.Telling.{taking_items, told_items}
+use Rattle.raft_engine.proofs.Common.{◌≡◌, ◌++◌, drop, map, item_of, empty_batch, taking_items, told_items}
 use Rattle.raft_engine.proofs.untold.taken_away.Given as goal
 
 -- what is told so far, and what is told of the items that are left, is told of all

@@ -1,9 +1,5 @@
-use Rattle.std.specs.Prelude.{[]}
+use Rattle.raft_engine_laws.proofs.Common.{[], table_of, batches, steps_of, steps_on, steps_of_items}
 use Rattle.std.specs.FinMap as finite
-use Rattle.raft_table.specs.Steps.{table_of}
-use Rattle.raft_history.specs.Batches.{batches}
-use Rattle.raft_history.specs.Effects.{steps_of}
-use Rattle.raft_history.specs.RegionSteps.{steps_on, steps_of_items}
 use Rattle.raft_engine_laws.proofs.SafeOpenings.{base, safe_told, while_told, at_first, safe_at_once, safe_later, safe_mixed, while_mixed}
 use Rattle.raft_engine_laws.proofs.crashes.opening_is_safe.Goals as goal
 

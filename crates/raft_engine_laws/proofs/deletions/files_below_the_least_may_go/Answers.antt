@@ -1,4 +1,4 @@
-use Rattle.std.proofs.Common.{[], ◌++◌, refl}
+use Rattle.raft_engine_laws.proofs.Common.{[], ◌++◌, refl}
 use Rattle.raft_engine_laws.proofs.AppendDeletions.{shorter}
 use Rattle.raft_engine_laws.proofs.GroupFronts.{none_across}
 use Rattle.raft_engine_laws.proofs.NeededFiles.{append_needs, rewrite_needs}

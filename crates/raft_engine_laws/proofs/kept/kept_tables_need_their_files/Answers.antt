@@ -1,4 +1,4 @@
-use Rattle.std.proofs.Common.{[], refl}
+use Rattle.raft_engine_laws.proofs.Common.{[], refl}
 use Rattle.raft_engine_laws.proofs.NeededFiles.{append_needs, rewrite_needs}
 use Rattle.raft_engine_laws.proofs.kept.kept_tables_need_their_files.Goals as goal
 

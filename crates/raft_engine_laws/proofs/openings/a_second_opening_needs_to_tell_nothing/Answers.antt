@@ -1,4 +1,4 @@
-use Rattle.std.specs.Prelude.{[]}
+use Rattle.raft_engine_laws.proofs.Common.{[]}
 use Rattle.raft_engine_laws.proofs.OpenedFiles.{nothing_again}
 use Rattle.raft_engine_laws.proofs.openings.a_second_opening_needs_to_tell_nothing.Goals as goal
 

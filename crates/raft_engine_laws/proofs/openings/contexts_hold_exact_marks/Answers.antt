@@ -1,5 +1,4 @@
-use Rattle.std.specs.Prelude.{refl}
-use Rattle.raft_base.specs.declared.pipe_log.LogQueue.TheVariants.{Append}
+use Rattle.raft_engine_laws.proofs.Common.{refl, Append}
 use Rattle.raft_engine_laws.proofs.openings.contexts_hold_exact_marks.Goals as goal
 
 pub returns : goal.returns

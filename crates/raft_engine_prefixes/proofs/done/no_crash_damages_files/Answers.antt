@@ -1,4 +1,4 @@
-use Rattle.std.proofs.Common.{[], ◌∷◌, ◌++◌, refl}
+use Rattle.raft_engine_prefixes.proofs.Common.{[], ◌∷◌, ◌++◌, refl}
 use Rattle.raft_engine_prefixes.proofs.UndamagedLemmas.{left_undamaged}
 use Rattle.raft_engine_prefixes.proofs.done.no_crash_damages_files.Goals as goal
 

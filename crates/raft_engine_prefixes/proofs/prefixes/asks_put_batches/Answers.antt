@@ -1,4 +1,4 @@
-use Rattle.std.proofs.Common.{refl}
+use Rattle.raft_engine_prefixes.proofs.Common.{refl}
 use Rattle.raft_engine_prefixes.proofs.StepLemmas.{written, began, synced_all, cut_off, deleted_one, read_one, unsynced_one, one_history}
 use Rattle.raft_engine_prefixes.proofs.prefixes.asks_put_batches.Goals as goal
 

@@ -1,5 +1,4 @@
-use Rattle.std.proofs.Common.{◌<◌, ◌≤◌}
-use Rattle.raft_base.specs.declared.pipe_log.FileId.{FileId}
+use Rattle.raft_engine_prefixes.proofs.Common.{◌<◌, ◌≤◌, FileId}
 use Rattle.raft_engine_prefixes.proofs.FileLemmas.{files_fine}
 use Rattle.raft_engine_prefixes.proofs.prefixes.batches_lie_in_their_files.Goals as goal
 

@@ -1,8 +1,8 @@
-use Rattle.raft_ffi.proofs.Common.{◌∙◌, refl, AreRewritesUnpurged}
+use Rattle.raft_ffi.proofs.Common.{◌∙◌, refl, HandedFails, AreRewritesUnpurged}
 use Rattle.raft_ffi.proofs.CodeLemmas.{refused_both}
 use Rattle.raft_ffi.proofs.engine_calls.raft_ffi_engine_purge_rewrite_files.Goals as goal
 
 pub returns-clause-err : goal.returns-clause-err
 returns-clause-err c =
-    refused_both AreRewritesUnpurged c.purge_rewrite_files-answer.result c.answered_with.result.code c.take-held.ensures.value c.put.ensures (c.behind-held.view_is ∙ c.deref_mut.ensures.value) refl
+    refused_both (AreRewritesUnpurged HandedFails) c.purge_rewrite_files-answer.result c.answered_with.result.code c.take-held.ensures.value c.put.ensures (c.behind-held.view_is ∙ c.deref_mut.ensures.value) refl
     c.purge_rewrite_files-answer.ensures.err c.answered_with.ensures.ok c.answered_with.ensures.err

@@ -1,4 +1,4 @@
-use Rattle.raft_ffi.proofs.Common.{◌∙◌, IfErr, OnOk, subst, AreAcceptedOncePlaced, Batch, KeptEngine, IsUnwritten}
+use Rattle.raft_ffi.proofs.Common.{◌∙◌, IfErr, OnOk, subst, AreAcceptedOncePlaced, Batch, KeptEngine, HandedFails, IsUnwritten}
 use Rattle.raft_ffi.proofs.CodeLemmas.{passed, refusal}
 use Rattle.raft_ffi.proofs.engine_calls.raft_ffi_engine_write.Goals as goal
 
@@ -19,7 +19,7 @@ returns-clause-err c = λ some.
     let batch = c.take-written.result.value in
     let left = c.write-answer.new.batch in
     let fault =
-    subst (λ (b : Batch). IfErr c.write-answer.result (IsUnwritten c.args.sync b left old new)) c.deref_mut-2.ensures.value
-    (subst (λ (o : KeptEngine). IfErr c.write-answer.result (IsUnwritten c.args.sync c.deref_mut-2.result.now left o new)) (c.behind-held.view_is ∙ c.deref_mut.ensures.value) c.write-answer.ensures.err) in
+    subst (λ (b : Batch). IfErr c.write-answer.result (IsUnwritten HandedFails c.args.sync b left old new)) c.deref_mut-2.ensures.value
+    (subst (λ (o : KeptEngine). IfErr c.write-answer.result (IsUnwritten HandedFails c.args.sync c.deref_mut-2.result.now left o new)) (c.behind-held.view_is ∙ c.deref_mut.ensures.value) c.write-answer.ensures.err) in
     rw (c.take-held.ensures.value, c.put-2.ensures, c.take-written.ensures.value, c.put.ensures)
-    (refusal c.write-answer.result c.answered.result.code (IsUnwritten c.args.sync batch left old new) c.answered.ensures.ok c.answered.ensures.err fault some)
+    (refusal c.write-answer.result c.answered.result.code (IsUnwritten HandedFails c.args.sync batch left old new) c.answered.ensures.ok c.answered.ensures.err fault some)

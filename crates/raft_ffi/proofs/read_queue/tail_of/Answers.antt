@@ -1,7 +1,6 @@
-use Rattle.std.proofs.Common.{◌≡◌, ◌∙◌, inl, inr, refl, ap, arith, length, List, ℕ}
+use Rattle.std.proofs.Common.{◌∙◌, inl, inr, refl, ap, arith, length, List, ℕ}
 use Rattle.std.proofs.lemmas.List.{nil_from_length}
 use Rattle.std.proofs.lemmas.Result.{err_from_is_err_and}
-use Rattle.raft_records.specs.FilePart.{Part}
 use Rattle.raft_ffi.proofs.ReadLemmas.{front_refused, front_torn, front_whole}
 use Rattle.raft_ffi.proofs.read_queue.tail_of.Goals as goal
 

@@ -1,5 +1,4 @@
-use Rattle.std.proofs.Common.{refl}
-use Rattle.raft_base.specs.declared.pipe_log.LogQueue.TheVariants.{Append, Rewrite}
+use Rattle.raft_files.proofs.Common.{refl, Append, Rewrite}
 use Rattle.raft_files.proofs.LeftLemmas.{whole_left, synced_left, found_left, put_left, read_left, unsynced_left, other_left}
 use Rattle.raft_files.proofs.laws.files_that_are_left.Goals as goal
 

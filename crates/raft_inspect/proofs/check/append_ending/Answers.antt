@@ -1,7 +1,4 @@
-use Rattle.std.proofs.Common.{◌++◌, codes, string_bytes}
-use Rattle.std.proofs.lemmas.Result.{on_ok_weaker}
-use Rattle.raft_base.specs.declared.pipe_log.LogQueue.TheVariants.{Append, Rewrite}
-use Rattle.raft_inspect.specs.Printed.{empty_line, opening_text, verdict_word}
+use Rattle.raft_inspect.proofs.Common.{◌++◌, codes, string_bytes, on_ok_weaker, Append, Rewrite, empty_line, opening_text, verdict_word}
 use Rattle.raft_inspect.proofs.TextLemmas.{four_added}
 use Rattle.raft_inspect.proofs.check.append_ending.Goals as goal
 

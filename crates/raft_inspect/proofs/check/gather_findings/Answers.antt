@@ -1,10 +1,4 @@
-use Rattle.std.proofs.Common.{inr, List, subst}
-use Rattle.raft_replay.proofs.Passed.{on_passed}
-use Rattle.raft_base.specs.declared.pipe_log.LogQueue.TheVariants.{Append, Rewrite}
-use Rattle.raft_reading.specs.declared.queue_files.FileSize.{FileSize}
-use Rattle.raft_survey.specs.FileScans.{AreScansOf}
-use Rattle.raft_survey.specs.FileWalks.{IsOneUnread}
-use Rattle.raft_inspect.specs.Faults.{IsUnprintedFor}
+use Rattle.raft_inspect.proofs.Common.{inr, List, subst, on_passed, Append, Rewrite, FileSize, AreScansOf, IsOneUnread, IsUnprintedFor}
 use Rattle.raft_inspect.proofs.FaultLemmas.{of_append, of_rewrite}
 use Rattle.raft_inspect.proofs.FoundLemmas.{checked}
 use Rattle.raft_inspect.proofs.PrintedLemmas.{both_printed}

@@ -1,5 +1,4 @@
-use Rattle.raft_replay.proofs.Passed.{on_passed}
-use Rattle.raft_inspect.specs.Faults.{IsUnchecked}
+use Rattle.raft_inspect.proofs.Common.{on_passed, IsUnchecked}
 use Rattle.raft_inspect.proofs.FaultLemmas.{for_none}
 use Rattle.raft_inspect.proofs.PrintedLemmas.{whole_check}
 use Rattle.raft_inspect.proofs.check.print_check.Goals as goal

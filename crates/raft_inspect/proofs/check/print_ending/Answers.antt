@@ -1,13 +1,10 @@
-use Rattle.std.proofs.Common.{◌≡◌, ◌++◌, ◌∙◌, ℕ, List, ap, subst}
-use Rattle.std.proofs.lemmas.Result.{on_ok_weaker}
-use Rattle.std.specs.Io.KnownBytes.{Appends}
-use Rattle.raft_inspect.specs.PrintedForms.{ending_lines}
+use Rattle.raft_inspect.proofs.Common.{◌≡◌, ◌++◌, ◌∙◌, ℕ, List, ap, subst, on_ok_weaker, Appends, ending_lines}
 use Rattle.raft_inspect.proofs.check.print_ending.Goals as goal
 
 pub returns-clause-ok : goal.returns-clause-ok
 returns-clause-ok g c =
     let lines = ending_lines c.args.form c.args.found.now in
-    let all : c.as_str.result.now ≡ lines = c.as_str.ensures.value ∙ c.in_ok-append_ending_as.ensures ∙ ap (λ (t : List ℕ). t ++ lines) c.new-text.ensures.bytes in
+    let all : c.as_str.result.now ≡ lines = c.as_str.ensures.value ∙ c.in_ok-append_ending_in_form.ensures ∙ ap (λ (t : List ℕ). t ++ lines) c.new-text.ensures.bytes in
     on_ok_weaker c.write_text.result
     (λ written. subst (λ (t : List ℕ). Appends (g.W.Write.contents c.args.out.now) (g.W.Write.contents c.write_text.new.out) t) all written)
     c.write_text.ensures.ok

@@ -1,8 +1,4 @@
-use Rattle.std.proofs.Common.{◌+◌, List, drop, subst}
-use Rattle.std.proofs.lemmas.List.{drop_more, drop_all}
-use Rattle.std.proofs.lemmas.List.Elements.{Contains-get_or}
-use Rattle.raft_replay.proofs.Passed.{on_passed}
-use Rattle.raft_reading.specs.declared.queue_files.FileSize.{FileSize}
+use Rattle.raft_inspect.proofs.Common.{◌+◌, List, drop, subst, drop_more, drop_all, Contains-get_or, on_passed, FileSize}
 use Rattle.raft_inspect.proofs.FaultLemmas.{of_queue}
 use Rattle.raft_inspect.proofs.PrintedLemmas.{IsPrinting, all_printed, all_written, one_printed}
 use Rattle.raft_inspect.proofs.check.print_scans.Goals as goal

@@ -1,4 +1,4 @@
-use Rattle.std.proofs.Common.{drop}
+use Rattle.raft_inspect.proofs.Common.{drop}
 use Rattle.raft_inspect.proofs.PrintedLemmas.{IsPrinting}
 use Rattle.raft_inspect.proofs.check.print_scans.Given as goal
 

@@ -1,5 +1,4 @@
-use Rattle.raft_replay.proofs.Passed.{on_passed}
-use Rattle.raft_survey.specs.FileWalks.{IsFileUnread}
+use Rattle.raft_inspect.proofs.Common.{on_passed, IsFileUnread}
 use Rattle.raft_inspect.proofs.FaultLemmas.{for_none}
 use Rattle.raft_inspect.proofs.check.scan_and_print.Goals as goal
 

@@ -1,5 +1,4 @@
-use Rattle.std.proofs.Common.{inl, inr, refl}
-use Rattle.raft_replay.proofs.Passed.{on_passed}
+use Rattle.raft_inspect.proofs.Common.{inl, inr, refl, on_passed}
 use Rattle.raft_inspect.proofs.CutLemmas.{none_cut}
 use Rattle.raft_inspect.proofs.cut.cut_as_opened.Goals as goal
 

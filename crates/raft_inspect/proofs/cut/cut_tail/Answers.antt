@@ -1,4 +1,4 @@
-use Rattle.raft_files.specs.Asks.{Cut, ask}
+use Rattle.raft_inspect.proofs.Common.{Cut, ask}
 use Rattle.raft_inspect.proofs.CutLemmas.{one_failed}
 use Rattle.raft_inspect.proofs.cut.cut_tail.Goals as goal
 

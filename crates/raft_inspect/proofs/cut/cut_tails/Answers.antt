@@ -1,6 +1,4 @@
-use Rattle.raft_replay.proofs.Passed.{on_passed}
-use Rattle.raft_base.specs.declared.pipe_log.LogQueue.TheVariants.{Append, Rewrite}
-use Rattle.raft_inspect.specs.Cuts.{cut_asked}
+use Rattle.raft_inspect.proofs.Common.{on_passed, Append, Rewrite, cut_asked}
 use Rattle.raft_inspect.proofs.CutLemmas.{first_failed}
 use Rattle.raft_inspect.proofs.cut.cut_tails.Goals as goal
 

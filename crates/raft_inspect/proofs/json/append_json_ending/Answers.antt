@@ -1,9 +1,4 @@
-use Rattle.std.proofs.Common.{string_bytes}
-use Rattle.std.proofs.lemmas.Result.{on_ok_weaker}
-use Rattle.raft_base.specs.declared.pipe_log.LogQueue.TheVariants.{Append, Rewrite}
-use Rattle.raft_report.specs.JsonData.{json_line}
-use Rattle.raft_inspect.specs.Printed.{verdict_word}
-use Rattle.raft_inspect.specs.PrintedJson.{empty_json, opening_json, verdict_data}
+use Rattle.raft_inspect.proofs.Common.{string_bytes, on_ok_weaker, Append, Rewrite, json_line, verdict_word, empty_json, opening_json, verdict_data}
 use Rattle.raft_inspect.proofs.TextLemmas.{four_added}
 use Rattle.raft_inspect.proofs.json.append_json_ending.Goals as goal
 

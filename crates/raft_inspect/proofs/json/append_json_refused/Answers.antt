@@ -1,5 +1,4 @@
-use Rattle.std.proofs.Common.{◌≡◌, ◌++◌, ◌∙◌, ℕ, List, ap, codes, rules, string_bytes, sym}
-use Rattle.std.proofs.lemmas.Result.{on_ok_weaker}
+use Rattle.raft_inspect.proofs.Common.{◌≡◌, ◌++◌, ◌∙◌, ℕ, List, ap, codes, rules, string_bytes, sym, on_ok_weaker}
 use Rattle.raft_inspect.proofs.JsonLemmas.{refused_is}
 use Rattle.raft_inspect.proofs.json.append_json_refused.Goals as goal
 

@@ -1,4 +1,4 @@
-use Rattle.std.proofs.Common.{rules}
+use Rattle.raft_inspect.proofs.Common.{rules}
 use Rattle.raft_inspect.proofs.JsonLemmas.{tail_is}
 use Rattle.raft_inspect.proofs.json.append_json_tail.Goals as goal
 

@@ -1,4 +1,4 @@
-use Rattle.std.proofs.Common.{rules}
+use Rattle.raft_inspect.proofs.Common.{rules}
 use Rattle.raft_inspect.proofs.JsonLemmas.{uncut_is}
 use Rattle.raft_inspect.proofs.json.append_json_uncut.Goals as goal
 

@@ -1,6 +1,4 @@
-use Rattle.std.proofs.Common.{◌≡◌, ◌++◌, ◌∙◌, ◌&&◌, ℕ, List, ap, codes, rules, string_bytes, sym}
-use Rattle.std.proofs.lemmas.Result.{on_ok_weaker}
-use Rattle.raft_inspect.specs.Printed.{has_none}
+use Rattle.raft_inspect.proofs.Common.{◌≡◌, ◌++◌, ◌∙◌, ◌&&◌, ℕ, List, ap, codes, rules, string_bytes, sym, on_ok_weaker, has_none}
 use Rattle.raft_inspect.proofs.JsonLemmas.{verdict_is}
 use Rattle.raft_inspect.proofs.json.append_json_verdict.Goals as goal
 

@@ -1,7 +1,4 @@
-use Rattle.std.proofs.Common.{subst, sym}
-use Rattle.std.proofs.lemmas.Result.{IfOk-weaker}
-use Rattle.raft_inspect.specs.Openings.{IsOpeningOf}
-use Rattle.raft_inspect.specs.declared.opening.Opening.{Opening}
+use Rattle.raft_inspect.proofs.Common.{subst, sym, IfOk-weaker, IsOpeningOf, Opening}
 use Rattle.raft_inspect.proofs.OpeningLemmas.{opens_so, untried_so}
 use Rattle.raft_inspect.proofs.opening.try_opening.Goals as goal
 

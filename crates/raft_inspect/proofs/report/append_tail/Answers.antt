@@ -1,7 +1,4 @@
-use Rattle.std.proofs.Common.{◌++◌, codes, string_bytes}
-use Rattle.std.proofs.lemmas.Result.{on_ok_weaker}
-use Rattle.raft_listing.specs.Reasons.{reason_text}
-use Rattle.raft_inspect.specs.Printed.{tail_words}
+use Rattle.raft_inspect.proofs.Common.{◌++◌, codes, string_bytes, on_ok_weaker, reason_text, tail_words}
 use Rattle.raft_inspect.proofs.TextLemmas.{two_added}
 use Rattle.raft_inspect.proofs.report.append_tail.Goals as goal
 

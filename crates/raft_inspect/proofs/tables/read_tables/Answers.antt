@@ -1,4 +1,4 @@
-use Rattle.raft_replay.proofs.Passed.{on_passed}
+use Rattle.raft_inspect.proofs.Common.{on_passed}
 use Rattle.raft_inspect.proofs.OpeningLemmas.{tables_so}
 use Rattle.raft_inspect.proofs.tables.read_tables.Goals as goal
 

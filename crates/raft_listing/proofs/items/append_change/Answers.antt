@@ -1,6 +1,4 @@
-use Rattle.std.proofs.Common.{◌++◌, ℕ, List, ap, ◌∙◌, subst, string_bytes}
-use Rattle.raft_records.specs.Item.{item_of, pair_of}
-use Rattle.raft_listing.specs.Dumped.{Adds, IsShown}
+use Rattle.raft_listing.proofs.Common.{◌++◌, ℕ, List, ap, ◌∙◌, subst, string_bytes, item_of, pair_of, Adds, IsShown}
 use Rattle.raft_listing.proofs.TextLemmas.{change_text}
 use Rattle.raft_listing.proofs.items.append_change.Goals as goal
 

@@ -1,5 +1,4 @@
-use Rattle.std.proofs.Common.{map, drop, string_bytes}
-use Rattle.raft_records.specs.Item.{item_of}
+use Rattle.raft_listing.proofs.Common.{map, drop, string_bytes, item_of}
 use Rattle.raft_listing.proofs.TextLemmas.{AreItemsAdding}
 use Rattle.raft_listing.proofs.items.append_items.Given as goal
 

@@ -1,5 +1,4 @@
-use Rattle.std.proofs.Common.{string_bytes}
-use Rattle.std.proofs.lemmas.Result.{on_ok_weaker}
+use Rattle.raft_listing.proofs.Common.{string_bytes, on_ok_weaker}
 use Rattle.raft_listing.proofs.TextLemmas.{loss_added}
 use Rattle.raft_listing.proofs.items.append_loss.Goals as goal
 

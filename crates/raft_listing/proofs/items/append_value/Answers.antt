@@ -1,6 +1,4 @@
-use Rattle.std.proofs.Common.{List, ℕ, string_bytes, subst}
-use Rattle.std.proofs.lemmas.Result.{on_ok_weaker}
-use Rattle.raft_listing.specs.Dumped.{Adds, IsShown}
+use Rattle.raft_listing.proofs.Common.{List, ℕ, string_bytes, subst, on_ok_weaker, Adds, IsShown}
 use Rattle.raft_listing.proofs.TextLemmas.{value_shown}
 use Rattle.raft_listing.proofs.items.append_value.Goals as goal
 

@@ -1,6 +1,4 @@
-use Rattle.std.proofs.Common.{◌↔◌, drop}
-use Rattle.std.specs.List.{AllByRecursion}
-use Rattle.raft_listing.specs.Dumped.{IsPrintable}
+use Rattle.raft_listing.proofs.Common.{◌↔◌, drop, AllByRecursion, IsPrintable}
 use Rattle.raft_listing.proofs.shown.are_printable.Given as goal
 
 -- where those that are left are printable all are, and the other way round

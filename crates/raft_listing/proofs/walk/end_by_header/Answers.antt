@@ -1,5 +1,4 @@
-use Rattle.std.proofs.Common.{◌≡◌, ◌<◌, ◌∙◌, ℕ, List, length, drop, sym, ap, subst}
-use Rattle.raft_records.specs.FilePart.{HasHeader}
+use Rattle.raft_listing.proofs.Common.{◌≡◌, ◌<◌, ◌∙◌, ℕ, List, length, drop, sym, ap, subst, HasHeader}
 use Rattle.raft_listing.proofs.walk.end_by_header.Goals as goal
 
 pub returns-in-None-clause-none : goal.returns-in-None-clause-none

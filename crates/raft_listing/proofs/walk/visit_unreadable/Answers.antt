@@ -1,5 +1,4 @@
-use Rattle.std.proofs.Common.{refl}
-use Rattle.raft_listing.specs.Walks.{damage}
+use Rattle.raft_listing.proofs.Common.{refl, damage}
 use Rattle.raft_listing.proofs.WalkLemmas.{damage_met}
 use Rattle.raft_listing.proofs.walk.visit_unreadable.Goals as goal
 

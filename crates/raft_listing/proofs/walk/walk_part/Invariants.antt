@@ -1,4 +1,4 @@
-use Rattle.std.proofs.Common.{◌-◌, length}
+use Rattle.raft_listing.proofs.Common.{◌-◌, length}
 use Rattle.raft_listing.proofs.WalkLemmas.{IsWalking}
 use Rattle.raft_listing.proofs.walk.walk_part.Given as goal
 

@@ -1,6 +1,4 @@
-use Rattle.std.proofs.Common.{inl, inr}
-use Rattle.std.proofs.lemmas.Result.{IfErr-weaker, err_from_is_err_and}
-use Rattle.raft_engine.proofs.RecoveredLemmas.{on_any}
+use Rattle.raft_opening.proofs.Common.{inl, inr, IfErr-weaker, err_from_is_err_and, on_any}
 use Rattle.raft_opening.proofs.RestLemmas.{not_other_so, other_so, uncut_so}
 use Rattle.raft_opening.proofs.file_rest.check_rest.Goals as goal
 

@@ -1,5 +1,4 @@
-use Rattle.std.proofs.Common.{◌∙◌, sym}
-use Rattle.std.proofs.lemmas.Bool.{false≢true}
+use Rattle.raft_opening.proofs.Common.{◌∙◌, sym, false≢true}
 use Rattle.raft_opening.proofs.RestLemmas.{broken_so, elsewhere_so, followed_so, nothing_so}
 use Rattle.raft_opening.proofs.file_rest.check_undamaged.Goals as goal
 

@@ -1,5 +1,4 @@
-use Rattle.std.proofs.Common.{inl, inr}
-use Rattle.std.proofs.lemmas.Result.{IfErr-weaker}
+use Rattle.raft_opening.proofs.Common.{inl, inr, IfErr-weaker}
 use Rattle.raft_opening.proofs.opening.open_in_pieces.Goals as goal
 
 pub returns-in-Ok-clause-err : goal.returns-in-Ok-clause-err

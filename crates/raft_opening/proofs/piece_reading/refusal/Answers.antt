@@ -1,4 +1,4 @@
-use Rattle.std.proofs.Common.{inl, inr}
+use Rattle.raft_opening.proofs.Common.{inl, inr}
 use Rattle.raft_opening.proofs.piece_reading.refusal.Goals as goal
 
 pub returns-in-Ok : goal.returns-in-Ok

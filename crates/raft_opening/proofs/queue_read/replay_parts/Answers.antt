@@ -1,7 +1,4 @@
-use Rattle.std.proofs.Common.{◌≡◌, List, [], IfOk, arith, subst, sym}
-use Rattle.std.proofs.lemmas.List.{nil_from_length}
-use Rattle.raft_reading.specs.declared.queue_files.FileSize.{FileSize}
-use Rattle.raft_opening.specs.ReadOnce.{AreClosedAndLastRead}
+use Rattle.raft_opening.proofs.Common.{◌≡◌, List, [], IfOk, arith, subst, sym, nil_from_length, FileSize, AreClosedAndLastRead}
 use Rattle.raft_opening.proofs.OnceLemmas.{parts_read}
 use Rattle.raft_opening.proofs.queue_read.replay_parts.Goals as goal
 

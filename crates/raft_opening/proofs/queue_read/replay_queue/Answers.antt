@@ -1,5 +1,4 @@
-use Rattle.std.proofs.Common.{[]}
-use Rattle.std.proofs.lemmas.List.{nil_from_length}
+use Rattle.raft_opening.proofs.Common.{[], nil_from_length}
 use Rattle.raft_opening.proofs.OnceLemmas.{first_read, torn_read, whole_read}
 use Rattle.raft_opening.proofs.queue_read.replay_queue.Goals as goal
 
@@ -9,7 +8,7 @@ returns-in_default g c =
     let machine = c.in_ok-machine.machine in
     let begun = c.requires.factory machine c.in_ok-machine.ensures.ok in
     let none = rw c.in_default.is at c.split_last.ensures.cases in
-    first_read (g.S.ReadFiles.gives c.args.source.now) c.args.mode c.args.queue c.args.version g.M.ReplayMachine.stands_for g.M.ReplayMachine.stands_exactly c.args.sizes.now machine (nil_from_length c.args.sizes.now none) (laws.exact_stands machine [] begun) begun
+    first_read (g.S.ReadFiles.gives c.args.source.now) c.args.mode c.args.queue c.args.version g.M.ReplayMachine.stands_for g.M.ReplayMachine.stands_exactly c.args.sizes.now machine c.new-damaged.result (nil_from_length c.args.sizes.now none) c.new-damaged.ensures.items (laws.exact_stands machine [] begun) begun
 
 pub returns-in-None : goal.returns-in-None
 returns-in-None g c =

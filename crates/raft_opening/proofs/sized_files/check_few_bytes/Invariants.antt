@@ -1,5 +1,4 @@
-use Rattle.std.proofs.Common.{◌≡◌, ◌+◌, ◌<◌, ◌^◌, drop}
-use Rattle.raft_recover.specs.FileRecovery.{bytes_of_sizes}
+use Rattle.raft_opening.proofs.Common.{◌≡◌, ◌+◌, ◌<◌, ◌^◌, drop, bytes_of_sizes}
 use Rattle.raft_opening.proofs.sized_files.check_few_bytes.Given as goal
 
 abbrev pub invariant-loop-file : goal.invariant-loop-file

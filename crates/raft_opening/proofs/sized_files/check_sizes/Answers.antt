@@ -1,4 +1,4 @@
-use Rattle.std.proofs.lemmas.Result.{err_from_is_err_and}
+use Rattle.raft_opening.proofs.Common.{err_from_is_err_and}
 use Rattle.raft_opening.proofs.SizedLemmas.{apart_at, more_at}
 use Rattle.raft_opening.proofs.sized_files.check_sizes.Goals as goal
 

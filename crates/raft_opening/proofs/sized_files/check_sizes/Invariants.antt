@@ -1,6 +1,4 @@
-use Rattle.std.proofs.Common.{drop}
-use Rattle.raft_opening.specs.SizedFiles.{numbers_of}
-use Rattle.raft_engine.proofs.FileNumbers.{AreReadUpTo}
+use Rattle.raft_opening.proofs.Common.{drop, numbers_of, AreReadUpTo}
 use Rattle.raft_opening.proofs.sized_files.check_sizes.Given as goal
 
 abbrev pub invariant-loop-file : goal.invariant-loop-file

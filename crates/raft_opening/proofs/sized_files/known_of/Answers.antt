@@ -1,6 +1,4 @@
-use Rattle.std.proofs.Common.{◌∙◌, ap, inl, inr, refl}
-use Rattle.std.proofs.lemmas.List.{nil_from_length, take_all}
-use Rattle.raft_opening.specs.SizedFiles.{numbers_of}
+use Rattle.raft_opening.proofs.Common.{◌∙◌, ap, inl, inr, refl, nil_from_length, take_all, numbers_of}
 use Rattle.raft_opening.proofs.sized_files.known_of.Goals as goal
 
 pub returns-in_default-clause-ok : goal.returns-in_default-clause-ok

@@ -1,5 +1,4 @@
-use Rattle.std.proofs.Common.{◌≡◌, take}
-use Rattle.raft_opening.specs.SizedFiles.{numbers_of}
+use Rattle.raft_opening.proofs.Common.{◌≡◌, take, numbers_of}
 use Rattle.raft_opening.proofs.sized_files.known_of.Given as goal
 
 abbrev pub invariant-loop-file : goal.invariant-loop-file

@@ -1,9 +1,4 @@
-use Rattle.std.proofs.Common.{◌∙◌, ap, inl, inr, refl}
-use Rattle.std.proofs.lemmas.List.{nil_from_length}
-use Rattle.std.proofs.lemmas.Result.{err_from_is_err_and}
-use Rattle.raft_base.specs.declared.pipe_log.FileId.{FileId}
-use Rattle.raft_engine.specs.declared.missing.Missing.TheVariants.{Cut, Nothing}
-use Rattle.raft_engine.proofs.FoundQueueLemmas.{first_missing}
+use Rattle.raft_opening.proofs.Common.{◌∙◌, ap, inl, inr, refl, nil_from_length, err_from_is_err_and, FileId, Cut, Nothing, first_missing}
 use Rattle.raft_opening.proofs.SizedLemmas.{last_long, last_only, last_part, no_file, sized_fault, sized_missing, the_last}
 use Rattle.raft_opening.proofs.sized_files.missing_of.Goals as goal
 

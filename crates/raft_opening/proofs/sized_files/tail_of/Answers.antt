@@ -1,7 +1,4 @@
-use Rattle.std.proofs.Common.{inl, inr, refl, arith}
-use Rattle.std.proofs.lemmas.Result.{err_from_is_err_and}
-use Rattle.raft_records.specs.FilePart.{part_of}
-use Rattle.raft_prefix.specs.Prefixes.{IsPrefix}
+use Rattle.raft_opening.proofs.Common.{inl, inr, refl, arith, err_from_is_err_and, part_of, IsPrefixOf}
 use Rattle.raft_prefix.specs.Blocks.{IsUnsoundAs}
 use Rattle.raft_opening.proofs.SizedLemmas.{known_so, read_refusal, rest_so, torn_accepted, torn_refused, unread_refusal, unsound_so, whole_accepted}
 use Rattle.raft_opening.proofs.sized_files.tail_of.Goals as goal
@@ -18,7 +15,7 @@ returns-in_err-prefix-clause-fault g c = λ bytes long only.
 pub returns-in_default-clause-ok : goal.returns-in_default-clause-ok
 returns-in_default-clause-ok g c = λ bytes long only.
     whole_accepted c.args.mode (part_of c.args.file.now 0 bytes) _
-    (rw c.in_default.is at (known_so (g.S.ReadFiles.gives c.args.source.now c.args.file.now.id) bytes only c.args.file.now c.args.len (λ part. IsPrefix part c.in_ok-prefix.prefix.len c.in_ok-prefix.prefix.stopped) long c.in_ok-prefix.ensures.ok))
+    (let is = (known_so (g.S.ReadFiles.gives c.args.source.now c.args.file.now.id) bytes only c.args.file.now c.args.len (λ part. IsPrefixOf part c.in_ok-prefix.prefix) long c.in_ok-prefix.ensures.ok).is in rw c.in_default.is at is)
 
 pub returns-in_err-rest-clause-fault : goal.returns-in_err-rest-clause-fault
 returns-in_err-rest-clause-fault g c = λ bytes long only.
@@ -28,7 +25,7 @@ returns-in_err-rest-clause-fault g c = λ bytes long only.
 
 pub returns-in_err-check_rest-clause-fault : goal.returns-in_err-check_rest-clause-fault
 returns-in_err-check_rest-clause-fault g c = λ bytes long only.
-    let only_these = known_so (g.S.ReadFiles.gives c.args.source.now c.args.file.now.id) bytes only c.args.file.now c.args.len (λ part. IsPrefix part c.in_ok-prefix.prefix.len c.in_ok-prefix.prefix.stopped) long c.in_ok-prefix.ensures.ok in
+    let only_these = (known_so (g.S.ReadFiles.gives c.args.source.now c.args.file.now.id) bytes only c.args.file.now c.args.len (λ part. IsPrefixOf part c.in_ok-prefix.prefix) long c.in_ok-prefix.ensures.ok).is in
     let k = rw c.in-Some.is at only_these in
     let r = rest_so (g.S.ReadFiles.gives c.args.source.now c.args.file.now.id) bytes only c.args.file.now c.in_ok-prefix.prefix.len c.args.len _ long c.in_ok-rest.ensures.ok in
     let p = err_from_is_err_and c.from_residual-in_err-check_rest.result c.from_residual-in_err-check_rest.ensures.1 in
@@ -36,7 +33,7 @@ returns-in_err-check_rest-clause-fault g c = λ bytes long only.
 
 pub returns-clause-ok : goal.returns-clause-ok
 returns-clause-ok g c = λ bytes long only.
-    let only_these = known_so (g.S.ReadFiles.gives c.args.source.now c.args.file.now.id) bytes only c.args.file.now c.args.len (λ part. IsPrefix part c.in_ok-prefix.prefix.len c.in_ok-prefix.prefix.stopped) long c.in_ok-prefix.ensures.ok in
+    let only_these = (known_so (g.S.ReadFiles.gives c.args.source.now c.args.file.now.id) bytes only c.args.file.now c.args.len (λ part. IsPrefixOf part c.in_ok-prefix.prefix) long c.in_ok-prefix.ensures.ok).is in
     let k = rw c.in-Some.is at only_these in
     let r = rest_so (g.S.ReadFiles.gives c.args.source.now c.args.file.now.id) bytes only c.args.file.now c.in_ok-prefix.prefix.len c.args.len _ long c.in_ok-rest.ensures.ok in
     let inside = c.in_ok-prefix.ensures.inside in

@@ -1,5 +1,4 @@
-use Rattle.std.proofs.Common.{inl, inr}
-use Rattle.std.proofs.lemmas.Result.{err_from_is_err_and}
+use Rattle.raft_opening.proofs.Common.{inl, inr, err_from_is_err_and}
 use Rattle.raft_opening.proofs.sized_reading.both_sized.Goals as goal
 
 pub returns-in_err-append-clause-fault : goal.returns-in_err-append-clause-fault

@@ -1,13 +1,4 @@
-use Rattle.std.proofs.Common.{◌∙◌, inl, inr, refl, sym}
-use Rattle.std.proofs.lemmas.Bool.{false≢true}
-use Rattle.std.proofs.lemmas.Result.{IfErr-weaker, err_from_is_err_and}
-use Rattle.raft_base.specs.declared.pipe_log.LogQueue.TheVariants.{Append, Rewrite}
-use Rattle.raft_contexts.specs.RecoverContext.{HasRead, HasReadExactly}
-use Rattle.raft_replay.specs.Stops.{IsStoodFor}
-use Rattle.raft_engine.specs.ReadQueues.{HaveBothRead, HaveBothReadExactly}
-use Rattle.raft_engine.specs.Unopened.{AreUnrecoveredAs}
-use Rattle.raft_engine.proofs.GroupRowLemmas.{invalid}
-use Rattle.raft_engine.proofs.RecoveredLemmas.{long_refused, on_any}
+use Rattle.raft_opening.proofs.Common.{◌∙◌, inl, inr, refl, sym, false≢true, IfErr-weaker, err_from_is_err_and, Append, Rewrite, HasRead, HasReadExactly, IsStoodFor, HaveBothRead, HaveBothReadExactly, AreUnrecoveredAs, invalid, long_refused, on_any}
 use Rattle.raft_opening.proofs.SizedReadLemmas.{both_read, both_ready, both_sound, context_sound, count_left, counts_unreadable, either, few_left, left_count, left_replayed, left_stops, many_left, out_of_row, sized_refused, stops_unreadable}
 use Rattle.raft_opening.proofs.sized_reading.read_sized.Goals as goal
 

@@ -1,8 +1,4 @@
-use Rattle.std.proofs.Common.{◌≡◌, ◌++◌}
-use Rattle.std.specs.Prelude.{map}
-use Rattle.raft_records.specs.Item.{item_of}
-use Rattle.raft_history.specs.RegionStepShown.{region_step_shown}
-use Rattle.raft_history.specs.RegionSteps.{steps_of_items}
+use Rattle.raft_plain.proofs.Common.{◌≡◌, ◌++◌, map, item_of, region_step_shown, steps_of_items}
 use Rattle.raft_plain.proofs.batches.steps_of.Given as goal
 
 abbrev pub invariant-loop-item : goal.invariant-loop-item

@@ -1,14 +1,4 @@
-use Rattle.std.proofs.Common.{◌++◌, refl, sym, subst, ap, ◌∙◌, arith}
-use Rattle.std.specs.Prelude.{map}
-use Rattle.raft_history.specs.Batches.{marker_in}
-use Rattle.raft_history.specs.Histories.{HaveStatus}
-use Rattle.raft_history.specs.RegionStepShown.{region_step_shown}
-use Rattle.raft_history.specs.RegionSteps.{RegionStep, tables_after}
-use Rattle.std.specs.Prelude.{List}
-use Rattle.raft_replay.proofs.Passed.{on_passed}
-use Rattle.raft_plain.specs.Groups.{effect_after, stretches_after}
-use Rattle.raft_plain.specs.Plain.{tables_shown}
-use Rattle.raft_plain.specs.Waits.{stretches_shown}
+use Rattle.raft_plain.proofs.Common.{◌++◌, refl, sym, subst, ap, ◌∙◌, arith, map, marker_in, HaveStatus, region_step_shown, RegionStep, tables_after, List, on_passed, effect_after, stretches_after, tables_shown, stretches_shown}
 use Rattle.raft_plain.proofs.ReadLemmas.{batch_read, effect_unsound, order_unsound, status_unsound}
 use Rattle.raft_plain.proofs.batches.with_batch.Goals as goal
 

@@ -1,6 +1,4 @@
-use Rattle.raft_history.specs.RegionStepShown.{region_step_shown}
-use Rattle.raft_replay.proofs.Passed.{on_passed}
-use Rattle.raft_plain.specs.Plain.{tables_shown}
+use Rattle.raft_plain.proofs.Common.{region_step_shown, on_passed, tables_shown}
 use Rattle.raft_plain.proofs.StepLemmas.{step_done, step_refused}
 use Rattle.raft_plain.proofs.batches.with_step.Goals as goal
 

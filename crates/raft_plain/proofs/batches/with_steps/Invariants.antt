@@ -1,10 +1,4 @@
-use Rattle.std.proofs.Common.{◌≡◌, drop}
-use Rattle.std.specs.BTreeMap.{IsOrdered}
-use Rattle.std.specs.Ordering.{nat_cmp}
-use Rattle.std.specs.Prelude.{map}
-use Rattle.raft_history.specs.RegionStepShown.{region_step_shown}
-use Rattle.raft_history.specs.RegionSteps.{tables_after}
-use Rattle.raft_plain.specs.Plain.{tables_shown}
+use Rattle.raft_plain.proofs.Common.{◌≡◌, drop, IsOrdered, nat_cmp, map, region_step_shown, tables_after, tables_shown}
 use Rattle.raft_plain.proofs.batches.with_steps.Given as goal
 
 abbrev pub invariant-loop-step : goal.invariant-loop-step

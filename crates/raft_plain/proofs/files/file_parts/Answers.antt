@@ -1,8 +1,4 @@
-use Rattle.std.proofs.Common.{◌≡◌, ℕ, List, Vec, map, ap, ◌∙◌, subst, arith}
-use Rattle.std.specs.Global.{Global}
-use Rattle.raft_base.specs.declared.pipe_log.FileId.{FileId}
-use Rattle.raft_reading.specs.QueueRead.{whole_file}
-use Rattle.raft_recover.specs.AskedRequests.{file_shown}
+use Rattle.raft_plain.proofs.Common.{◌≡◌, ℕ, List, Vec, map, ap, ◌∙◌, subst, arith, Global, FileId, whole_file, file_shown}
 use Rattle.raft_plain.proofs.FileLemmas.{AreBegun, all_begun, file_one_more}
 use Rattle.raft_plain.proofs.files.file_parts.Goals as goal
 

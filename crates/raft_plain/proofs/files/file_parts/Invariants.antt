@@ -1,5 +1,4 @@
-use Rattle.std.proofs.Common.{map}
-use Rattle.raft_recover.specs.AskedRequests.{file_shown}
+use Rattle.raft_plain.proofs.Common.{map, file_shown}
 use Rattle.raft_plain.proofs.FileLemmas.{AreBegun}
 use Rattle.raft_plain.proofs.files.file_parts.Given as goal
 

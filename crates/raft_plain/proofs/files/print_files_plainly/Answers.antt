@@ -1,7 +1,4 @@
-use Rattle.std.proofs.Common.{map, inl}
-use Rattle.raft_replay.proofs.Passed.{on_passed}
-use Rattle.raft_recover.specs.AskedRequests.{file_shown}
-use Rattle.raft_plain.specs.Overlaid.{recovered_shown}
+use Rattle.raft_plain.proofs.Common.{map, inl, on_passed, file_shown, recovered_shown}
 use Rattle.raft_plain.proofs.FileLemmas.{files_refused, parts_are_of, print_failed, print_kept, tables_printed}
 use Rattle.raft_plain.proofs.files.print_files_plainly.Goals as goal
 

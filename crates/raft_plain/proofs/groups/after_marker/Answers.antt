@@ -1,11 +1,6 @@
-use Rattle.std.proofs.Common.{◌≡◌, List, Option, Some, sym, ap, ◌∙◌}
-use Rattle.std.specs.Prelude.{map, option_map}
+use Rattle.raft_plain.proofs.Common.{◌≡◌, List, Option, Some, sym, ap, ◌∙◌, map, region_step_shown, RegionStep, OpenStretch, carried_stretch, with_stretch, stretch_shown, stretches_shown}
+use Rattle.std.specs.Prelude.{option_map}
 use Rattle.std.specs.FinMap as finite
-use Rattle.raft_history.specs.RegionStepShown.{region_step_shown}
-use Rattle.raft_history.specs.RegionSteps.{RegionStep}
-use Rattle.raft_history.specs.WaitingGroup.{OpenStretch, carried_stretch}
-use Rattle.raft_plain.specs.Groups.{with_stretch}
-use Rattle.raft_plain.specs.Waits.{stretch_shown, stretches_shown}
 use Rattle.raft_plain.proofs.WaitLemmas.{wait_put}
 use Rattle.raft_plain.proofs.groups.after_marker.Goals as goal
 

@@ -1,9 +1,4 @@
-use Rattle.std.proofs.Common.{◌+◌, ap, subst, sym, ◌∙◌, drop}
-use Rattle.std.specs.Prelude.{map}
-use Rattle.std.specs.Option.{option_or}
-use Rattle.std.proofs.Math.ListN.{drop_of_length-le}
-use Rattle.raft_records.specs.Group.{first_marker}
-use Rattle.raft_records.specs.Item.{item_of}
+use Rattle.raft_plain.proofs.Common.{◌+◌, ap, subst, sym, ◌∙◌, drop, map, option_or, drop_of_length-le, first_marker, item_of}
 use Rattle.raft_plain.proofs.MarkerLemmas.{IsTested, next_item, one_more, or_none}
 use Rattle.raft_plain.proofs.groups.first_marker.Goals as goal
 

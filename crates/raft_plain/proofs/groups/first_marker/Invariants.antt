@@ -1,6 +1,4 @@
-use Rattle.std.proofs.Common.{drop}
-use Rattle.std.specs.Prelude.{map}
-use Rattle.raft_records.specs.Item.{item_of}
+use Rattle.raft_plain.proofs.Common.{drop, map, item_of}
 use Rattle.raft_plain.proofs.MarkerLemmas.{IsTested}
 use Rattle.raft_plain.proofs.groups.first_marker.Given as goal
 

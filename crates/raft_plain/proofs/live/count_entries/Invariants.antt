@@ -1,5 +1,4 @@
-use Rattle.std.proofs.Common.{◌≡◌, ◌+◌, ◌≤◌, drop}
-use Rattle.raft_table.specs.TableEntries.{entry_count}
+use Rattle.raft_plain.proofs.Common.{◌≡◌, ◌+◌, ◌≤◌, drop, entry_count}
 use Rattle.raft_plain.proofs.live.count_entries.Given as goal
 
 abbrev pub invariant-loop-entry : goal.invariant-loop-entry

@@ -1,4 +1,4 @@
-use Rattle.std.proofs.Common.{ap, ◌∙◌, length, arith}
+use Rattle.raft_plain.proofs.Common.{ap, ◌∙◌, length, arith}
 use Rattle.raft_plain.proofs.LiveLemmas.{in_queue, stored-count}
 use Rattle.raft_plain.proofs.live.count_keys.Goals as goal
 

@@ -1,4 +1,4 @@
-use Rattle.std.proofs.Common.{◌≡◌, ◌+◌, ◌≤◌, length}
+use Rattle.raft_plain.proofs.Common.{◌≡◌, ◌+◌, ◌≤◌, length}
 use Rattle.raft_plain.proofs.LiveLemmas.{in_queue}
 use Rattle.raft_plain.proofs.live.count_keys.Given as goal
 

@@ -1,5 +1,4 @@
-use Rattle.std.proofs.Common.{ap, ◌∙◌, length, arith}
-use Rattle.raft_table.specs.TableEntries.{entry_count}
+use Rattle.raft_plain.proofs.Common.{ap, ◌∙◌, length, arith, entry_count}
 use Rattle.raft_plain.proofs.LiveLemmas.{live_regions, live-regions}
 use Rattle.raft_plain.proofs.live.count_live.Goals as goal
 

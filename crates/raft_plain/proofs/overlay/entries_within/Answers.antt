@@ -1,8 +1,4 @@
-use Rattle.std.proofs.Common.{rules, ◌&&◌}
-use Rattle.std.proofs.lemmas.Fn.{filter_same}
-use Rattle.std.specs.Prelude.{nat_le}
-unfoldable use Rattle.raft_table.specs.Marks.{entries_within}
-use Rattle.raft_table.specs.Marks.{is_under}
+use Rattle.raft_plain.proofs.Common.{rules, ◌&&◌, filter_same, nat_le, entries_within, is_under}
 use Rattle.raft_plain.proofs.overlay.entries_within.Goals as goal
 
 pub returns : goal.returns

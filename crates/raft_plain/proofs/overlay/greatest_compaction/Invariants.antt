@@ -1,6 +1,4 @@
-use Rattle.std.proofs.Common.{◌≡◌, drop, map, max}
-use Rattle.raft_table.specs.Overlay.{greatest_compaction}
-use Rattle.raft_table.specs.StepShown.{step_shown}
+use Rattle.raft_plain.proofs.Common.{◌≡◌, drop, map, max, greatest_compaction, step_shown}
 use Rattle.raft_plain.proofs.overlay.greatest_compaction.Given as goal
 
 abbrev pub invariant-loop-step : goal.invariant-loop-step

@@ -1,6 +1,4 @@
-use Rattle.std.proofs.Common.{◌≡◌, drop, map}
-use Rattle.raft_table.specs.Overlay.{has_clean}
-use Rattle.raft_table.specs.StepShown.{step_shown}
+use Rattle.raft_plain.proofs.Common.{◌≡◌, drop, map, has_clean, step_shown}
 use Rattle.raft_plain.proofs.overlay.has_clean.Given as goal
 
 abbrev pub invariant-loop-step : goal.invariant-loop-step

@@ -1,7 +1,4 @@
-use Rattle.std.proofs.Common.{◌≡◌, drop, map}
-use Rattle.raft_table.specs.KeyValues.{lesser}
-use Rattle.raft_table.specs.Overlay.{least_cut}
-use Rattle.raft_table.specs.StepShown.{step_shown}
+use Rattle.raft_plain.proofs.Common.{◌≡◌, drop, map, lesser, least_cut, step_shown}
 use Rattle.raft_plain.proofs.overlay.least_cut.Given as goal
 
 abbrev pub invariant-loop-step : goal.invariant-loop-step

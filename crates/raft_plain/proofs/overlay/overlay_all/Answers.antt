@@ -1,10 +1,5 @@
-use Rattle.std.proofs.Common.{List, [], ℕ, Some, sym, ap, subst, ◌∙◌, map}
+use Rattle.raft_plain.proofs.Common.{List, [], ℕ, Some, sym, ap, subst, ◌∙◌, map, overlaid_table, region_step_shown, steps_on, Region, table_shown, tables_in, tables_shown}
 use Rattle.std.specs.FinMap as finite
-use Rattle.raft_table.specs.Overlay.{overlaid_table}
-use Rattle.raft_history.specs.RegionStepShown.{region_step_shown}
-use Rattle.raft_history.specs.RegionSteps.{steps_on}
-use Rattle.raft_plain.specs.declared.region.Region.{Region}
-use Rattle.raft_plain.specs.Plain.{table_shown, tables_in, tables_shown}
 use Rattle.raft_plain.proofs.KeyedLemmas.{Rises, none-of, rest_rises}
 use Rattle.raft_plain.proofs.overlay.overlay_all.Invariants.{wanted}
 use Rattle.raft_plain.proofs.OverlayLemmas.{AreOverlaidSoFar, overlay_begins, rewritten_next, appended_next, appended_ends}

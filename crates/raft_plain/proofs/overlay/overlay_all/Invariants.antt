@@ -1,12 +1,5 @@
-use Rattle.std.proofs.Common.{[], ℕ, List, map, Option}
-use Rattle.std.specs.BTreeMap.{IsOrdered}
+use Rattle.raft_plain.proofs.Common.{[], ℕ, List, map, Option, IsOrdered, nat_cmp, overlaid_table, Table, region_step_shown, RegionStep, Tables, steps_on, table_shown, tables_in, tables_shown}
 use Rattle.std.specs.FinMap as finite
-use Rattle.std.specs.Ordering.{nat_cmp}
-use Rattle.raft_table.specs.Overlay.{overlaid_table}
-use Rattle.raft_table.specs.Table.{Table}
-use Rattle.raft_history.specs.RegionStepShown.{region_step_shown}
-use Rattle.raft_history.specs.RegionSteps.{RegionStep, Tables, steps_on}
-use Rattle.raft_plain.specs.Plain.{table_shown, tables_in, tables_shown}
 use Rattle.raft_plain.proofs.KeyedLemmas.{Rises}
 use Rattle.raft_plain.proofs.OverlayLemmas.{AreOverlaidSoFar}
 use Rattle.raft_plain.proofs.overlay.overlay_all.Given as goal

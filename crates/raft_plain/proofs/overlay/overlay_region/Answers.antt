@@ -1,8 +1,4 @@
-use Rattle.std.proofs.Common.{◌≡◌, Some, None, refl, sym, ap, subst, ◌∙◌, map}
-use Rattle.std.specs.Option.{option_map}
-use Rattle.raft_table.specs.Overlay.{has_clean, overlaid_table, overlay}
-use Rattle.raft_table.specs.StepShown.{step_shown}
-use Rattle.raft_plain.specs.Plain.{table_shown}
+use Rattle.raft_plain.proofs.Common.{◌≡◌, Some, None, refl, sym, ap, subst, ◌∙◌, map, option_map, has_clean, overlaid_table, overlay, step_shown, table_shown}
 use Rattle.raft_plain.proofs.OverlayLemmas.{both_overlaid}
 use Rattle.raft_plain.proofs.overlay.overlay_region.Goals as goal
 

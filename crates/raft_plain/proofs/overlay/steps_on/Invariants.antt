@@ -1,7 +1,4 @@
-use Rattle.std.proofs.Common.{◌≡◌, ◌++◌, drop, map}
-use Rattle.raft_history.specs.RegionStepShown.{region_step_shown}
-use Rattle.raft_history.specs.RegionSteps.{steps_on}
-use Rattle.raft_table.specs.StepShown.{step_shown}
+use Rattle.raft_plain.proofs.Common.{◌≡◌, ◌++◌, drop, map, region_step_shown, steps_on, step_shown}
 use Rattle.raft_plain.proofs.overlay.steps_on.Given as goal
 
 abbrev pub invariant-loop-step : goal.invariant-loop-step

@@ -1,7 +1,4 @@
-use Rattle.std.proofs.Common.{sym, ap, ◌∙◌, map}
-use Rattle.raft_table.proofs.KeyValueCounts.{entries-map_of}
-use Rattle.raft_table.specs.KeyValues.{with_pairs}
-use Rattle.raft_plain.specs.Plain.{keys_shown, stored_shown}
+use Rattle.raft_plain.proofs.Common.{sym, ap, ◌∙◌, map, entries-map_of, with_pairs, keys_shown, stored_shown}
 use Rattle.raft_plain.proofs.PairLemmas.{Pairs, bytes_of, key_put}
 use Rattle.raft_plain.proofs.overlay.with_pairs.Goals as goal
 

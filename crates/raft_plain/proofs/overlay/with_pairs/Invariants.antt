@@ -1,6 +1,4 @@
-use Rattle.std.proofs.Common.{◌≡◌, map}
-use Rattle.raft_table.specs.KeyValues.{pairs_over, with_pairs}
-use Rattle.raft_plain.specs.Plain.{keys_shown, stored_shown}
+use Rattle.raft_plain.proofs.Common.{◌≡◌, map, pairs_over, with_pairs, keys_shown, stored_shown}
 use Rattle.raft_plain.proofs.overlay.with_pairs.Given as goal
 
 abbrev pub invariant-loop-key : goal.invariant-loop-key

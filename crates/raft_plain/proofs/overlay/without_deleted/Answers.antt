@@ -1,10 +1,5 @@
-use Rattle.std.proofs.Common.{sym, ap, ◌∙◌, map}
-use Rattle.std.proofs.Math.ListN.{drop_of_length-le}
+use Rattle.raft_plain.proofs.Common.{sym, ap, ◌∙◌, map, drop_of_length-le, without, deleted_of, step_shown, keys_shown}
 use Rattle.std.specs.FinSet as finset
-use Rattle.raft_table.specs.KeySets.{without}
-use Rattle.raft_table.specs.Overlay.{deleted_of}
-use Rattle.raft_table.specs.StepShown.{step_shown}
-use Rattle.raft_plain.specs.Plain.{keys_shown}
 use Rattle.raft_plain.proofs.OverlayLemmas.{without_none}
 use Rattle.raft_plain.proofs.overlay.without_deleted.Goals as goal
 

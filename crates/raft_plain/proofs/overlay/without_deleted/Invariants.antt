@@ -1,9 +1,5 @@
-use Rattle.std.proofs.Common.{◌≡◌, false, drop, map}
+use Rattle.raft_plain.proofs.Common.{◌≡◌, false, drop, map, without, deleted_of, has_clean, step_shown, keys_shown}
 use Rattle.std.specs.FinSet as finset
-use Rattle.raft_table.specs.KeySets.{without}
-use Rattle.raft_table.specs.Overlay.{deleted_of, has_clean}
-use Rattle.raft_table.specs.StepShown.{step_shown}
-use Rattle.raft_plain.specs.Plain.{keys_shown}
 use Rattle.raft_plain.proofs.overlay.without_deleted.Given as goal
 
 abbrev pub invariant-loop-step : goal.invariant-loop-step

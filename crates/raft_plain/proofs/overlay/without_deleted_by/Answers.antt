@@ -1,8 +1,5 @@
-use Rattle.std.proofs.Common.{ap, ◌∙◌}
+use Rattle.raft_plain.proofs.Common.{ap, ◌∙◌, without, deleted_of, keys_shown}
 use Rattle.std.specs.FinSet as finset
-use Rattle.raft_table.specs.KeySets.{without}
-use Rattle.raft_table.specs.Overlay.{deleted_of}
-use Rattle.raft_plain.specs.Plain.{keys_shown}
 use Rattle.raft_plain.proofs.OverlayLemmas.{without_key_first}
 use Rattle.raft_plain.proofs.overlay.without_deleted_by.Goals as goal
 

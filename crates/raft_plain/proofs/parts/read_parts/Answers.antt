@@ -1,16 +1,4 @@
-use Rattle.std.proofs.Common.{◌<◌, ◌≤◌, List, refl, subst, length, arith, take, drop, ◌+◌}
-use Rattle.std.proofs.lemmas.List.{take_all}
-use Rattle.raft_replay.proofs.MachineOrderLemmas.{each_more}
-use Rattle.raft_replay.proofs.Passed.{on_passed}
-use Rattle.raft_replay.proofs.ReplayedLemmas.{none_replayed, replayed_more}
-use Rattle.raft_replay.proofs.SegmentLemmas.{item_taken, item_between}
-use Rattle.raft_replay.proofs.StopLemmas.{parts_refused}
-use Rattle.raft_records.specs.FilePart.{Part}
-use Rattle.raft_replay.proofs.Words.{PartHolds, PartsHold}
-use Rattle.raft_replay.specs.Replays.{HasReplayed}
-use Rattle.raft_replay.specs.Stops.{IsNothing}
-use Rattle.raft_history.specs.Histories.{Sound}
-use Rattle.raft_plain.specs.Readings.{HasRead}
+use Rattle.raft_plain.proofs.Common.{◌<◌, ◌≤◌, List, refl, subst, length, arith, take, drop, ◌+◌, take_all, each_more, on_passed, none_replayed, replayed_more, item_taken, item_between, parts_refused, Part, PartHolds, PartsHold, HasReplayed, IsNothing, Sound, HasRead}
 use Rattle.raft_plain.proofs.PartLemmas.{parts_read, stopped_among}
 use Rattle.raft_plain.proofs.parts.read_parts.Goals as goal
 

@@ -1,7 +1,4 @@
-use Rattle.std.proofs.Common.{[], take}
-use Rattle.raft_replay.specs.Replays.{HasReplayed}
-use Rattle.raft_replay.proofs.Words.{PartsHold}
-use Rattle.raft_plain.specs.Readings.{HasRead}
+use Rattle.raft_plain.proofs.Common.{[], take, HasReplayed, PartsHold, HasRead}
 use Rattle.raft_plain.proofs.parts.read_parts.Given as goal
 
 abbrev pub invariant-loop-part : goal.invariant-loop-part

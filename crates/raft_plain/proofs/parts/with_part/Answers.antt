@@ -1,9 +1,4 @@
-use Rattle.std.proofs.Common.{◌+◌, ◌++◌, ◌∷◌, [], subst, arith}
-use Rattle.raft_records.proofs.PartLemmas.{batch_inside}
-use Rattle.raft_history.specs.Histories.{Sound}
-use Rattle.raft_history.specs.ReplayMachine.{event}
-use Rattle.raft_replay.specs.Stops.{IsPlaced}
-use Rattle.raft_plain.specs.Readings.{HasRead}
+use Rattle.raft_plain.proofs.Common.{◌+◌, ◌++◌, ◌∷◌, [], subst, arith, batch_inside, Sound, event, IsPlaced, HasRead}
 use Rattle.raft_plain.proofs.PartLemmas.{read_more, read_whole, stopped_unreadable, stopped_refused}
 use Rattle.raft_plain.proofs.parts.with_part.Goals as goal
 

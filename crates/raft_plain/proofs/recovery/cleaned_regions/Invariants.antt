@@ -1,7 +1,4 @@
-use Rattle.std.proofs.Common.{◌≡◌, ◌++◌, drop, map}
-use Rattle.raft_base.specs.declared.pipe_log.LogQueue.TheVariants.{Append}
-use Rattle.raft_history.specs.RegionStepShown.{region_step_shown}
-use Rattle.raft_history.specs.RegionSteps.{cleaned_by_steps}
+use Rattle.raft_plain.proofs.Common.{◌≡◌, ◌++◌, drop, map, Append, region_step_shown, cleaned_by_steps}
 use Rattle.raft_plain.proofs.recovery.cleaned_regions.Given as goal
 
 abbrev pub invariant-loop-step : goal.invariant-loop-step

@@ -1,11 +1,4 @@
-use Rattle.std.proofs.Common.{inl, inr, sym, ap, subst, ◌∙◌, map}
-use Rattle.raft_base.specs.declared.pipe_log.LogQueue.TheVariants.{Append, Rewrite}
-use Rattle.raft_history.specs.RegionStepShown.{region_step_shown}
-use Rattle.raft_history.specs.RegionSteps.{cleaned_by_steps}
-use Rattle.raft_accessor.specs.Accessor.{live_in_all}
-use Rattle.raft_replay.proofs.Passed.{on_passed}
-use Rattle.raft_plain.specs.Overlaid.{AreOverlaid}
-use Rattle.raft_plain.specs.Plain.{tables_shown}
+use Rattle.raft_plain.proofs.Common.{inl, inr, sym, ap, subst, ◌∙◌, map, Append, Rewrite, region_step_shown, cleaned_by_steps, live_in_all, on_passed, AreOverlaid, tables_shown}
 use Rattle.raft_plain.proofs.RecoveryLemmas.{both_recovered}
 use Rattle.raft_plain.proofs.recovery.recover_both_plainly.Goals as goal
 

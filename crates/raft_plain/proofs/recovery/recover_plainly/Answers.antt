@@ -1,9 +1,4 @@
-use Rattle.std.proofs.Common.{sym, ap, ◌∙◌, map}
-use Rattle.raft_base.specs.declared.pipe_log.LogQueue.TheVariants.{Append, Rewrite}
-use Rattle.raft_history.specs.RegionStepShown.{region_step_shown}
-use Rattle.raft_history.specs.RegionSteps.{cleaned_by_steps}
-use Rattle.raft_accessor.specs.Accessor.{live_in_all}
-use Rattle.raft_plain.specs.Plain.{tables_shown}
+use Rattle.raft_plain.proofs.Common.{sym, ap, ◌∙◌, map, Append, Rewrite, region_step_shown, cleaned_by_steps, live_in_all, tables_shown}
 use Rattle.raft_plain.proofs.RecoveryLemmas.{recovered}
 use Rattle.raft_plain.proofs.recovery.recover_plainly.Goals as goal
 

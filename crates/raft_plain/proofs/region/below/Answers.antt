@@ -1,7 +1,4 @@
-use Rattle.std.proofs.Common.{rules}
-use Rattle.std.proofs.lemmas.Fn.{filter_same}
-use Rattle.std.specs.Prelude.{nat_lt}
-use Rattle.raft_table.specs.TableEntries.{below}
+use Rattle.raft_plain.proofs.Common.{rules, filter_same, nat_lt, below}
 use Rattle.raft_plain.proofs.region.below.Goals as goal
 
 pub returns : goal.returns

@@ -1,9 +1,5 @@
-use Rattle.raft_base.specs.NoEntry.{no_entry}
-use Rattle.std.proofs.Common.{slice_index_or}
-use Rattle.std.proofs.Common.{◌<◌, ◌∙◌, sym, length, arith}
-use Rattle.std.proofs.Math.ListN.{drop_of_length-le}
+use Rattle.raft_plain.proofs.Common.{no_entry, slice_index_or, ◌<◌, ◌∙◌, sym, length, arith, drop_of_length-le, drop_more}
 use Rattle.raft_plain.proofs.StepLemmas.{end_next, end_last}
-use Rattle.std.proofs.lemmas.List.{drop_more}
 use Rattle.raft_plain.proofs.region.end_of.Goals as goal
 
 pub loop-entry-preserved : goal.loop-entry-preserved

@@ -1,7 +1,4 @@
-use Rattle.std.proofs.Common.{rules}
-use Rattle.std.proofs.lemmas.Fn.{filter_same}
-use Rattle.std.specs.Prelude.{nat_le}
-use Rattle.raft_table.specs.TableEntries.{from}
+use Rattle.raft_plain.proofs.Common.{rules, filter_same, nat_le, from}
 use Rattle.raft_plain.proofs.region.from.Goals as goal
 
 pub returns : goal.returns

@@ -1,4 +1,4 @@
-use Rattle.std.proofs.Common.{None, refl}
+use Rattle.raft_plain.proofs.Common.{None, refl}
 use Rattle.raft_plain.proofs.PairLemmas.{empty_region}
 use Rattle.raft_plain.proofs.region.or_new.Goals as goal
 

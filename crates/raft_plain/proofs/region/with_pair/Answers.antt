@@ -1,6 +1,5 @@
-use Rattle.std.proofs.Common.{◌∙◌}
+use Rattle.raft_plain.proofs.Common.{◌∙◌, keys_shown}
 use Rattle.std.specs.FinMap as finite
-use Rattle.raft_plain.specs.Plain.{keys_shown}
 use Rattle.raft_plain.proofs.PairLemmas.{key_put}
 use Rattle.raft_plain.proofs.region.with_pair.Goals as goal
 

@@ -1,5 +1,4 @@
-use Rattle.std.proofs.Common.{rules}
-use Rattle.std.proofs.lemmas.Map.Made.{filter_same_pairs}
+use Rattle.raft_plain.proofs.Common.{rules, filter_same_pairs}
 use Rattle.raft_plain.proofs.PairLemmas.{is_other, key_gone}
 use Rattle.raft_plain.proofs.region.without_key.Goals as goal
 

@@ -1,7 +1,4 @@
-use Rattle.std.proofs.Common.{◌≡◌, ◌++◌, drop}
-use Rattle.std.specs.List.{flat_map}
-use Rattle.std.specs.Prelude.{codes, string_bytes}
-use Rattle.raft_recover.specs.TableLines.{cleaned_text, region_text}
+use Rattle.raft_plain.proofs.Common.{◌≡◌, ◌++◌, drop, flat_map, codes, string_bytes, cleaned_text, region_text}
 use Rattle.raft_plain.proofs.text.append_cleaned.Given as goal
 
 -- the text so far and the regions that are left make up the whole

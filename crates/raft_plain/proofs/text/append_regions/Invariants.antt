@@ -1,9 +1,4 @@
-use Rattle.std.proofs.Common.{◌≡◌, ◌++◌, map}
-use Rattle.std.specs.List.{flat_map}
-use Rattle.std.specs.Prelude.{string_bytes}
-use Rattle.raft_recover.specs.TableLines.{table_line}
-use Rattle.raft_plain.specs.Overlaid.{all_tables}
-use Rattle.raft_plain.specs.Plain.{table_shown}
+use Rattle.raft_plain.proofs.Common.{◌≡◌, ◌++◌, map, flat_map, string_bytes, table_line, all_tables, table_shown}
 use Rattle.raft_plain.proofs.text.append_regions.Given as goal
 
 abbrev pub invariant-loop-id : goal.invariant-loop-id

@@ -1,5 +1,4 @@
-use Rattle.std.proofs.Common.{◌≡◌, drop}
-use Rattle.raft_table.specs.Fetches.{first_entry_seq}
+use Rattle.raft_plain.proofs.Common.{◌≡◌, drop, first_entry_seq}
 use Rattle.raft_plain.proofs.text.first_entry_seq.Given as goal
 
 abbrev pub invariant-loop-entry : goal.invariant-loop-entry

@@ -1,6 +1,4 @@
-use Rattle.std.proofs.Common.{sym, ◌∙◌}
-use Rattle.raft_table.proofs.KeyValueCounts.{len-map_of}
-use Rattle.raft_plain.specs.Plain.{stored_shown}
+use Rattle.raft_plain.proofs.Common.{sym, ◌∙◌, len-map_of, stored_shown}
 use Rattle.raft_plain.proofs.PairLemmas.{bytes_of}
 use Rattle.raft_plain.proofs.text.key_count.Goals as goal
 

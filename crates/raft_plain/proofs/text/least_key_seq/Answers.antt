@@ -1,5 +1,4 @@
-use Rattle.std.proofs.Common.{sym, ap, ◌∙◌, map}
-use Rattle.raft_table.specs.KeyValues.{least, lesser}
+use Rattle.raft_plain.proofs.Common.{sym, ap, ◌∙◌, map, least, lesser}
 use Rattle.raft_plain.proofs.LiveLemmas.{in_queue, lesser_none, stored-seqs}
 use Rattle.raft_plain.proofs.text.least_key_seq.Goals as goal
 

@@ -1,5 +1,4 @@
-use Rattle.std.proofs.Common.{◌≡◌, map}
-use Rattle.raft_table.specs.KeyValues.{least, lesser}
+use Rattle.raft_plain.proofs.Common.{◌≡◌, map, least, lesser}
 use Rattle.raft_plain.proofs.LiveLemmas.{in_queue}
 use Rattle.raft_plain.proofs.text.least_key_seq.Given as goal
 

@@ -1,8 +1,4 @@
-use Rattle.std.proofs.Common.{subst}
-use Rattle.std.proofs.lemmas.Result.{IfErr-weaker}
-use Rattle.std.specs.Prelude.{string_bytes}
-use Rattle.raft_records.proofs.PrintLemmas.{on_both}
-use Rattle.raft_records.specs.Lines.{AppendsFront, IsIoError}
+use Rattle.raft_plain.proofs.Common.{subst, IfErr-weaker, string_bytes, on_both, AppendsFront, IsIoError}
 use Rattle.raft_plain.proofs.text.print_plainly.Goals as goal
 
 pub returns-clause-silent : goal.returns-clause-silent

@@ -1,8 +1,4 @@
-use Rattle.std.proofs.Common.{◌≡◌, ◌++◌, ◌-◌, ap, ◌∙◌, arith}
-use Rattle.std.specs.Fmt.{decimal}
-use Rattle.std.specs.Prelude.{codes, string_bytes}
-use Rattle.raft_recover.proofs.OrderLemmas.{three_parts}
-use Rattle.raft_plain.specs.Overlaid.{all_tables}
+use Rattle.raft_plain.proofs.Common.{◌≡◌, ◌++◌, ◌-◌, ap, ◌∙◌, arith, decimal, codes, string_bytes, three_parts, all_tables}
 use Rattle.raft_plain.proofs.TextLemmas.{tables_are_all, tables_rise}
 use Rattle.raft_plain.proofs.text.recovered_text.Goals as goal
 

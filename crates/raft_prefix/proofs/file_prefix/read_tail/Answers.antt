@@ -1,6 +1,4 @@
-use Rattle.std.proofs.Common.{◌∙◌, ℕ, List, ap, arith}
-use Rattle.std.proofs.lemmas.Result.{IfOk-weaker}
-use Rattle.raft_records.specs.FilePart.{part_of}
+use Rattle.raft_prefix.proofs.Common.{◌∙◌, ℕ, List, ap, arith, IfOk-weaker, part_of}
 use Rattle.raft_prefix.proofs.file_prefix.read_tail.Goals as goal
 
 pub returns : goal.returns

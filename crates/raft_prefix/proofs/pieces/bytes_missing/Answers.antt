@@ -1,5 +1,4 @@
-use Rattle.std.proofs.Common.{inr, arith}
-use Rattle.raft_replay.proofs.CutPartLemmas.{one_header}
+use Rattle.raft_prefix.proofs.Common.{inr, arith, one_header}
 use Rattle.raft_prefix.proofs.pieces.bytes_missing.Goals as goal
 
 pub returns-in_err-len-clause-none : goal.returns-in_err-len-clause-none

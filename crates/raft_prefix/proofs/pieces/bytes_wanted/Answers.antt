@@ -1,4 +1,4 @@
-use Rattle.std.proofs.Common.{inl, inr, arith}
+use Rattle.raft_prefix.proofs.Common.{inl, inr, arith}
 use Rattle.raft_prefix.proofs.pieces.bytes_wanted.Goals as goal
 
 pub returns-in_default-clause-none : goal.returns-in_default-clause-none

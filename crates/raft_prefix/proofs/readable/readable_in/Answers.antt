@@ -1,15 +1,12 @@
-use Rattle.std.proofs.Common.{arith}
-use Rattle.std.proofs.lemmas.Result.{err_from_is_err_and}
-use Rattle.raft_records.specs.FilePart.{part_of}
-use Rattle.raft_records.proofs.PartLemmas.{batch_inside}
+use Rattle.raft_prefix.proofs.Common.{arith, err_from_is_err_and, part_of, batch_inside}
 use Rattle.raft_prefix.proofs.PrefixLemmas.{none_passed, one_more_passed, refused_behind}
 use Rattle.raft_prefix.proofs.readable.readable_in.Goals as goal
 
 pub loop-next-init : goal.loop-next-init
-loop-next-init c = record { inside = omega arith; passed = none_passed c.args.file.now c.args.bytes.now c.args.offset }
+loop-next-init c = record { inside = omega arith; passed = none_passed c.args.file.now c.args.bytes.now c.args.offset c.args.damaged.now.items }
 
-pub check_entries-requires : goal.check_entries-requires
-check_entries-requires c =
+pub gather_damage-requires : goal.gather_damage-requires
+gather_damage-requires c =
     let stands = rw c.in-Ok-Some.field-0-is at c.in-Ok-Some.ensures.ok in
     record {
       part = part_of c.args.file.now c.args.offset c.args.bytes.now;
@@ -19,21 +16,21 @@ check_entries-requires c =
       stands = record { same = c.split_at.ensures.back; batch = stands };
     }
 
-pub returns-in_err-check_entries-in-Ok-Some-clause-damaged : goal.returns-in_err-check_entries-in-Ok-Some-clause-damaged
-returns-in_err-check_entries-in-Ok-Some-clause-damaged c =
+pub returns-in_err-gather_damage-in-Ok-Some-clause-damaged : goal.returns-in_err-gather_damage-in-Ok-Some-clause-damaged
+returns-in_err-gather_damage-in-Ok-Some-clause-damaged c =
     let stands = rw c.in-Ok-Some.field-0-is at c.in-Ok-Some.ensures.ok in
     let p = err_from_is_err_and c.from_residual.result c.from_residual.ensures.1 in
     rw (p.1, p.2)
     (λ other.
-    let r = c.in_err-check_entries-in-Ok-Some.ensures.refused other in
-    (r.0, refused_behind c.args.file.now c.args.bytes.now c.args.offset c.loop-next.at c.in-Ok-Some.next _ stands c.split_at.result.1.now c.split_at.ensures.back c.loop-next.invariant.passed r.0 r.1 _ r.2))
+    let r = c.in_err-gather_damage-in-Ok-Some.ensures.refused other in
+    (r.0, refused_behind c.args.file.now c.args.bytes.now c.args.offset c.loop-next.at c.in-Ok-Some.next _ stands c.split_at.result.1.now c.split_at.ensures.back c.args.damaged.now.items c.loop-next.damaged.items c.loop-next.invariant.passed r.0 r.1 _ r.2))
 
 pub loop-next-preserved : goal.loop-next-preserved
 loop-next-preserved c =
     let stands = rw c.in-Ok-Some.field-0-is at c.in-Ok-Some.ensures.ok in
     record {
       inside = (batch_inside (part_of c.args.file.now c.args.offset c.args.bytes.now) c.loop-next.at _ c.in-Ok-Some.next stands).1;
-      passed = one_more_passed c.args.file.now c.args.bytes.now c.args.offset c.loop-next.at c.in-Ok-Some.next _ stands c.split_at.result.1.now c.split_at.ensures.back c.loop-next.invariant.passed c.in_ok-check_entries-in-Ok-Some.ensures.ok;
+      passed = one_more_passed c.args.file.now c.args.bytes.now c.args.offset c.loop-next.at c.in-Ok-Some.next _ stands c.split_at.result.1.now c.split_at.ensures.back c.args.damaged.now.items c.loop-next.damaged.items c.loop-next.invariant.passed c.gather_damage.new.damaged.items c.in_ok-gather_damage-in-Ok-Some.ensures.ok;
     }
 
 pub returns-in-Err-clause-refused : goal.returns-in-Err-clause-refused

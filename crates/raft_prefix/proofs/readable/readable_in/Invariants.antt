@@ -1,11 +1,10 @@
-use Rattle.std.proofs.Common.{◌-◌, ◌≤◌, length}
-use Rattle.raft_prefix.specs.Pieces.{ArePassed}
+use Rattle.raft_prefix.proofs.Common.{◌-◌, ◌≤◌, length, ArePassed}
 use Rattle.raft_prefix.proofs.readable.readable_in.Given as goal
 
 abbrev pub invariant-loop-next : goal.invariant-loop-next
 invariant-loop-next l = record {
   inside : l.at ≤ length l.bytes;
-  passed : ArePassed l.file l.offset l.bytes l.at;
+  passed : ArePassed l.file l.offset l.bytes l.fn.damaged.items l.damaged.items l.at;
 }
 
 abbrev pub decreases-loop-next : goal.decreases-loop-next

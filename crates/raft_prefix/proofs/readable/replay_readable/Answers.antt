@@ -1,22 +1,16 @@
-use Rattle.std.proofs.Common.{◌≡◌, [], ◌∷◌, refl, arith}
-use Rattle.raft_records.specs.FilePart.{part_of}
-use Rattle.raft_records.proofs.PartLemmas.{batch_inside}
-use Rattle.raft_history.specs.ReplayMachine.{event}
-use Rattle.raft_replay.specs.Replays.{HasReplayed}
-use Rattle.raft_replay.proofs.ReplayedLemmas.{none_replayed, replayed_more}
-use Rattle.raft_replay.proofs.StopLemmas.{longer_front}
+use Rattle.raft_prefix.proofs.Common.{◌≡◌, [], ◌∷◌, refl, arith, part_of, batch_inside, event, HasReplayed, none_replayed, replayed_more, longer_front}
 use Rattle.raft_prefix.proofs.PrefixLemmas.{none_passed, one_more_passed, replayed_before}
 use Rattle.raft_prefix.proofs.readable.replay_readable.Goals as goal
 
 pub loop-next-init : goal.loop-next-init
 loop-next-init g c = record {
   inside = omega arith;
-  passed = none_passed c.args.file.now c.args.bytes.now c.args.offset;
+  passed = none_passed c.args.file.now c.args.bytes.now c.args.offset c.args.damaged.now.items;
   read = none_replayed g.M.ReplayMachine.stands_for g.M.ReplayMachine.stands_exactly _ c.args.machine.now ([], refl, refl);
 }
 
-pub check_entries-requires : goal.check_entries-requires
-check_entries-requires g c =
+pub gather_damage-requires : goal.gather_damage-requires
+gather_damage-requires g c =
     let stands = rw c.in-Ok-Some.field-0-is at c.in-Ok-Some.ensures.ok in
     record {
       part = part_of c.args.file.now c.args.offset c.args.bytes.now;
@@ -39,7 +33,7 @@ loop-next-preserved g c =
     } in
     record {
       inside = (batch_inside part c.loop-next.at _ c.in-Ok-Some.next stands).1;
-      passed = one_more_passed c.args.file.now c.args.bytes.now c.args.offset c.loop-next.at c.in-Ok-Some.next _ stands c.split_at.result.1.now c.split_at.ensures.back c.loop-next.invariant.passed c.in_ok-check_entries-in-Ok-Some.ensures.ok;
+      passed = one_more_passed c.args.file.now c.args.bytes.now c.args.offset c.loop-next.at c.in-Ok-Some.next _ stands c.split_at.result.1.now c.split_at.ensures.back c.args.damaged.now.items c.loop-next.damaged.items c.loop-next.invariant.passed c.gather_damage.new.damaged.items c.in_ok-gather_damage-in-Ok-Some.ensures.ok;
       read =
           replayed_more g.M.ReplayMachine.stands_for g.M.ReplayMachine.stands_exactly _ _ _ c.args.machine.now c.loop-next.machine c.replay_read.new.self before one
           (longer_front part c.loop-next.at c.in-Ok-Some.next _ before.history before.held stands);

@@ -1,5 +1,4 @@
-use Rattle.std.proofs.Common.{rules}
-use Rattle.serde_json.proofs.OnLiterals.{serde_json_on_literals}
+use Rattle.raft_report.proofs.Common.{rules, serde_json_on_literals}
 use Rattle.raft_report.proofs.json.quoted_name.Goals as goal
 
 pub returns-in-Append : goal.returns-in-Append

@@ -1,5 +1,4 @@
-use Rattle.std.proofs.Common.{rules, string_bytes}
-use Rattle.std.proofs.lemmas.Result.{on_ok_weaker}
+use Rattle.raft_report.proofs.Common.{rules, string_bytes, on_ok_weaker}
 use Rattle.raft_report.proofs.LineLemmas.{place_added}
 use Rattle.raft_report.proofs.json_dump.append_json_place.Goals as goal
 

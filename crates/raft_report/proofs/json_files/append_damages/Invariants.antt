@@ -1,8 +1,4 @@
-use Rattle.std.proofs.Common.{◌≡◌, ◌++◌, drop, map, string_bytes}
-use Rattle.serde_json.specs.View.{items_of}
-use Rattle.serde_json.specs.Written.{compact_text, items_text}
-use Rattle.raft_report.specs.JsonData.{list_of}
-use Rattle.raft_report.specs.JsonLines.{damage_data}
+use Rattle.raft_report.proofs.Common.{◌≡◌, ◌++◌, drop, map, string_bytes, items_of, compact_text, items_text, list_of, damage_data}
 use Rattle.raft_report.proofs.json_files.append_damages.Given as goal
 
 -- the places so far and those that are left make up the list

@@ -1,9 +1,4 @@
-use Rattle.std.proofs.Common.{◌++◌, ◌∙◌, List, ap, map, rules, string_bytes}
-use Rattle.std.proofs.lemmas.Result.{on_ok_weaker}
-use Rattle.raft_listing.specs.declared.damage.Damage.{Damage}
-use Rattle.raft_report.specs.JsonData.{list_of}
-use Rattle.raft_report.specs.JsonLines.{damage_data}
-use Rattle.serde_json.specs.Written.{compact_text}
+use Rattle.raft_report.proofs.Common.{◌++◌, ◌∙◌, List, ap, map, rules, string_bytes, on_ok_weaker, Damage, list_of, damage_data, compact_text}
 use Rattle.raft_report.proofs.LineLemmas.{scan_added}
 use Rattle.raft_report.proofs.json_files.append_json_file.Goals as goal
 

@@ -1,5 +1,4 @@
-use Rattle.std.proofs.Common.{◌≡◌, ◌++◌, None, map, string_bytes, drop}
-use Rattle.raft_report.specs.JsonLines.{missing_files_json}
+use Rattle.raft_report.proofs.Common.{◌≡◌, ◌++◌, None, map, string_bytes, drop, missing_files_json}
 use Rattle.raft_report.proofs.json_files.append_json_missing_files.Given as goal
 
 -- the lines so far and those of the files that are left make up the whole

@@ -1,4 +1,4 @@
-use Rattle.std.proofs.Common.{rules}
+use Rattle.raft_report.proofs.Common.{rules}
 use Rattle.raft_report.proofs.LineLemmas.{missing_is}
 use Rattle.raft_report.proofs.json_files.append_json_numbers.Goals as goal
 

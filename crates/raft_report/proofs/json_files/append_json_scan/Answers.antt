@@ -1,8 +1,4 @@
-use Rattle.std.proofs.Common.{◌++◌, ◌∙◌, ℕ, List, Option, ap, append_assoc, string_bytes}
-use Rattle.std.proofs.lemmas.Result.{on_ok_weaker}
-use Rattle.raft_listing.specs.Missing.{missing_between}
-use Rattle.raft_report.specs.JsonData.{json_line}
-use Rattle.raft_report.specs.JsonLines.{missing_json, scan_data}
+use Rattle.raft_report.proofs.Common.{◌++◌, ◌∙◌, ℕ, List, Option, ap, append_assoc, string_bytes, on_ok_weaker, missing_between, json_line, missing_json, scan_data}
 use Rattle.raft_report.proofs.json_files.append_json_scan.Goals as goal
 
 pub returns : goal.returns

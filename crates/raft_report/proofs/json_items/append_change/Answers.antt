@@ -1,8 +1,5 @@
-use Rattle.std.proofs.Common.{◌++◌, ℕ, List, ap, ◌∙◌, string_bytes}
-use Rattle.raft_records.specs.Item.{item_of, pair_of}
+use Rattle.raft_report.proofs.Common.{◌++◌, ℕ, List, ap, ◌∙◌, string_bytes, item_of, pair_of, key_member, trailed}
 use Rattle.raft_report.proofs.ItemLemmas.{change_added}
-use Rattle.raft_report.specs.JsonItems.{key_member}
-use Rattle.raft_report.specs.JsonPieces.{trailed}
 use Rattle.raft_report.proofs.json_items.append_change.Goals as goal
 
 pub returns-clause-ok : goal.returns-clause-ok

@@ -1,5 +1,4 @@
-use Rattle.std.proofs.Common.{map, drop, string_bytes}
-use Rattle.raft_records.specs.Item.{item_of}
+use Rattle.raft_report.proofs.Common.{map, drop, string_bytes, item_of}
 use Rattle.raft_report.proofs.AddedLemmas.{AreItemsAdding}
 use Rattle.raft_report.proofs.json_items.append_json_items.Given as goal
 

@@ -1,5 +1,4 @@
-use Rattle.std.proofs.Common.{rules}
-use Rattle.serde_json.proofs.OnLiterals.{serde_json_on_literals}
+use Rattle.raft_report.proofs.Common.{rules, serde_json_on_literals}
 use Rattle.raft_report.proofs.json_items.append_value_len.Goals as goal
 
 pub returns-in-Some : goal.returns-in-Some

@@ -1,7 +1,4 @@
-use Rattle.std.proofs.Common.{◌++◌, ◌∙◌, ℕ, List, ap, map, rules, string_bytes}
-use Rattle.std.proofs.lemmas.Result.{on_ok_weaker}
-use Rattle.raft_report.specs.JsonData.{count, list_of}
-use Rattle.serde_json.specs.Written.{compact_text}
+use Rattle.raft_report.proofs.Common.{◌++◌, ◌∙◌, ℕ, List, ap, map, rules, string_bytes, on_ok_weaker, count, list_of, compact_text}
 use Rattle.raft_report.proofs.LineLemmas.{totals_added}
 use Rattle.raft_report.proofs.json_tables.append_json_totals.Goals as goal
 

@@ -1,5 +1,4 @@
-use Rattle.std.proofs.Common.{◌≡◌, ◌++◌, string_bytes, drop}
-use Rattle.raft_report.specs.JsonLines.{uses_json}
+use Rattle.raft_report.proofs.Common.{◌≡◌, ◌++◌, string_bytes, drop, uses_json}
 use Rattle.raft_report.proofs.json_tables.append_json_uses.Given as goal
 
 -- the lines so far and those of the files that are left make up the whole

@@ -1,6 +1,4 @@
-use Rattle.std.proofs.Common.{rules, string_bytes}
-use Rattle.std.proofs.lemmas.Result.{on_ok_weaker}
-use Rattle.serde_json.specs.Written.{comma_if}
+use Rattle.raft_report.proofs.Common.{rules, string_bytes, on_ok_weaker, comma_if}
 use Rattle.raft_report.proofs.LineLemmas.{key_value_added}
 use Rattle.raft_report.proofs.json_tables.append_pair.Goals as goal
 

@@ -1,6 +1,4 @@
-use Rattle.std.proofs.Common.{string_bytes}
-use Rattle.std.proofs.lemmas.Result.{on_ok_weaker}
-use Rattle.raft_report.specs.JsonLines.{table_back, table_front}
+use Rattle.raft_report.proofs.Common.{string_bytes, on_ok_weaker, table_back, table_front}
 use Rattle.raft_report.proofs.LineLemmas.{three_pieces}
 use Rattle.raft_report.proofs.json_tables.append_table.Goals as goal
 

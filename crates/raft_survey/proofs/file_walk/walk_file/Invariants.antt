@@ -1,4 +1,4 @@
-use Rattle.std.proofs.Common.{◌-◌, ◌+◌, length}
+use Rattle.raft_survey.proofs.Common.{◌-◌, ◌+◌, length}
 use Rattle.raft_survey.proofs.WalkedLemmas.{IsReading}
 use Rattle.raft_survey.proofs.file_walk.walk_file.Given as goal
 

@@ -1,9 +1,4 @@
-use Rattle.std.proofs.Common.{List, inl, inr, subst}
-use Rattle.std.proofs.lemmas.Result.{IfErr-weaker, on_ok_weaker}
-use Rattle.raft_base.specs.declared.pipe_log.LogQueue.TheVariants.{Append, Rewrite}
-use Rattle.raft_replay.proofs.Passed.{on_passed}
-use Rattle.raft_reading.specs.declared.queue_files.FileSize.{FileSize}
-use Rattle.raft_survey.specs.FileWalks.{AreFilesWalked, IsOneUnread}
+use Rattle.raft_survey.proofs.Common.{List, inl, inr, subst, IfErr-weaker, on_ok_weaker, Append, Rewrite, on_passed, FileSize, AreFilesWalked, IsOneUnread}
 use Rattle.raft_survey.proofs.file_walk.walk_files.Goals as goal
 
 pub returns-clause-ok : goal.returns-clause-ok

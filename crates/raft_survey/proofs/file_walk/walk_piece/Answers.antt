@@ -1,5 +1,4 @@
-use Rattle.std.proofs.Common.{arith}
-use Rattle.std.proofs.lemmas.Result.{err_from_is_err_and}
+use Rattle.raft_survey.proofs.Common.{arith, err_from_is_err_and}
 use Rattle.raft_survey.proofs.file_walk.walk_piece.Goals as goal
 
 -- the bytes end before the last offset

@@ -1,5 +1,4 @@
-use Rattle.std.proofs.Common.{drop}
-use Rattle.raft_survey.specs.FileWalks.{AreFilesWalked}
+use Rattle.raft_survey.proofs.Common.{drop, AreFilesWalked}
 use Rattle.raft_survey.proofs.file_walk.walk_queue.Given as goal
 
 -- with the files that are left, all were shown

@@ -1,5 +1,4 @@
-use Rattle.std.proofs.Common.{◌≡◌, ◌<◌, ◌≤◌, ℕ, List, length, drop, ap, subst, arith, length-drop}
-use Rattle.raft_records.specs.FilePart.{HasHeader}
+use Rattle.raft_survey.proofs.Common.{◌≡◌, ◌<◌, ◌≤◌, ℕ, List, length, drop, ap, subst, arith, length-drop, HasHeader}
 use Rattle.raft_survey.proofs.WalkedLemmas.{batch_more}
 use Rattle.raft_survey.proofs.file_walk.whole_batches.Goals as goal
 

@@ -1,5 +1,4 @@
-use Rattle.std.proofs.Common.{◌-◌, ◌≤◌, length, take}
-use Rattle.raft_survey.specs.FileWalks.{AreBatchesByHeader}
+use Rattle.raft_survey.proofs.Common.{◌-◌, ◌≤◌, length, take, AreBatchesByHeader}
 use Rattle.raft_survey.proofs.file_walk.whole_batches.Given as goal
 
 abbrev pub invariant-loop-len : goal.invariant-loop-len

@@ -1,5 +1,4 @@
-use Rattle.std.proofs.Common.{◌≡◌, ◌++◌, string_bytes, drop, flat_map}
-use Rattle.raft_survey.specs.Reported.{damage_line}
+use Rattle.raft_survey.proofs.Common.{◌≡◌, ◌++◌, string_bytes, drop, flat_map, damage_line}
 use Rattle.raft_survey.proofs.report.append_damages.Given as goal
 
 -- the lines so far and those of the places that are left make up the whole

@@ -1,5 +1,4 @@
-use Rattle.std.proofs.Common.{◌≡◌, ◌++◌, None, map, string_bytes, drop}
-use Rattle.raft_survey.specs.Reported.{missing_text}
+use Rattle.raft_survey.proofs.Common.{◌≡◌, ◌++◌, None, map, string_bytes, drop, missing_text}
 use Rattle.raft_survey.proofs.report.append_missing_files.Given as goal
 
 -- the lines so far and those of the files that are left make up the whole

@@ -1,5 +1,4 @@
-use Rattle.std.proofs.Common.{◌≡◌, ◌↔◌, [], drop}
-use Rattle.std.specs.List.{AllByRecursion}
+use Rattle.raft_survey.proofs.Common.{◌≡◌, ◌↔◌, [], drop, AllByRecursion}
 use Rattle.raft_survey.proofs.scans.are_undamaged.Given as goal
 
 -- where those that are left are undamaged all are, and the other way round

@@ -1,9 +1,4 @@
-use Rattle.std.proofs.Common.{subst}
-use Rattle.std.proofs.lemmas.Result.{err_from_is_err_and}
-use Rattle.raft_base.specs.declared.pipe_log.LogFileContext.{LogFileContext}
-use Rattle.raft_replay.proofs.Passed.{on_passed}
-use Rattle.raft_reading.specs.FilesRead.{IsUnread}
-use Rattle.raft_reading.specs.QueueRead.{file_of}
+use Rattle.raft_survey.proofs.Common.{subst, err_from_is_err_and, LogFileContext, on_passed, IsUnread, file_of}
 use Rattle.raft_survey.proofs.FaultLemmas.{memory_at_last}
 use Rattle.raft_survey.proofs.SoundLemmas.{context_of, scan_of}
 use Rattle.raft_survey.proofs.scans.scan_file.Goals as goal

@@ -10,11 +10,13 @@ use std::alloc::Global;
 use std::collections::VecDeque;
 use std::mem::swap;
 
-/// Up to so many blocks are walked: their first indexes aren't kept.
+/// Entries in at most this many blocks needn't keep the blocks' first indexes: to find an entry, the blocks
+/// are walked.
 pub(super) const FEW: usize = 3;
 
-/// Returns the spot of the entry at position `at`. `first` is the first index, and `len` the number
-/// of all entries: where first indexes of blocks are kept, the block is guessed by them.
+/// Returns the spot of the entry at position `at`, from 0, among the entries of `blocks`. If first indexes
+/// are kept in `starts`, the block is found by them, with `first`, the index of the first entry, and `len`,
+/// the number of all entries, for a good guess ([`find`]); else the blocks are walked.
 pub(super) fn spot_of(blocks: &Blocks, starts: &Starts, first: u64, len: usize, at: usize) -> Spot
     requires starts { AreStarts first (shown blocks.now) starts.now.items }
     requires within { (at < count (shown blocks.now))
@@ -27,8 +29,7 @@ pub(super) fn spot_of(blocks: &Blocks, starts: &Starts, first: u64, len: usize, 
     find(starts, first, len, first + at as u64)
 }
 
-/// Returns the spot of the entry that has `behind` entries in front of it, by a walk over the
-/// blocks.
+/// Returns the spot of the entry that has `behind` entries before it, by a walk over the blocks.
 fn spot_among(blocks: &Blocks, behind: usize) -> Spot
     requires { behind < count (shown blocks.now) }
     ensures { IsAt behind (shown blocks.now) result.0 result.1 }
@@ -42,8 +43,9 @@ fn spot_among(blocks: &Blocks, behind: usize) -> Spot
     (nth, rest)
 }
 
-/// Guesses the block, as if all were of one length, and searches where that isn't the one. Wrong
-/// numbers make a wrong guess, and no fault.
+/// Returns the spot of the entry at `index`. Its block is guessed, as if all blocks were equally long, from
+/// the first index `first` and the number `len` of entries; if the guess is wrong, `search` finds it. Wrong
+/// numbers make a wrong guess, never a wrong spot.
 pub(super) fn find(starts: &Starts, first: u64, len: usize, index: u64) -> Spot
     requires { IsIndexOf starts.now.items index }
     ensures { (i : ℕ) (bs : List BlockSpans) → starts.now.items ≡ starts_of i bs → i ≤ index →
@@ -59,7 +61,7 @@ pub(super) fn find(starts: &Starts, first: u64, len: usize, index: u64) -> Spot
     search(starts, index)
 }
 
-/// Returns the spot of an index that is among the entries, by a binary search.
+/// Returns the spot of the entry at `index`, by a binary search in the first indexes of the blocks.
 pub(super) fn search(starts: &Starts, index: u64) -> Spot
     requires { IsIndexOf starts.now.items index }
     ensures { (i : ℕ) (bs : List BlockSpans) → starts.now.items ≡ starts_of i bs → i ≤ index →
@@ -75,8 +77,8 @@ pub(super) fn search(starts: &Starts, index: u64) -> Spot
     (nth, (index - start) as usize)
 }
 
-/// Returns the spot behind the first `kept` entries: how many blocks hold them, and how many of
-/// them are in the last of these; zeros where `kept` is 0.
+/// Returns where the first `kept` entries end: how many blocks hold them, and how many of them are in the
+/// last of these blocks. Both are 0 if `kept` is 0. `first` is the index of the first entry.
 pub(super) fn spot_behind(starts: &Starts, first: u64, kept: usize) -> Spot
     requires bounded { first + kept < 2 ^ 64 }
     requires within { 0 < kept → IsIndexOf starts.now.items (first + (kept - 1)) }
@@ -92,11 +94,11 @@ pub(super) fn spot_behind(starts: &Starts, first: u64, kept: usize) -> Spot
     (nth + 1, last + 1)
 }
 
-/// Copies the spans behind the first `dropped` ones.
+/// Copies the spans of a block that come after its first `dropped` ones.
 ///
 /// # Errors
 ///
-/// Where there is no memory for them.
+/// `AllocError` if there is no memory for the copy.
 pub(super) fn spans_behind(alloc: Global, spans: &Spans, dropped: usize) -> AllocResult<Spans>
     requires { dropped ≤ length spans.now.items }
     ensures ok { IfOk result (λ behind. behind.items ≡ drop dropped spans.now.items) }
@@ -108,7 +110,7 @@ pub(super) fn spans_behind(alloc: Global, spans: &Spans, dropped: usize) -> Allo
     Ok(behind)
 }
 
-/// Tests whether two places are equal.
+/// Tests whether the places `a` and `b` are equal: file, offset and length.
 #[inline(always)]
 pub(super) fn is_same(a: &FileBlockHandle, b: &FileBlockHandle) -> bool
     ensures { MatchBool result (a.now ≡ b.now) (a.now ≢ b.now) }
@@ -116,12 +118,14 @@ pub(super) fn is_same(a: &FileBlockHandle, b: &FileBlockHandle) -> bool
     a == b
 }
 
-/// Puts blocks in place of those from a spot up to `rest`; at the seam equal places make one block.
-/// `more` is left empty.
+/// Puts the blocks of `more` between the first `spot.0` blocks, the last of which keeps its first `spot.1`
+/// spans, and those from position `rest` on. Puts the first indexes of `more_starts` likewise, and leaves
+/// both empty. If the last block that is kept and the first one of `more` have the same place, they become
+/// one block.
 ///
 /// # Errors
 ///
-/// Where there is no memory for them. All deques are then as they were.
+/// `AllocError` if there is no memory for the blocks. All four deques are unchanged then.
 pub(super) fn put_blocks(
     blocks: &mut Blocks,
     starts: &mut Starts,
@@ -156,12 +160,13 @@ pub(super) fn put_blocks(
     Ok(())
 }
 
-/// Puts the blocks of `more` in place of all behind a spot, and leaves `more` empty; at the seam
-/// equal places make one block. First indexes of blocks are left to the caller.
+/// Puts the blocks of `more` behind the first `spot.0` blocks, the last of which keeps its first `spot.1`
+/// spans, in place of all others, and leaves `more` empty: [`put_blocks`] for entries of few blocks, without
+/// first indexes.
 ///
 /// # Errors
 ///
-/// Where there is no memory for them. Both deques are then as they were.
+/// `AllocError` if there is no memory for the blocks. Both deques are unchanged then.
 pub(super) fn put_few_blocks(blocks: &mut Blocks, spot: Spot, more: &mut Blocks) -> AllocResult<()>
     requires within { (0 < spot.0) × (spot.0 ≤ length blocks.old.items) }
     requires kept { (d : Block) → 0 < spot.0
@@ -181,11 +186,12 @@ pub(super) fn put_few_blocks(blocks: &mut Blocks, spot: Spot, more: &mut Blocks)
     Ok(())
 }
 
-/// Makes room for both in the longer deque, if there is none.
+/// Makes room for the items of both deques in one of them, the longer one unless `deque` has the room
+/// already, so that [`splice`] can't fail.
 ///
 /// # Errors
 ///
-/// Where there is no memory for it. Both are then as they were.
+/// `AllocError` if there is no memory for it. The items of both are unchanged then.
 fn make_room<T>(deque: &mut VecDeque<T>, more: &mut VecDeque<T>) -> AllocResult<()>
     ensures items { (deque.new.items ≡ deque.old.items) × (more.new.items ≡ more.old.items) }
     ensures len { (deque_len deque.new ≡ deque_len deque.old) ×
@@ -200,13 +206,13 @@ fn make_room<T>(deque: &mut VecDeque<T>, more: &mut VecDeque<T>) -> AllocResult<
     deque.reserve(more.len())
 }
 
-/// Cuts the block in front of a spot to its kept spans. Where the first block of `more` has the
-/// same place, its spans are put behind those, and it leaves `more`, as its first index does
-/// `more_starts`.
+/// Joins two lists of blocks at their seam, the first half of [`put_blocks`]: cuts the last of the first
+/// `spot.0` blocks to its first `spot.1` spans. If the first block of `more` has the same place, its spans
+/// are moved behind those, and it is removed from `more`, and its first index from `more_starts`.
 ///
 /// # Errors
 ///
-/// Where there is no memory for the spans. All deques are then as they were.
+/// `AllocError` if there is no memory for the spans. All deques are unchanged then.
 fn meet(
     blocks: &mut Blocks,
     spot: Spot,
@@ -247,7 +253,7 @@ fn meet(
     Ok(())
 }
 
-/// Takes the first item away, if there is one.
+/// Removes the first item of `deque`, if there is one.
 fn drop_front<T: Drop>(deque: &mut VecDeque<T>)
     ensures items { deque.new.items ≡ drop 1 deque.old.items }
     ensures fewer { deque_len deque.new ≤ deque_len deque.old }
@@ -256,12 +262,12 @@ fn drop_front<T: Drop>(deque: &mut VecDeque<T>)
     drop(deque.pop_front());
 }
 
-/// Fills `starts` with the first index of each block, where it is empty. `first` is the first of
-/// all.
+/// Fills `starts` with the first index of each block, unless it has them already. `first` is the index of the
+/// first entry.
 ///
 /// # Errors
 ///
-/// Where there is no memory for them. None is then kept.
+/// `AllocError` if there is no memory for them. `starts` is unchanged then.
 #[inline(always)]
 pub(super) fn keep_starts(blocks: &Blocks, starts: &mut Starts, first: u64) -> AllocResult<()>
     requires starts { AreStarts first (shown blocks.now) starts.old.items }
@@ -277,7 +283,8 @@ pub(super) fn keep_starts(blocks: &Blocks, starts: &mut Starts, first: u64) -> A
     Ok(())
 }
 
-/// Pushes the first index of each block, for which `starts` has room. `first` is the first of all.
+/// Appends the first index of each block to `starts`, which is empty and has room for them: the loop of
+/// [`keep_starts`].
 #[inline(never)]
 fn push_starts(blocks: &Blocks, starts: &mut Starts, first: u64)
     requires none { starts.old.items ≡ [] }
@@ -292,12 +299,13 @@ fn push_starts(blocks: &Blocks, starts: &mut Starts, first: u64)
     }
 }
 
-/// Pushes a block and its first index. Where the last block has the same place, that one is
-/// lengthened instead.
+/// Appends `block`, and `index`, the index of its first entry, to `starts`. If the last block has the same
+/// place, the spans are appended to that one, and `starts` stays as it is.
 ///
 /// # Errors
 ///
-/// Where there is no memory for it. Both deques are then as they were, and the block is lost.
+/// `AllocError` if there is no memory for it. The items of both deques are unchanged then, and the block is
+/// dropped.
 #[inline(always)]
 pub(super) fn push_with_start(
     blocks: &mut Blocks,
@@ -322,11 +330,11 @@ pub(super) fn push_with_start(
     Ok(())
 }
 
-/// Pushes a block. Where the last one has the same place, that one is lengthened instead.
+/// Appends `block`. If the last block has the same place, the spans are appended to that one instead.
 ///
 /// # Errors
 ///
-/// Where there is no memory for it. The blocks are then as they were, and the new one is lost.
+/// `AllocError` if there is no memory for it. The blocks are unchanged then, and the new one is dropped.
 #[inline(always)]
 pub(super) fn push_block(blocks: &mut Blocks, mut block: Block) -> AllocResult<()>
     ensures ok { OnOk result (shown blocks.new
@@ -348,11 +356,11 @@ pub(super) fn push_block(blocks: &mut Blocks, mut block: Block) -> AllocResult<(
     Ok(())
 }
 
-/// Moves the spans of `more` into a block, in place of those behind its first `kept` ones.
+/// Keeps the first `kept` spans of `block`, and moves the spans of `more` behind them.
 ///
 /// # Errors
 ///
-/// Where there is no memory for them. The block and `more` are then as they were.
+/// `AllocError` if there is no memory for them. The block and `more` are unchanged then.
 #[inline(never)]
 fn lengthen(block: &mut Block, kept: usize, more: &mut Spans) -> AllocResult<()>
     requires { kept ≤ length block.old.spans.items }
@@ -371,8 +379,9 @@ fn lengthen(block: &mut Block, kept: usize, more: &mut Spans) -> AllocResult<()>
     Ok(())
 }
 
-/// Puts the items of `more` in place of those from `kept` up to `rest`, and leaves `more` empty.
-/// One of the deques has room for all; they end up in its memory.
+/// Replaces the items of `deque` from `kept` up to `rest` by those of `more`, and leaves `more` empty. If
+/// there are as many as they replace, they are put at the same positions. Otherwise one of the deques has
+/// room for all, and all end up in its memory.
 fn splice<T: Drop>(deque: &mut VecDeque<T>, kept: usize, rest: usize, more: &mut VecDeque<T>)
     requires order { kept ≤ rest }
     requires within { rest ≤ deque_len deque.old }
@@ -382,6 +391,10 @@ fn splice<T: Drop>(deque: &mut VecDeque<T>, kept: usize, rest: usize, more: &mut
         ≡ take kept deque.old.items ++ more.old.items ++ drop rest deque.old.items }
     ensures emptied { more.new.items ≡ [] }
 {
+    let as_many = more.len() == rest - kept;
+    if as_many {
+        return replace(deque, kept, more);
+    }
     let behind = deque.len() - rest;
     let has_room = more.len() <= deque.capacity() - deque.len();
     deque.rotate_left(rest);
@@ -396,7 +409,21 @@ fn splice<T: Drop>(deque: &mut VecDeque<T>, kept: usize, rest: usize, more: &mut
     swap(deque, more);
 }
 
-/// Moves the items of `more` behind those of `deque`, which has room for them.
+/// Puts the items of `more` over as many items of `deque`, from position `at` on, and leaves `more` empty.
+fn replace<T: Drop>(deque: &mut VecDeque<T>, at: usize, more: &mut VecDeque<T>)
+    requires within { at + deque_len more.old ≤ deque_len deque.old }
+    ensures items { deque.new.items ≡ take at deque.old.items ++ more.old.items
+        ++ drop (at + deque_len more.old) deque.old.items }
+    ensures emptied { more.new.items ≡ [] }
+{
+    let mut next = at;
+    while let Some(item) = more.pop_front() {
+        deque[next] = item;
+        next += 1;
+    }
+}
+
+/// Moves the items of `more` behind those of `deque`, which has room for them. So it needs no memory.
 fn append<T>(deque: &mut VecDeque<T>, more: &mut VecDeque<T>)
     requires room { deque_len deque.old + deque_len more.old ≤ deque_capacity deque.old }
     ensures items { deque.new.items ≡ deque.old.items ++ more.old.items }

@@ -8,9 +8,11 @@ use crate::memtable::block::Block;
 use crate::memtable::entries::{Blocks, Spot};
 use raft_base::{EntryIndex, FileBlockHandle, FileSeq, LogQueue};
 
-/// Pushes the entries at the positions from `start` on and below `end`, for which there is room.
-/// They are pushed first, and a second walk sets their spans: the spans of each block lie apart,
-/// and a walk that does little else can have those of several brought from memory at once.
+/// Appends the entries at the positions `start..end` to `vec`, which has room for them. `first` is the index
+/// at position 0, and `spot` the spot of `start`.
+///
+/// The entries are appended first, and a second walk sets their spans: the spans of each block lie apart, and
+/// a walk that does little else can have those of several blocks brought from memory at once.
 pub(super) fn push_entries(
     vec: &mut Vec<EntryIndex>,
     first: u64,
@@ -30,8 +32,8 @@ pub(super) fn push_entries(
     set_spans(vec, len, blocks, spot, start, end);
 }
 
-/// Pushes the entries at the positions from `start` on and below `end`, whose offsets and lengths
-/// are left 0. `first` is the index at position 0, `spot` the spot of `start`.
+/// Appends the entries at the positions `start..end`, with offset and length 0: the first walk of
+/// [`push_entries`].
 fn push_without_spans(
     vec: &mut Vec<EntryIndex>,
     first: u64,
@@ -58,8 +60,8 @@ fn push_without_spans(
     }
 }
 
-/// Pushes `count` entries of a block, from the one at `at` on, whose offsets and lengths are left
-/// 0. Their indexes begin at `first`.
+/// Appends `count` entries of `block`, from its span at `at` on, with offset and length 0. Their indexes
+/// begin at `first`.
 fn push_without_spans_of(
     vec: &mut Vec<EntryIndex>,
     first: u64,
@@ -87,7 +89,8 @@ fn push_without_spans_of(
     }
 }
 
-/// Sets offsets and lengths of the entries that `push_without_spans` pushed behind the first `len`.
+/// Sets the offsets and lengths of the entries that [`push_without_spans`] appended behind the first `len`:
+/// the second walk of [`push_entries`].
 fn set_spans(
     vec: &mut Vec<EntryIndex>,
     len: usize,
@@ -116,8 +119,8 @@ fn set_spans(
     }
 }
 
-/// Sets offsets and lengths of `count` entries behind the first `len` to the spans of a block, from
-/// the one at `at` on.
+/// Sets the offsets and lengths of the `count` entries from position `len` of `vec` on, to the spans of
+/// `block` from the one at `at` on.
 fn set_spans_of(vec: &mut Vec<EntryIndex>, len: usize, block: &Block, at: usize, count: usize)
     requires within { at + count ≤ length block.now.spans.items }
     requires there { len + count ≤ length vec.old.items }
@@ -134,8 +137,9 @@ fn set_spans_of(vec: &mut Vec<EntryIndex>, len: usize, block: &Block, at: usize,
     }
 }
 
-/// Returns how many entries, of those at the positions from `start` on and below `end`, come before
-/// the first one that a rewriting may not move. `spot` is the spot of `start`.
+/// Returns how many entries a rewriting moves, of those at the positions `start..end`: those before the first
+/// one that it may not move ([`is_movable`]). `spot` is the spot of `start`. The entries of a block have one
+/// place, so only blocks are tested.
 pub(super) fn movable_from(
     blocks: &Blocks,
     spot: Spot,
@@ -161,8 +165,8 @@ pub(super) fn movable_from(
     end - start
 }
 
-/// Tests whether a rewriting may move an entry from this place: with a gate, where its file's
-/// number is at or below it; without one, where the place is in the rewrite queue.
+/// Tests whether a rewriting may move an entry away from the place `handle`: with a `gate`, if the number of
+/// its file is at or below it; without one, if the place is in the rewrite queue.
 #[tactic(auto, unfolding(crate::specs::TableEntries::is_placed_in, crate::specs::Rewriting::is_placed_before))]
 fn is_movable(handle: &FileBlockHandle, gate: Option<FileSeq>) -> bool
     ensures { (e : EntryIndex) → e.entries ≡ Some handle.now → result ≡ may_move gate e }
@@ -173,9 +177,10 @@ fn is_movable(handle: &FileBlockHandle, gate: Option<FileSeq>) -> bool
     }
 }
 
-/// Returns how many entries, of those at the positions from `start` on and below `end`, come before
-/// the first one with which the total of lengths, in bytes, passes `limit` and exceeds its own
-/// length.
+/// Returns how many of the entries at the positions `start..end` a fetch returns, whose maximal size is
+/// `limit` bytes: it stops before the first entry with which the sum of lengths passes `limit` and exceeds
+/// that entry's own length, so that entries come even if the first one alone is too long. `spot` is the spot
+/// of `start`.
 pub(super) fn count_from(
     blocks: &Blocks,
     mut spot: Spot,
@@ -200,7 +205,8 @@ pub(super) fn count_from(
     end - start
 }
 
-/// Returns the spot behind `spot`: in its block, which is given, or at the start of the next one.
+/// Returns the spot after `spot`: the next one in `block`, which is the block of `spot`, or the first one of
+/// the next block.
 fn next(block: &Block, spot: Spot) -> Spot
     requires within { spot.0 + 1 < 2 ^ 64 }
     requires inside { spot.1 < length block.now.spans.items }

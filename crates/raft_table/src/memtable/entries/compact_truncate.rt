@@ -11,7 +11,8 @@ use raft_base::LogQueue;
 use std::collections::VecDeque;
 
 impl Entries {
-    /// Drops the entries below `index`, takes them off the counts, and returns how many they are.
+    /// Drops the entries below `index`, and subtracts them from the live counts. Returns how many were
+    /// dropped.
     pub fn compact_to(&mut self, index: u64, stats: &mut GlobalStats) -> u64
         requires { AreCounted self.old stats.old }
         ensures entries { self.new ≡ from index self.old }
@@ -30,7 +31,8 @@ impl Entries {
         count as u64
     }
 
-    /// Drops the entries from `index` on, takes them off the counts, and returns how many they are.
+    /// Drops the entries at or above `index`, and subtracts them from the live counts. Returns how many were
+    /// dropped.
     pub fn truncate_from(&mut self, index: u64, stats: &mut GlobalStats) -> u64
         requires { AreCounted self.old stats.old }
         ensures entries { self.new ≡ below index self.old }
@@ -50,8 +52,8 @@ impl Entries {
         dropped as u64
     }
 
-    /// Drops the entries below `index` and, with a cut, those from it on, and takes them off the
-    /// counts.
+    /// Drops the entries below `index` and, if there is a `cut`, those at or above it, and subtracts them
+    /// from the live counts. Joins of tables use it for what newer steps took away.
     pub fn keep_within(&mut self, index: u64, cut: Option<u64>, stats: &mut GlobalStats)
         requires { AreCounted self.old stats.old }
         ensures entries { self.new ≡ entries_within index cut self.old }
@@ -64,7 +66,7 @@ impl Entries {
         self.truncate_from(cut, stats);
     }
 
-    /// Returns the greatest index plus one, 0 without entries.
+    /// Returns the index after the last entry, or 0 if there is no entry.
     pub fn end(&self) -> u64
         ensures { result ≡ end_of self.now }
     {
@@ -75,8 +77,8 @@ impl Entries {
         }
     }
 
-    /// Returns the greatest index plus one of the entries from `index` on and, with a cut, below
-    /// it; 0 where there are none.
+    /// Returns the index after the last of the entries that are at or above `index` and, if there is a `cut`,
+    /// below it. Returns 0 if there are none.
     pub fn end_within(&self, index: u64, cut: Option<u64>) -> u64
         ensures { result ≡ end_of (entries_within index cut self.now) }
     {
@@ -87,7 +89,7 @@ impl Entries {
         0
     }
 
-    /// Drops the first `count` entries. The counts are left to the caller.
+    /// Drops the first `count` entries. The live counts are left to the caller.
     fn drop_front(&mut self, count: usize)
         requires { count ≤ length self.old }
         ensures { self.new ≡ drop count self.old }
@@ -105,7 +107,7 @@ impl Entries {
         self.rewritten -= self.rewritten.min(count);
     }
 
-    /// Drops all but the first `count` entries. The counts are left to the caller.
+    /// Drops all but the first `count` entries. The live counts are left to the caller.
     fn keep_front(&mut self, count: usize)
         requires { count ≤ length self.old }
         ensures { self.new ≡ take count self.old }
@@ -121,7 +123,7 @@ impl Entries {
         self.rewritten = self.rewritten.min(count);
     }
 
-    /// Drops all entries. The counts are left to the caller.
+    /// Drops all entries. The live counts are left to the caller.
     pub(super) fn clear(&mut self)
         ensures { self.new ≡ [] }
     {
@@ -132,7 +134,7 @@ impl Entries {
     }
 }
 
-/// Drops the blocks behind the one at `nth`, and of that all but its first `kept` spans.
+/// Drops the blocks after the one at position `nth`, and all but the first `kept` spans of that one.
 fn keep_front_blocks(blocks: &mut Blocks, nth: usize, kept: usize)
     requires nth { nth < length blocks.old.items }
     ensures { shown blocks.new ≡ first_of_last kept (take (nth + 1) (shown blocks.old)) }
@@ -141,7 +143,7 @@ fn keep_front_blocks(blocks: &mut Blocks, nth: usize, kept: usize)
     blocks[nth].spans.truncate(kept);
 }
 
-/// Drops the blocks in front of the one at `nth`, and the first `dropped` spans of that one.
+/// Drops the blocks before the one at position `nth`, and the first `dropped` spans of that one.
 fn drop_front_blocks(blocks: &mut Blocks, nth: usize, dropped: usize)
     requires nth { nth < length blocks.old.items }
     requires dropped { (d : Block) → dropped
@@ -152,8 +154,8 @@ fn drop_front_blocks(blocks: &mut Blocks, nth: usize, dropped: usize)
     drop_first(&mut blocks[0].spans, dropped);
 }
 
-/// Drops the first indexes of the blocks in front of the one at `nth`, which begins at `index` now.
-/// Where none are kept nothing happens.
+/// Drops the first indexes of the blocks before the one at position `nth`, whose own first index becomes
+/// `index`. If `starts` is empty, since first indexes aren't kept, it stays so.
 fn drop_front_starts(starts: &mut Starts, nth: usize, index: u64)
     requires { starts.old.items ≢ [] → nth < length starts.old.items }
     ensures none { starts.old.items ≡ [] → starts.new.items ≡ [] }
@@ -167,7 +169,7 @@ fn drop_front_starts(starts: &mut Starts, nth: usize, index: u64)
     starts[0] = index;
 }
 
-/// Drops the first `count` items.
+/// Drops the first `count` items of `deque`.
 fn drop_first<T: Drop>(deque: &mut VecDeque<T>, count: usize)
     requires { count ≤ length deque.old.items }
     ensures { deque.new.items ≡ drop count deque.old.items }

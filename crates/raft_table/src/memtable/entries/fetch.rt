@@ -9,14 +9,15 @@ use crate::memtable::entries::block_walks::{count_from, movable_from, push_entri
 use raft_base::{EntryIndex, Error, FileSeq, LogQueue, Result};
 
 impl Entries {
-    /// Appends the entries from `begin` on and below `end` to `vec`, with a limit those before the
-    /// first one with which the total of lengths, in bytes, passes it and exceeds its own length.
+    /// Appends the entries at the indexes `begin..end` to `vec`. With a `limit`, in bytes, it stops before
+    /// the first entry with which the sum of their lengths passes the limit and exceeds that entry's own
+    /// length.
     ///
     /// # Errors
     ///
-    /// Where the range isn't empty: `EntryNotFound` without entries, `EntryCompacted` where it
-    /// begins below the first entry, `EntryNotFound` where it ends above the last; else `Memory`
-    /// alone. `vec` is then as it was.
+    /// If the range isn't empty: `EntryNotFound` if there are no entries or `end` is above their end,
+    /// `EntryCompacted` if `begin` is below the first entry; otherwise `Memory` alone. `vec` is unchanged
+    /// then.
     pub fn fetch_to(
         &self,
         begin: u64,
@@ -47,11 +48,11 @@ impl Entries {
         self.extend(vec, start, start + count)
     }
 
-    /// Appends the rewritten entries to `vec`.
+    /// Appends all entries whose place is in the rewrite queue to `vec`.
     ///
     /// # Errors
     ///
-    /// `Memory`. `vec` is then as it was.
+    /// `Memory` alone. `vec` is unchanged then.
     pub fn fetch_rewritten(&self, vec: &mut Vec<EntryIndex>) -> Result<()>
         ensures ok { OnOk result (vec.new.items ≡ vec.old.items ++ placed_in Rewrite self.now) }
         ensures err { OnErr result (vec.new.items ≡ vec.old.items) }
@@ -60,12 +61,12 @@ impl Entries {
         self.extend(vec, 0, self.rewritten)
     }
 
-    /// Appends the appended entries to `vec`, from the first on while their file is at or below
-    /// `gate`.
+    /// Appends entries whose place is in the append queue to `vec`: from the first such entry on, as long as
+    /// file numbers are at or below `gate`.
     ///
     /// # Errors
     ///
-    /// `Memory`. `vec` is then as it was.
+    /// `Memory` alone. `vec` is unchanged then.
     pub fn fetch_before(&self, gate: FileSeq, vec: &mut Vec<EntryIndex>) -> Result<()>
         ensures ok { OnOk result (vec.new.items ≡ vec.old.items ++ appended_before gate self.now) }
         ensures err { OnErr result (vec.new.items ≡ vec.old.items) }
@@ -76,7 +77,8 @@ impl Entries {
         self.extend(vec, start, start + count)
     }
 
-    /// Returns the file number of the entry at a position; `None` behind the last one.
+    /// Returns the file number of the entry at position `at`, from 0, or `None` if there are no more than
+    /// `at` entries.
     pub fn seq_at(&self, at: usize) -> Option<FileSeq>
         ensures { result ≡ entry_seq (slice_get self.now at) }
     {
@@ -87,7 +89,7 @@ impl Entries {
         Some(self.blocks[nth].handle.id.seq)
     }
 
-    /// Returns the file number of the first entry in `queue`; `None` where there is none.
+    /// Returns the file number of the first entry whose place is in `queue`, or `None` if there is none.
     pub fn first_entry_seq_in(&self, queue: LogQueue) -> Option<FileSeq>
         ensures { result ≡ first_entry_seq queue self.now }
     {
@@ -98,8 +100,8 @@ impl Entries {
         }
     }
 
-    /// Returns how many entries, of those at the positions from `at` on and below `end`, come
-    /// before the first one that a rewriting with this gate may not move.
+    /// Returns how many of the entries at the positions `at..end` come before the first one that a rewriting
+    /// with this `gate` may not move.
     pub(super) fn movable(&self, at: usize, end: usize, gate: Option<FileSeq>) -> usize
         requires order { at ≤ end }
         requires within { end ≤ length self.now }
@@ -112,8 +114,8 @@ impl Entries {
         movable_from(&self.blocks, spot, at, end, gate)
     }
 
-    /// Returns how many entries, of those at the positions from `start` on and below `end`, a limit
-    /// of bytes lets through; all of them without one.
+    /// Returns how many of the entries at the positions `start..end` a fetch with a maximal size of `limit`
+    /// bytes returns: all of them without a limit.
     fn count_within(&self, start: usize, end: usize, limit: Option<usize>) -> usize
         requires order { start ≤ end }
         requires within { end ≤ length self.now }
@@ -129,11 +131,11 @@ impl Entries {
         count_from(&self.blocks, spot, start, end, limit)
     }
 
-    /// Appends the entries at the positions from `start` on and below `end` to `vec`.
+    /// Appends the entries at the positions `start..end` to `vec`.
     ///
     /// # Errors
     ///
-    /// `Memory`. `vec` is then as it was.
+    /// `Memory` alone. `vec` is unchanged then.
     fn extend(&self, vec: &mut Vec<EntryIndex>, start: usize, end: usize) -> Result<()>
         requires order { start ≤ end }
         requires within { end ≤ length self.now }

@@ -9,16 +9,17 @@ use crate::memtable::entries::{Entries, Overlap};
 use raft_base::{AllocResult, EntryIndex, Error, FileSeq, LogQueue, Result};
 
 impl Entries {
-    /// Gives the entries that have the indexes of a run its places, up to the first one that may
-    /// not move: with a gate appended entries of files at or below it move, without one rewritten
-    /// entries. The whole run is counted as written to the rewrite queue; what of it moved nothing,
-    /// and the records in the places that were left, go off the live counts.
+    /// Gives entries the places of a run of the rewrite queue that has their indexes, from the first common
+    /// index up to the first entry that may not move: with a `gate`, entries in files numbered at or below it
+    /// may; without one, entries that are rewritten already. The whole run is counted as written to the
+    /// rewrite queue. What moved nothing of it, and the old places of what moved, are no longer live. A run
+    /// without entries changes nothing.
     ///
     /// # Errors
     ///
-    /// `Corruption` where the common indexes begin behind the rewritten entries, or with a gate
-    /// before their end; `Full` where the run would pass 2^64 - 1 together with the live records of
-    /// the rewrite queue; `Memory`. Entries and counts are then as they were.
+    /// `Corruption` if the common indexes begin above the end of the rewritten entries or, with a gate, below
+    /// it; `Full` if the live records of the rewrite queue and the run together pass 2^64 - 1; `Memory`.
+    /// Entries and counts are unchanged then.
     pub fn rewrite(
         &mut self,
         run: &[EntryIndex],
@@ -52,8 +53,8 @@ impl Entries {
         self.move_places(overlap.at, places, gate, run.len(), stats)
     }
 
-    /// Returns where a run of `len` entries from the index `start` on meets these; `None` where no
-    /// index is common.
+    /// Returns where a run of `len` entries from index `start` on meets these entries, or `None` if no index
+    /// is in both.
     fn overlap(&self, start: u64, len: usize) -> Option<Overlap>
         requires { start + len < 2 ^ 64 }
         ensures meets { MatchOption result
@@ -78,22 +79,22 @@ impl Entries {
         })
     }
 
-    /// Tests whether a rewriting may not begin at position `at`: that is behind the rewritten
-    /// entries or, with a gate, before their end.
+    /// Tests whether a rewriting may not begin at position `at` of the entries: if that is behind the end of
+    /// the rewritten ones or, with a `gate`, before it.
     fn is_misplaced(&self, at: usize, gate: Option<FileSeq>) -> bool
         ensures { result ≡ is_misplaced gate at (entry_count Rewrite self.now) }
     {
         self.rewritten < at || gate.is_some() && at < self.rewritten
     }
 
-    /// Gives the entries from position `at` on these places, up to the first one that may not move.
-    /// Counts `written` records of the rewrite queue; those of them that moved nothing, and the
-    /// records in the places that were left, go off the live counts.
+    /// Gives the entries from position `at` on these places, one each, up to the first entry that may not
+    /// move with this `gate`. Counts `written` records of the rewrite queue, the length of the whole run;
+    /// those that moved nothing, and the old places of what moved, are no longer live.
     ///
     /// # Errors
     ///
-    /// `Full` where the written records would pass 2^64 - 1 together with the live ones of the
-    /// rewrite queue; `Memory`. Entries and counts are then as they were.
+    /// `Full` if the live records of the rewrite queue and `written` together pass 2^64 - 1; `Memory`.
+    /// Entries and counts are unchanged then.
     fn move_places(
         &mut self,
         at: usize,
@@ -128,11 +129,11 @@ impl Entries {
         Ok(())
     }
 
-    /// Puts these entries in place of as many from position `at` on.
+    /// Replaces as many entries from position `at` on by those of `places`.
     ///
     /// # Errors
     ///
-    /// Where there is no memory for them. The entries are then as they were.
+    /// `AllocError` if there is no memory for them. The entries are unchanged then.
     fn set_places(&mut self, at: usize, places: &[EntryIndex]) -> AllocResult<()>
         requires within { at + length places.now ≤ length self.old }
         requires table_entries { AreTableEntries
@@ -152,9 +153,9 @@ impl Entries {
     }
 }
 
-/// Counts `written` records of the rewrite queue, to which `moved` entries moved: with a gate from
-/// the append queue, without one from older places of the rewrite queue. As many as aren't live
-/// anymore are counted as deleted.
+/// Counts a rewriting: `written` records of the rewrite queue, to `moved` of which an entry moved, with a
+/// `gate` from the append queue, without one from an older place in the rewrite queue. Old places, and
+/// records to which nothing moved, are counted as no longer live.
 fn count_moved(gate: Option<FileSeq>, written: usize, moved: usize, stats: &mut GlobalStats)
     requires room { live Rewrite stats.old + written < 2 ^ 64 }
     requires moved { moved ≤ written }

@@ -16,11 +16,11 @@ use std::collections::VecDeque;
 use std::mem::swap;
 
 impl Entries {
-    /// Makes entries of a run: neighbors with one place become a block.
+    /// Returns the entries of `run`, in blocks: neighbors with one place share a block.
     ///
     /// # Errors
     ///
-    /// Where there is no memory for them.
+    /// `AllocError` if there is no memory for them.
     pub(super) fn from_run(alloc: Global, run: &[EntryIndex]) -> AllocResult<Entries>
         requires { AreTableEntries run.now }
         ensures ok { IfOk result (λ entries. entries ≡ run.now) }
@@ -39,11 +39,11 @@ impl Entries {
         Ok(entries)
     }
 
-    /// Puts the entries of a block, from `index` on, behind these.
+    /// Appends the entries of one block, whose indexes rise from `index` on: one for each of `spans`.
     ///
     /// # Errors
     ///
-    /// Where there is no memory for them. The entries are then as they were.
+    /// `AllocError` if there is no memory for them. The entries are unchanged then.
     #[inline(always)]
     fn push(&mut self, index: u64, handle: FileBlockHandle, spans: Spans) -> AllocResult<()>
         requires filled { 0 < length spans.items }
@@ -70,12 +70,12 @@ impl Entries {
         Ok(())
     }
 
-    /// Puts a run in place of the entries behind the first `keep`. The counts are left to the
-    /// caller.
+    /// Keeps the first `keep` entries, and puts `run` behind them, in place of the others. The live counts
+    /// are left to the caller.
     ///
     /// # Errors
     ///
-    /// Where there is no memory for it. The entries are then as they were.
+    /// `AllocError` if there is no memory for it. The entries are unchanged then.
     #[inline(always)]
     pub(super) fn lay(&mut self, keep: usize, run: &Run<'_>) -> AllocResult<()>
         requires keep { keep ≤ length self.old }
@@ -97,11 +97,12 @@ impl Entries {
         }
     }
 
-    /// Puts the entries of a list in place of those behind the first `keep`.
+    /// Does what [`Entries::lay`] does with the entries of the list `run`. If they all have one place, no
+    /// list of blocks is made.
     ///
     /// # Errors
     ///
-    /// Where there is no memory for them. The entries are then as they were.
+    /// `AllocError` if there is no memory for them. The entries are unchanged then.
     #[inline(never)]
     fn lay_entries(&mut self, keep: usize, run: &[EntryIndex]) -> AllocResult<()>
         requires keep { keep ≤ length self.old }
@@ -122,11 +123,11 @@ impl Entries {
         self.put_run(keep, &mut entries)
     }
 
-    /// Puts the entries of a block, from `index` on, in place of those behind the first `keep`.
+    /// Does what [`Entries::lay`] does with the entries of one block, whose indexes rise from `index` on.
     ///
     /// # Errors
     ///
-    /// Where there is no memory for them. The entries are then as they were.
+    /// `AllocError` if there is no memory for them. The entries are unchanged then.
     #[inline(always)]
     fn lay_block(
         &mut self,
@@ -151,12 +152,12 @@ impl Entries {
         self.put_run(keep, &mut run)
     }
 
-    /// Moves the entries of `run` in place of those behind the first `keep`, and leaves `run`
-    /// empty.
+    /// Keeps the first `keep` entries, and moves those of `run` behind them, in place of the others. Leaves
+    /// `run` empty.
     ///
     /// # Errors
     ///
-    /// Where there is no memory for them. Both are then as they were.
+    /// `AllocError` if there is no memory for them. Both are unchanged then.
     pub(super) fn put_run(&mut self, keep: usize, run: &mut Entries) -> AllocResult<()>
         requires keep { keep ≤ length self.old }
         requires run { 0 < length run.old }
@@ -175,16 +176,18 @@ impl Entries {
         self.join(keep, run)
     }
 
-    /// Tests whether both have so few blocks together that their first indexes needn't be kept.
+    /// Tests whether these entries and `run` have at most `FEW` blocks together, so that first indexes of
+    /// blocks needn't be kept.
     fn are_few_with(&self, run: &Entries) -> bool {
         self.blocks.len() <= FEW && run.blocks.len() <= FEW - self.blocks.len()
     }
 
-    /// Does what `put_run` does, where blocks are few and a part of the own ones stays.
+    /// Does what [`Entries::put_run`] does if blocks are few and some of these entries stay (`keep` is above
+    /// 0). First indexes of blocks are not kept.
     ///
     /// # Errors
     ///
-    /// Where there is no memory for them. Both are then as they were.
+    /// `AllocError` if there is no memory for them. Both are unchanged then.
     fn join_few(&mut self, keep: usize, run: &mut Entries) -> AllocResult<()>
         requires keep { (0 < keep) × (keep ≤ length self.old) }
         requires run { 0 < length run.old }
@@ -203,12 +206,12 @@ impl Entries {
         Ok(())
     }
 
-    /// Does what `put_run` does, where a part of the own entries stays, and keeps the blocks' first
-    /// indexes.
+    /// Does what [`Entries::put_run`] does if some of these entries stay (`keep` is above 0), and keeps the
+    /// first indexes of blocks.
     ///
     /// # Errors
     ///
-    /// Where there is no memory for them. Both are then as they were.
+    /// `AllocError` if there is no memory for them. Both are unchanged then.
     fn join(&mut self, keep: usize, run: &mut Entries) -> AllocResult<()>
         requires keep { (0 < keep) × (keep ≤ length self.old) }
         requires run { 0 < length run.old }
@@ -235,12 +238,11 @@ impl Entries {
         Ok(())
     }
 
-    /// Puts the entries of `run` in place of as many from position `at` on, behind which others
-    /// stay.
+    /// Replaces as many entries from position `at` on by those of `run`. Behind them others stay.
     ///
     /// # Errors
     ///
-    /// Where there is no memory for them. The entries are then as they were.
+    /// `AllocError` if there is no memory for them. The entries are unchanged then.
     pub(super) fn put_between(&mut self, at: usize, run: Entries) -> AllocResult<()>
         requires run { 0 < length run }
         requires behind { at + length run < length self.old }
@@ -279,15 +281,15 @@ impl Entries {
     }
 }
 
-/// Returns the first index of `len` entries from `first` on, once others from `index` on stand
-/// behind.
+/// Returns the first index of `len` entries from `first` on once others, from `index` on, have been put
+/// behind them.
 fn first_of(len: usize, first: u64, index: u64) -> u64
     ensures { (len ≡ 0 → result ≡ index) × (0 < len → result ≡ first) }
 {
     if len == 0 { index } else { first }
 }
 
-/// Returns how many of `count` records in `queue` are in the rewrite queue: all or none.
+/// Returns how many of `count` records in a file of `queue` are in the rewrite queue: all or none.
 fn rewritten_in(queue: LogQueue, count: usize) -> usize
     ensures { result ≡ count_in Rewrite queue count }
 {
@@ -297,8 +299,7 @@ fn rewritten_in(queue: LogQueue, count: usize) -> usize
     }
 }
 
-/// Returns how many entries of a run, from position `at` on, have this place, up to the first one
-/// that doesn't.
+/// Returns how many entries of `run`, one after the other from position `at` on, have the place `handle`.
 fn count_of(handle: &FileBlockHandle, run: &[EntryIndex], at: usize) -> usize
     requires { at ≤ length run.now }
     ensures within { at + result ≤ length run.now }
@@ -315,7 +316,7 @@ fn count_of(handle: &FileBlockHandle, run: &[EntryIndex], at: usize) -> usize
     run.len() - at
 }
 
-/// Tests whether an entry has this place.
+/// Tests whether `entry` has the place `handle`.
 fn has_place(entry: &EntryIndex, handle: &FileBlockHandle) -> bool
     ensures { MatchBool result (entry.now.entries ≡ Some handle.now)
         (entry.now.entries ≢ Some handle.now) }
@@ -323,11 +324,11 @@ fn has_place(entry: &EntryIndex, handle: &FileBlockHandle) -> bool
     entry.entries.is_some_and(|own| is_same(&own, handle))
 }
 
-/// Copies the offset and the length of each entry.
+/// Returns offset and length of each entry of `run`, as the spans of a block.
 ///
 /// # Errors
 ///
-/// Where there is no memory for them.
+/// `AllocError` if there is no memory for them.
 fn spans_of(alloc: Global, run: &[EntryIndex]) -> AllocResult<Spans>
     ensures ok { IfOk result (λ spans. spans.items ≡ spans_of run.now) }
 {

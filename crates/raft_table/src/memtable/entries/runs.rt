@@ -11,14 +11,14 @@ use crate::memtable::run::Run;
 use raft_base::{EntryIndex, Error, LogQueue, Result};
 
 impl Entries {
-    /// Puts a run of the append queue in place of the entries from its first index on, and counts
-    /// it. A run without entries changes nothing.
+    /// Replaces the entries from the first index of `run` on, a new run of the append queue, by `run`, and
+    /// counts the change. A run without entries changes nothing.
     ///
     /// # Errors
     ///
-    /// `Corruption` where it starts below the first entry or leaves a hole behind the last; `Full`
-    /// where more than 2^64 - 1 records would be live in the append queue; `Memory`. Entries and
-    /// counts are then as they were.
+    /// `Corruption` if it starts below the first entry or leaves a hole behind the last one; `Full` if more
+    /// than 2^64 - 1 records would be live in the append queue; `Memory`. Entries and counts are unchanged
+    /// then.
     pub fn append(
         &mut self,
         region_id: u64,
@@ -49,14 +49,14 @@ impl Entries {
         }
     }
 
-    /// Moves the entries of `rhs`, which are all in `queue` and aren't counted, in place of those
-    /// from their first index on, by the start rule of the queue `rule`. Counts them, and leaves
-    /// `rhs` empty.
+    /// Moves the entries of `rhs`, which are all in `queue` and not counted yet, behind the entries below
+    /// their first index, and counts them. Leaves `rhs` empty. `rule` says which of the old entries stay
+    /// ([`Entries::kept_under`]).
     ///
     /// # Errors
     ///
-    /// `Corruption` where the rule is that of the append queue and they leave a hole; `Full` where
-    /// more than 2^64 - 1 records would be live in `queue`; `Memory`. All is then as it was.
+    /// `Corruption` if they leave a hole and `rule` is the append queue; `Full` if more than 2^64 - 1 records
+    /// would be live in `queue`; `Memory`. Both lists of entries and the counts are unchanged then.
     pub fn absorb(
         &mut self,
         region_id: u64,
@@ -95,14 +95,14 @@ impl Entries {
         Ok(())
     }
 
-    /// Puts a run of `queue` in place of the entries from its first index on, and counts it. Where
-    /// it starts below the first entry or, in the rewrite queue, leaves a hole, it then stands
-    /// alone.
+    /// Replaces the entries from the first index of `run` on, a run that was read from `queue`, by `run`, and
+    /// counts the change. If it starts below the first entry or, in the rewrite queue, leaves a hole, no old
+    /// entry stays. A run without entries changes nothing.
     ///
     /// # Errors
     ///
-    /// `Corruption` where it leaves a hole in the append queue; `Full` where more than 2^64 - 1
-    /// records would be live in `queue`; `Memory`. Entries and counts are then as they were.
+    /// `Corruption` if it leaves a hole in the append queue; `Full` if more than 2^64 - 1 records would be
+    /// live in `queue`; `Memory`. Entries and counts are unchanged then.
     pub fn replay_run(
         &mut self,
         region_id: u64,
@@ -130,17 +130,18 @@ impl Entries {
         self.put_run_behind(keep, &Run::Entries(run), queue, stats)
     }
 
-    /// Makes the `Corruption` for a run from `start` on, which leaves a hole behind these entries;
-    /// `Memory` where its text finds none.
+    /// Returns the `Corruption` for a run from index `start` on that leaves a hole behind these entries.
+    /// Returns `Memory` if there is none for its text.
     fn hole_error(&self, region_id: u64, start: u64) -> Error
         ensures { IsCorruption (hole_text region_id start (end_of self.now)) result }
     {
         hole_error(self.allocator(), region_id, start, self.end())
     }
 
-    /// Returns how many entries stay where a run starts at `index`, by the start rule of the queue
-    /// `rule`: those below it, or none where it starts below the first one or leaves a hole. `None`
-    /// where it leaves one in the append queue, which is refused.
+    /// Returns how many of the first entries stay when a run that starts at `index` is put, by the start rule
+    /// of the queue `rule`: those below `index`; none if the run starts below the first entry or, in the
+    /// rewrite queue, leaves a hole behind the last one. Returns `None` if it leaves a hole in the append
+    /// queue, which refuses that.
     pub fn kept_under(&self, rule: LogQueue, index: u64) -> Option<usize>
         ensures kept { MatchOption result (IsStart self.now index Start.BehindHole ×
             (rule ≡ Append)) (IsKeptUnder rule self.now index) }
@@ -156,13 +157,13 @@ impl Entries {
         }
     }
 
-    /// Puts a run of `queue` in place of the entries behind the first `keep`, and counts the
-    /// change.
+    /// Keeps the first `keep` entries, puts `run`, which is in `queue`, behind them in place of the others,
+    /// and counts the change.
     ///
     /// # Errors
     ///
-    /// `Full` where more than 2^64 - 1 records would be live in `queue`; `Memory`. Entries and
-    /// counts are then as they were.
+    /// `Full` if more than 2^64 - 1 records would be live in `queue`; `Memory`. Entries and counts are
+    /// unchanged then.
     #[inline(always)]
     pub fn put_run_behind(
         &mut self,
@@ -194,7 +195,8 @@ impl Entries {
         Ok(())
     }
 
-    /// Returns how many entries behind the first `keep` are rewritten, and how many are appended.
+    /// Returns how many of the entries behind the first `keep` are in the rewrite queue, and how many are in
+    /// the append queue.
     pub(super) fn count_behind(&self, keep: usize) -> (usize, usize)
         requires { keep ≤ length self.now }
         ensures rewritten { result.0 ≡ entry_count Rewrite (drop keep self.now) }
@@ -205,8 +207,7 @@ impl Entries {
         (rewritten, self.len - keep - rewritten)
     }
 
-    /// Tells where a run from `index` on starts: among the entries or right behind them, in front
-    /// of them, or behind a hole.
+    /// Returns where a run that starts at `index` starts beside these entries. Without entries it joins them.
     fn start(&self, index: u64) -> Start
         ensures meets { IsStart self.now index result }
         ensures table_entries { AreTableEntries self.now }
@@ -225,7 +226,8 @@ impl Entries {
     }
 }
 
-/// Returns whether so many records more fit once `gone` ones, rewritten and appended, go.
+/// Tests whether `added` records more of `queue` can be counted as live once `gone`, a number of rewritten
+/// and one of appended records, are no longer live: at most 2^64 - 1 may be live in a queue.
 fn has_room(stats: &GlobalStats, gone: (usize, usize), queue: LogQueue, added: usize) -> bool
     requires rewritten { gone.0 ≤ live Rewrite stats.now }
     requires appended { gone.1 ≤ live Append stats.now }
@@ -239,8 +241,8 @@ fn has_room(stats: &GlobalStats, gone: (usize, usize), queue: LogQueue, added: u
     added <= usize::MAX - (stats.live_entries(queue) - gone)
 }
 
-/// Takes `gone` records, rewritten and appended ones, off the counts, and adds `added` of `queue`,
-/// for which there is room then.
+/// Counts `gone`, a number of rewritten and one of appended records, as no longer live, and `added` records
+/// of `queue` as live. The caller has made sure that there is room for them ([`has_room`]).
 fn exchange(stats: &mut GlobalStats, gone: (usize, usize), queue: LogQueue, added: usize)
     requires rewritten { gone.0 ≤ live Rewrite stats.old }
     requires appended { gone.1 ≤ live Append stats.old }

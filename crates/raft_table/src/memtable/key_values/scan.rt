@@ -8,8 +8,9 @@ use std::alloc::{AllocError, Global};
 use std::collections::BTreeMap;
 use std::collections::btree_map::Range;
 
-/// Divides a bound in two, of which one is `None`: a copy, by which the pairs are looked up, or,
-/// where there is no memory for one, the bound itself, by which each pair is tested.
+/// Returns `bound` in one of two forms, of which the other is `None`: a copy, by which [`sought`] looks pairs
+/// up, or, if there is no memory for one, the bound itself, which [`visit`] then compares with each key. Both
+/// are `None` for an open side. So a scan can't fail.
 pub(super) fn divided(alloc: Global, bound: Option<&[u8]>) -> (Option<Vec<u8>>, Option<&[u8]>)
     ensures { IsDivided (option_copied bound.entry) (option_map (λ k. k.items) result.0)
         (option_copied result.1) }
@@ -23,7 +24,8 @@ pub(super) fn divided(alloc: Global, bound: Option<&[u8]>) -> (Option<Vec<u8>>, 
     }
 }
 
-/// Returns the pairs from `start` on and below `end`, in order. `None` leaves a side open.
+/// Returns the pairs whose key is at or above `start` and below `end`, in the order of keys. A bound that is
+/// `None` leaves its side open. `start` isn't above `end`: the map refuses such a range.
 pub(super) fn sought<'a>(
     pairs: &'a BTreeMap<Vec<u8>, StoredValue>,
     start: &Option<Vec<u8>>,
@@ -44,7 +46,7 @@ pub(super) fn sought<'a>(
     }
 }
 
-/// Tests whether `start` isn't above `end`. It is true where one of them is `None`.
+/// Tests whether `start` is at or below `end`, which [`sought`] requires. True if one of them is `None`.
 pub(super) fn is_forward(start: Option<&[u8]>, end: Option<&[u8]>) -> bool
     ensures { result ≡ is_forward (option_copied start.entry) (option_copied end.entry) }
 {
@@ -54,7 +56,8 @@ pub(super) fn is_forward(start: Option<&[u8]>, end: Option<&[u8]>) -> bool
     }
 }
 
-/// Calls `f` at those of the pairs that are between `start` and `end`, until it returns false.
+/// Calls `f` with each of `pairs` whose key is at or above `start` and below `end`, until `f` returns false:
+/// the loop of a scan.
 pub(super) fn visit<F: FnMut(&[u8], &[u8]) -> bool>(
     mut pairs: Range<'_, Vec<u8>, StoredValue>,
     start: Option<&[u8]>,
@@ -74,8 +77,7 @@ pub(super) fn visit<F: FnMut(&[u8], &[u8]) -> bool>(
     }
 }
 
-/// Calls `f` at those of the pairs that are between `start` and `end`, from the last one back,
-/// until it returns false.
+/// Does what [`visit`] does, from the last pair back to `start`: the loop of a reversed scan.
 pub(super) fn visit_back<F: FnMut(&[u8], &[u8]) -> bool>(
     mut pairs: Range<'_, Vec<u8>, StoredValue>,
     start: Option<&[u8]>,
@@ -95,7 +97,7 @@ pub(super) fn visit_back<F: FnMut(&[u8], &[u8]) -> bool>(
     }
 }
 
-/// Tests whether a key is at or above `start` and below `end`. `None` leaves a side open.
+/// Tests whether `key` is at or above `start` and below `end`. A bound that is `None` leaves its side open.
 fn is_between(key: &[u8], start: Option<&[u8]>, end: Option<&[u8]>) -> bool
     ensures { result ≡ is_between (option_copied start.entry) (option_copied end.entry) key.now }
 {

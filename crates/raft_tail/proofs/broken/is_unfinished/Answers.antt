@@ -1,6 +1,5 @@
-use Rattle.std.proofs.Common.{◌↔◌, ℕ, List, IsTrue, refl, subst}
+use Rattle.raft_tail.proofs.Common.{◌↔◌, ℕ, List, IsTrue, refl, subst, BeginsWhole}
 use Rattle.raft_tail.proofs.WholeLemmas.{begins_nothing, unfinished}
-use Rattle.raft_tail.specs.Passing.{BeginsWhole}
 use Rattle.raft_tail.proofs.broken.is_unfinished.Goals as goal
 
 pub returns-then-offset-bytes-clause-ok : goal.returns-then-offset-bytes-clause-ok

@@ -1,10 +1,4 @@
-use Rattle.std.proofs.Common.{ℕ, List, Option, ap, ◌∙◌, drop, subst}
-use Rattle.raft_base.specs.Signature.{signature_in, signature_of}
-use Rattle.raft_base.specs.declared.pipe_log.FileId.{FileId}
-use Rattle.raft_base.specs.declared.pipe_log.Version.{Version}
-use Rattle.raft_codec.specs.Reading.{HasNoFront}
-use Rattle.raft_records.specs.LogBatch.{IsReadable}
-use Rattle.raft_tail.specs.Tails.{in_file}
+use Rattle.raft_tail.proofs.Common.{ℕ, List, Option, ap, ◌∙◌, drop, subst, signature_in, signature_of, FileId, Version, HasNoFront, IsReadable, in_file}
 use Rattle.raft_tail.proofs.SearchLemmas.{never, unreadable_unsound}
 use Rattle.raft_tail.proofs.elsewhere.is_readable_in.Goals as goal
 

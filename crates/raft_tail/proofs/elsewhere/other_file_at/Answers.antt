@@ -1,6 +1,5 @@
-use Rattle.std.proofs.Common.{◌≡◌, ◌≤◌, ◌<◌, ◌^◌, ℕ, ap, ◌∙◌, sym, subst, drop, inl, inr, arith}
+use Rattle.raft_tail.proofs.Common.{◌≡◌, ◌≤◌, ◌<◌, ◌^◌, ℕ, ap, ◌∙◌, sym, subst, drop, inl, inr, arith, IsSignedFor, IsSoundAt, in_file}
 use Rattle.raft_tail.proofs.SearchLemmas.{no_signer, other_signer, own_signer, unlikely_signer, unreadable_signer}
-use Rattle.raft_tail.specs.Tails.{IsSignedFor, IsSoundAt, in_file}
 use Rattle.raft_tail.proofs.elsewhere.other_file_at.Goals as goal
 
 pub returns-in_default-clause-ok : goal.returns-in_default-clause-ok

@@ -1,4 +1,4 @@
-use Rattle.std.proofs.Common.{ap, length, arith}
+use Rattle.raft_tail.proofs.Common.{ap, length, arith}
 use Rattle.raft_tail.proofs.SearchLemmas.{elsewhere_inside, none_at_all, one_more_none}
 use Rattle.raft_tail.proofs.elsewhere.signed_elsewhere.Goals as goal
 

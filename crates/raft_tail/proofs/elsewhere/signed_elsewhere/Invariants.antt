@@ -1,5 +1,5 @@
 use Rattle.raft_tail.proofs.SearchLemmas.{AreNoneUpTo}
-use Rattle.raft_tail.specs.Tails.{IsElsewhere}
+use Rattle.raft_tail.proofs.Common.{IsElsewhere}
 use Rattle.raft_tail.proofs.elsewhere.signed_elsewhere.Given as goal
 
 -- no batch that is signed for another file stands before this byte

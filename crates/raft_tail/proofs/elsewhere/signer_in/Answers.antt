@@ -1,4 +1,4 @@
-use Rattle.std.proofs.Common.{ap, drop, ◌∙◌}
+use Rattle.raft_tail.proofs.Common.{ap, drop, ◌∙◌}
 use Rattle.raft_tail.proofs.SignerLemmas.{headless_signer, short_signer, signer_behind}
 use Rattle.raft_tail.proofs.elsewhere.signer_in.Goals as goal
 

@@ -1,4 +1,4 @@
-use Rattle.std.proofs.Common.{refl}
+use Rattle.raft_tail.proofs.Common.{refl}
 use Rattle.raft_tail.proofs.SignerLemmas.{only_signer}
 use Rattle.raft_tail.proofs.elsewhere.signer_of.Goals as goal
 

@@ -1,5 +1,4 @@
-use Rattle.std.proofs.Common.{inl, inr}
-use Rattle.raft_records.proofs.HeaderLemmas.{too_short_for_header}
+use Rattle.raft_tail.proofs.Common.{inl, inr, too_short_for_header}
 use Rattle.raft_tail.proofs.HeaderLemmas.{header_seen, no_header_seen}
 use Rattle.raft_tail.proofs.header.header_in.Goals as goal
 

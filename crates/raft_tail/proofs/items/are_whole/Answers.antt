@@ -1,4 +1,4 @@
-use Rattle.std.proofs.Common.{refl}
+use Rattle.raft_tail.proofs.Common.{refl}
 use Rattle.raft_tail.proofs.WholeLemmas.{no_seal, not_counted, sealed}
 use Rattle.raft_tail.proofs.items.are_whole.Goals as goal
 

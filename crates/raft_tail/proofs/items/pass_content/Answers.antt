@@ -1,4 +1,4 @@
-use Rattle.raft_records.proofs.ContentLemmas.{no_entries}
+use Rattle.raft_tail.proofs.Common.{no_entries}
 use Rattle.raft_tail.proofs.PassingLemmas.{change_passes, command_passes, entries_pass, option_as}
 use Rattle.raft_tail.proofs.items.pass_content.Goals as goal
 

@@ -1,8 +1,4 @@
-use Rattle.std.proofs.Common.{length}
-use Rattle.raft_codec.proofs.ReadingLemmas.{no_second}
-use Rattle.raft_codec.proofs.VarintLemmas.{varint_one_front}
-use Rattle.raft_codec.specs.Varint.{IsVarint}
-use Rattle.raft_records.specs.ItemBatch.{AreItems}
+use Rattle.raft_tail.proofs.Common.{length, no_second, varint_one_front, IsVarint, AreItems}
 use Rattle.raft_tail.proofs.PassingLemmas.{counted_pass, ok_as, option_as}
 use Rattle.raft_tail.proofs.items.pass_count_and_items.Goals as goal
 

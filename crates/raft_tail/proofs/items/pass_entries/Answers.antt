@@ -1,5 +1,4 @@
-use Rattle.std.proofs.Common.{◌<◌, arith}
-use Rattle.raft_records.proofs.EntryLemmas.{no_count, no_first_index, no_run, no_tails}
+use Rattle.raft_tail.proofs.Common.{◌<◌, arith, no_count, no_first_index, no_run, no_tails}
 use Rattle.raft_tail.proofs.PassingLemmas.{option_as, run_passes}
 use Rattle.raft_tail.proofs.items.pass_entries.Goals as goal
 

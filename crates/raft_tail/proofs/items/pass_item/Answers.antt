@@ -1,4 +1,4 @@
-use Rattle.raft_records.proofs.ContentLemmas.{no_content}
+use Rattle.raft_tail.proofs.Common.{no_content}
 use Rattle.raft_tail.proofs.PassingLemmas.{item_passes, ok_as, option_as}
 use Rattle.raft_tail.proofs.items.pass_item.Goals as goal
 

@@ -1,4 +1,4 @@
-use Rattle.std.proofs.Common.{arith}
+use Rattle.raft_tail.proofs.Common.{arith}
 use Rattle.raft_tail.proofs.PassingLemmas.{items_end, items_pass, no_items_yet, one_item_more}
 use Rattle.raft_tail.proofs.items.pass_items.Goals as goal
 

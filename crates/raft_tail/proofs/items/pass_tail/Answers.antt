@@ -1,5 +1,4 @@
-use Rattle.std.proofs.Common.{◌≤◌, ◌<◌, ◌⊎◌, ◌^◌, arith, inl, inr}
-use Rattle.raft_records.proofs.EntryLemmas.{no_tail}
+use Rattle.raft_tail.proofs.Common.{◌≤◌, ◌<◌, ◌⊎◌, ◌^◌, arith, inl, inr, no_tail}
 use Rattle.raft_tail.proofs.items.pass_tail.Goals as goal
 use Rattle.raft_tail.proofs.items.pass_tail.Goals.{then-tail-from-via-then-tail-from, then-tail-from-via-else-tail-from+then-tail-from-2}
 

@@ -1,4 +1,4 @@
-use Rattle.std.proofs.Common.{arith}
+use Rattle.raft_tail.proofs.Common.{arith}
 use Rattle.raft_tail.proofs.PassingLemmas.{no_tails_yet, one_tail_more, tails_end, tails_pass}
 use Rattle.raft_tail.proofs.items.pass_tails.Goals as goal
 

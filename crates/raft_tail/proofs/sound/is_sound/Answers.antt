@@ -1,4 +1,4 @@
-use Rattle.std.proofs.Common.{ap, drop, ◌∙◌}
+use Rattle.raft_tail.proofs.Common.{ap, drop, ◌∙◌}
 use Rattle.raft_tail.proofs.SearchLemmas.{headless_unsound, never, short_unsound}
 use Rattle.raft_tail.proofs.sound.is_sound.Goals as goal
 use Rattle.raft_tail.proofs.sound.is_sound.Goals.{in_default-via-in-Some+else-len-rest, in_default-via-in_default}

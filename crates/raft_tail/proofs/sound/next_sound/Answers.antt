@@ -1,4 +1,4 @@
-use Rattle.std.proofs.Common.{ap, length, arith}
+use Rattle.raft_tail.proofs.Common.{ap, length, arith}
 use Rattle.raft_tail.proofs.SearchLemmas.{none_at_all, none_yet, one_more_none, sound_inside}
 use Rattle.raft_tail.proofs.sound.next_sound.Goals as goal
 

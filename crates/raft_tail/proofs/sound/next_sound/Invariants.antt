@@ -1,5 +1,5 @@
 use Rattle.raft_tail.proofs.SearchLemmas.{AreNoneUpTo}
-use Rattle.raft_tail.specs.Tails.{IsSoundAt}
+use Rattle.raft_tail.proofs.Common.{IsSoundAt}
 use Rattle.raft_tail.proofs.sound.next_sound.Given as goal
 
 -- no sound batch stands before this byte

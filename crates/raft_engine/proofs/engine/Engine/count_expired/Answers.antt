@@ -1,6 +1,4 @@
-use Rattle.std.proofs.Common.{ap, ◌∙◌, subst}
-use Rattle.raft_engine.specs.KeptEngine.{KeptEngine}
-use Rattle.raft_engine.specs.Purged.{AreExpired, front_below}
+use Rattle.raft_engine.proofs.Common.{ap, ◌∙◌, subst, KeptEngine, AreExpired, front_below}
 use Rattle.raft_engine.proofs.KeptPurges.{its_expired}
 use Rattle.raft_engine.proofs.engine.Engine.count_expired.Goals as goal
 

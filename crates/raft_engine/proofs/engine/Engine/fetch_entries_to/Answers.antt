@@ -1,10 +1,5 @@
-use Rattle.std.proofs.Common.{rules, ◌≡◌, List, [], Some, length, map, subst, sym}
+use Rattle.raft_engine.proofs.Common.{rules, ◌≡◌, List, [], Some, length, map, subst, sym, EntryIndex, Ask, AreFetched, KeptEngine, AreReadByBlocks}
 use Rattle.std.specs.FinMap as finite
-use Rattle.raft_base.specs.declared.entry_index.EntryIndex.{EntryIndex}
-use Rattle.raft_files.specs.Asks.{Ask}
-use Rattle.raft_engine.specs.EntryReads.{AreFetched}
-use Rattle.raft_engine.specs.KeptEngine.{KeptEngine}
-use Rattle.raft_engine.specs.Reads.{AreReadByBlocks}
 use Rattle.raft_engine.proofs.KeptMoves.{kept_read}
 use Rattle.raft_engine.proofs.ReadKept.{fetched, no_table_fetched, none_fetched, of_range, pushed_bytes, read_only, unread_only}
 use Rattle.raft_engine.proofs.engine.Engine.fetch_entries_to.Goals as goal

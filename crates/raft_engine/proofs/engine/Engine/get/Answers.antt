@@ -1,7 +1,5 @@
-use Rattle.std.proofs.Common.{◌≡◌, None, subst}
+use Rattle.raft_engine.proofs.Common.{◌≡◌, None, subst, value_at, KeptEngine, table_in}
 use Rattle.std.specs.FinMap as finite
-use Rattle.raft_table.specs.KeyValues.{value_at}
-use Rattle.raft_engine.specs.KeptEngine.{KeptEngine, table_in}
 use Rattle.raft_engine.proofs.TableLemmas.{no_value}
 use Rattle.raft_engine.proofs.engine.Engine.get.Goals as goal
 

@@ -1,7 +1,4 @@
-use Rattle.std.proofs.Common.{rules, ◌≡◌, List, Some, sym}
-use Rattle.raft_table.specs.TableEntries.{entry_at}
-use Rattle.raft_files.specs.Asks.{Ask}
-use Rattle.raft_engine.specs.KeptEngine.{table_in}
+use Rattle.raft_engine.proofs.Common.{rules, ◌≡◌, List, Some, sym, entry_at, Ask, table_in}
 use Rattle.raft_engine.proofs.KeptMoves.{kept_read}
 use Rattle.raft_engine.proofs.ReadKept.{got_content, read_only, unread_only}
 use Rattle.raft_engine.proofs.engine.Engine.get_entry.Goals as goal

@@ -1,8 +1,5 @@
-use Rattle.std.proofs.Common.{◌≡◌, None, length, option_map, refl, sym, ap, ◌∙◌, subst, arith}
-use Rattle.std.proofs.lemmas.Bool.{eq-eqb, eqb-true}
+use Rattle.raft_engine.proofs.Common.{◌≡◌, None, length, option_map, refl, sym, ap, ◌∙◌, subst, arith, eq-eqb, eqb-true, KeptEngine, IsOnePartOf}
 use Rattle.std.specs.FinMap as finite
-use Rattle.raft_engine.specs.KeptEngine.{KeptEngine}
-use Rattle.raft_engine.specs.MovedGroups.{IsOnePartOf}
 use Rattle.raft_engine.proofs.MovedRegions.{one_if, one_in_none, one_in_some, only_if, some_in_one}
 use Rattle.raft_engine.proofs.engine.Engine.is_one_part.Goals as goal
 

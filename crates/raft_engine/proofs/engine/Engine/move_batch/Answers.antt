@@ -1,30 +1,13 @@
-use Rattle.std.proofs.lemmas.Result.{err_from_is_err_and}
-use Rattle.std.proofs.Common.{rules, ◌≡◌, ◌≢◌, ℕ, ◌<◌, ◌^◌, List, [], ◌++◌, None, option_map, length, true, false, inl, inr, refl, sym, ap, ◌∙◌, subst}
+use Rattle.raft_engine.proofs.Common.{err_from_is_err_and, rules, ◌≡◌, ◌≢◌, ◌<◌, ◌^◌, List, [], ◌++◌, None, option_map, length, true, false, inl, inr, refl, sym, ap, ◌∙◌, subst, FileId, Ask, KeptEngine, AreToMove, IsBatchHalfMoved, IsBatchMoved, IsBatchUnmoved, IsReady}
+use Rattle.raft_engine.proofs.Common.{AreOnlyRead, LogFileContext, Rewrite, Item, none_some, Rewriting, placed_at, AreTaken, IsNextRefused}
 use Rattle.std.specs.FinMap as finite
 use Rattle.raft_base.specs.declared.errors.Error.TheVariants as errors
-use Rattle.raft_base.specs.declared.pipe_log.FileId.{FileId}
-use Rattle.raft_files.specs.Asks.{Ask}
-use Rattle.raft_engine.specs.KeptEngine.{KeptEngine}
-use Rattle.raft_engine.specs.Moved.{AreToMove, IsBatchHalfMoved, IsBatchMoved, IsBatchUnmoved, IsReady}
-use Rattle.raft_engine.specs.Reads.{AreOnlyRead}
-use Rattle.raft_engine.specs.StoredAsks.{IsWritableBatch}
-use Rattle.raft_engine.proofs.KeptMoves.{batch_refused, bytes_refused, file_refused, half_moved, kept_moved, kept_read, made_applied, made_asked, made_broken, made_first, made_half, none_moved, put_broken, region_moved}
+use Rattle.raft_engine.proofs.KeptMoves.{batch_refused, bytes_refused, file_refused, half_moved, kept_moved, kept_read, made_applied, made_asked, made_broken, made_placed, none_moved, put_broken, region_moved}
 use Rattle.raft_engine.proofs.ReadKept.{read_only}
 use Rattle.raft_engine.proofs.RefusalLemmas.{rewrite_full}
-use Rattle.raft_base.specs.declared.pipe_log.LogFileContext.{LogFileContext}
-use Rattle.raft_base.specs.declared.pipe_log.LogQueue.TheVariants.{Rewrite}
-use Rattle.raft_records.specs.Item.{Item}
-use Rattle.raft_records.specs.LogBatch.{Batch}
-use Rattle.raft_accessor.proofs.MapLemmas.{none_some}
-use Rattle.raft_accessor.specs.Writes.{Rewriting}
-use Rattle.raft_engine.specs.BatchBytes.{placed_at}
-use Rattle.raft_engine.specs.MovingFaults.{AreTaken, IsBatchFault}
-use Rattle.raft_engine.specs.WrittenBatch.{IsNextRefused}
-use Rattle.raft_engine.proofs.FaultLemmas.{made_fails, put_whole}
-use Rattle.raft_engine.proofs.FilesLemmas.{files_last}
+use Rattle.raft_engine.proofs.FaultLemmas.{made_fails, put_whole, writable_of}
 use Rattle.raft_engine.proofs.LeftEntries.{left_behind, next_consecutive, next_of}
-use Rattle.raft_engine.proofs.MovingFaultLemmas.{untaken}
-use Rattle.raft_engine.proofs.DrainLemmas.{first_of}
+use Rattle.raft_engine.proofs.UntakenLemmas.{untaken}
 use Rattle.raft_engine.proofs.engine.Engine.move_batch.Goals as goal
 
 pub invariant_of-self : goal.invariant_of-self
@@ -108,13 +91,7 @@ invariant_of-self-in_err-put g c =
     let m = c.in_ok-batch.ensures.ok in
     let ready : IsReady (record { version = e.version; asks = old; untold = e.untold; accessor = e.accessor; intact = e.intact }) = subst IsReady (sym c.self.view_is) c.requires.ready in
     let some : c.in_ok-batch.batch.items ≢ [] = search rules in
-    let w : IsWritableBatch c.in_ok-batch.batch = record {
-      tiled = c.is_read_again.ensures.tiled;
-      in_range = c.is_read_again.ensures.in_range;
-      in_bytes = c.is_read_again.ensures.in_bytes;
-      some = some;
-      short = c.in_ok-len.ensures.accepted;
-    } in
+    let w = writable_of c.is_read_again.ensures.tiled c.is_read_again.ensures.in_range c.is_read_again.ensures.in_bytes some c.in_ok-len.ensures.accepted in
     let file = c.new-file.ensures ∙ ap (λ (id : FileId). record { id = id; version = e.version }) c.new.ensures in
     made_broken c.moves_are_stored.ensures.read e.version old e.append e.rewrite e.untold e.accessor e.intact c.self.invariant
     c.moves_are_stored.ensures.moved ready.intact ready.synced ready.told c.args.gate c.args.left.now c.args.region c.in-Some.table.now (sym c.in-Some.ensures.value) c.in-Some.ensures.own c.holds_one_run.ensures
@@ -129,20 +106,22 @@ returns-in_err-put-clause-err g c =
     let m = c.in_ok-batch.ensures.ok in
     let ready : IsReady (record { version = e.version; asks = old; untold = e.untold; accessor = e.accessor; intact = e.intact }) = subst IsReady (sym c.self.view_is) c.requires.ready in
     let some : c.in_ok-batch.batch.items ≢ [] = search rules in
-    let w : IsWritableBatch c.in_ok-batch.batch = record {
-      tiled = c.is_read_again.ensures.tiled;
-      in_range = c.is_read_again.ensures.in_range;
-      in_bytes = c.is_read_again.ensures.in_bytes;
-      some = some;
-      short = c.in_ok-len.ensures.accepted;
-    } in
-    let file = c.new-file.ensures ∙ ap (λ (id : FileId). record { id = id; version = e.version }) c.new.ensures in
+    let w = writable_of c.is_read_again.ensures.tiled c.is_read_again.ensures.in_range c.is_read_again.ensures.in_bytes some c.in_ok-len.ensures.accepted in
+    let its : LogFileContext = record { id = record { queue = Rewrite; seq = e.rewrite.seq }; version = e.version } in
+    let file : c.new-file.result ≡ its = c.new-file.ensures ∙ ap (λ (id : FileId). record { id = id; version = e.version }) c.new.ensures in
+    let new : List Ask = g.F.EngineFiles.asked c.put.new.files in
     let p = err_from_is_err_and c.from_residual-in_err-put.result c.from_residual-in_err-put.ensures.1 in
-    rw (p.1)
-    (inr (subst (λ (o : KeptEngine). IsBatchHalfMoved c.args.gate c.args.left.now c.args.region o (record { version = e.version; asks = (g.F.EngineFiles.asked c.put.new.files); untold = e.untold; accessor = e.accessor; intact = false })) c.self.view_is
-    (made_half c.moves_are_stored.ensures.read e.version old e.append e.rewrite e.untold e.accessor e.intact c.self.invariant
+    rw (p.1, p.2)
+    (inr (subst (λ (o : KeptEngine). IsBatchHalfMoved (g.F.EngineFiles.may_fail) c.args.gate c.args.left.now c.args.region o
+    (record { version = e.version; asks = new; untold = e.untold; accessor = e.accessor; intact = false }) c.in_err-put.field-0.0) c.self.view_is
+    (half_moved c.moves_are_stored.ensures.read e.version old e.append e.rewrite e.untold e.accessor e.intact c.self.invariant
     c.moves_are_stored.ensures.moved ready.intact ready.synced ready.told c.args.gate c.args.left.now c.args.region c.in-Some.table.now (sym c.in-Some.ensures.value) c.in-Some.ensures.own c.holds_one_run.ensures
-    between c.in_ok-batch.batch m w c.new-file.result file c.finish_populate.new.self c.in_ok-len.ensures.ok (g.F.EngineFiles.asked c.put.new.files) c.in_err-put.ensures.err)))
+    between c.in_ok-batch.batch m w
+    new e.accessor c.in_err-put.field-0.0
+    (inl (
+      made_fails (g.F.EngineFiles.may_fail) c.new-file.result its c.finish_populate.new.self c.in_ok-batch.batch between new c.in_err-put.field-0.0 file c.in_ok-len.ensures.ok some c.in_err-put.ensures.err c.in_err-put.ensures.fault,
+      refl,
+    )))))
 
 pub invariant_of-self-in_err-rewrite_items : goal.invariant_of-self-in_err-rewrite_items
 invariant_of-self-in_err-rewrite_items g c =
@@ -152,13 +131,7 @@ invariant_of-self-in_err-rewrite_items g c =
     let m = c.in_ok-batch.ensures.ok in
     let ready : IsReady (record { version = e.version; asks = old; untold = e.untold; accessor = e.accessor; intact = e.intact }) = subst IsReady (sym c.self.view_is) c.requires.ready in
     let some : c.in_ok-batch.batch.items ≢ [] = search rules in
-    let w : IsWritableBatch c.in_ok-batch.batch = record {
-      tiled = c.is_read_again.ensures.tiled;
-      in_range = c.is_read_again.ensures.in_range;
-      in_bytes = c.is_read_again.ensures.in_bytes;
-      some = some;
-      short = c.in_ok-len.ensures.accepted;
-    } in
+    let w = writable_of c.is_read_again.ensures.tiled c.is_read_again.ensures.in_range c.is_read_again.ensures.in_bytes some c.in_ok-len.ensures.accepted in
     let file = c.new-file.ensures ∙ ap (λ (id : FileId). record { id = id; version = e.version }) c.new.ensures in
     put_broken c.moves_are_stored.ensures.read e.version old e.append e.rewrite e.untold e.accessor e.intact c.self.invariant
     c.moves_are_stored.ensures.moved ready.intact ready.synced ready.told c.args.gate c.args.left.now c.args.region c.in-Some.table.now (sym c.in-Some.ensures.value) c.in-Some.ensures.own c.holds_one_run.ensures
@@ -176,34 +149,29 @@ returns-in_err-rewrite_items-clause-err g c =
     let m = c.in_ok-batch.ensures.ok in
     let ready : IsReady (record { version = e.version; asks = old; untold = e.untold; accessor = e.accessor; intact = e.intact }) = subst IsReady (sym c.self.view_is) c.requires.ready in
     let some : c.in_ok-batch.batch.items ≢ [] = search rules in
-    let w : IsWritableBatch c.in_ok-batch.batch = record {
-      tiled = c.is_read_again.ensures.tiled;
-      in_range = c.is_read_again.ensures.in_range;
-      in_bytes = c.is_read_again.ensures.in_bytes;
-      some = some;
-      short = c.in_ok-len.ensures.accepted;
-    } in
-    let file = c.new-file.ensures ∙ ap (λ (id : FileId). record { id = id; version = e.version }) c.new.ensures in
+    let w = writable_of c.is_read_again.ensures.tiled c.is_read_again.ensures.in_range c.is_read_again.ensures.in_bytes some c.in_ok-len.ensures.accepted in
+    let its : LogFileContext = record { id = record { queue = Rewrite; seq = e.rewrite.seq }; version = e.version } in
+    let file : c.new-file.result ≡ its = c.new-file.ensures ∙ ap (λ (id : FileId). record { id = id; version = e.version }) c.new.ensures in
+    let new : List Ask = g.F.EngineFiles.asked c.put.new.files in
+    let bytes = (c.self.invariant.whole ready.intact).rewrite_files.bytes in
+    let are : c.put.new.batch.items ≡ placed_at its.id (length bytes) c.in_ok-batch.batch = made_placed c.moves_are_stored.ensures.read e.version old e.append e.rewrite e.untold e.accessor e.intact c.self.invariant
+    c.moves_are_stored.ensures.moved ready.intact ready.synced ready.told c.args.gate c.args.left.now c.args.region c.in-Some.table.now (sym c.in-Some.ensures.value) c.in-Some.ensures.own c.holds_one_run.ensures
+    between c.in_ok-batch.batch m w
+    c.new-file.result file c.finish_populate.new.self c.in_ok-len.ensures.ok c.put.new.batch.items c.in_ok-put.ensures.placed in
     let p = err_from_is_err_and c.from_residual-in_err-rewrite_items.result c.from_residual-in_err-rewrite_items.ensures.1 in
-    rw (p.1)
-    (inr (subst (λ (o : KeptEngine). IsBatchHalfMoved c.args.gate c.args.left.now c.args.region o
-    (record {
-      version = e.version;
-      asks = (g.F.EngineFiles.asked c.put.new.files);
-      untold = e.untold;
-      accessor = c.rewrite_items.new.accessor;
-      intact = false;
-    })) c.self.view_is
+    rw (p.1, p.2)
+    (inr (subst (λ (o : KeptEngine). IsBatchHalfMoved (g.F.EngineFiles.may_fail) c.args.gate c.args.left.now c.args.region o
+    (record { version = e.version; asks = new; untold = e.untold; accessor = c.rewrite_items.new.accessor; intact = false }) c.in_err-rewrite_items.field-0.0) c.self.view_is
     (half_moved c.moves_are_stored.ensures.read e.version old e.append e.rewrite e.untold e.accessor e.intact c.self.invariant
     c.moves_are_stored.ensures.moved ready.intact ready.synced ready.told c.args.gate c.args.left.now c.args.region c.in-Some.table.now (sym c.in-Some.ensures.value) c.in-Some.ensures.own c.holds_one_run.ensures
-    between c.in_ok-batch.batch m w (g.F.EngineFiles.asked c.put.new.files) c.rewrite_items.new.accessor (inr (
-      made_asked c.moves_are_stored.ensures.read e.version old e.append e.rewrite e.untold e.accessor e.intact c.self.invariant
-          c.moves_are_stored.ensures.moved ready.intact ready.synced ready.told c.args.gate c.args.left.now c.args.region c.in-Some.table.now (sym c.in-Some.ensures.value) c.in-Some.ensures.own c.holds_one_run.ensures
-          between c.in_ok-batch.batch m w c.new-file.result file c.finish_populate.new.self c.in_ok-len.ensures.ok (g.F.EngineFiles.asked c.put.new.files) c.in_ok-put.ensures.ok,
-      made_first c.moves_are_stored.ensures.read e.version old e.append e.rewrite e.untold e.accessor e.intact c.self.invariant
-          c.moves_are_stored.ensures.moved ready.intact ready.synced ready.told c.args.gate c.args.left.now c.args.region c.in-Some.table.now (sym c.in-Some.ensures.value) c.in-Some.ensures.own c.holds_one_run.ensures
-          between c.in_ok-batch.batch m w c.new-file.result file c.finish_populate.new.self c.in_ok-len.ensures.ok c.put.new.batch.items c.rewrite_items.new.accessor
-          c.in_ok-put.ensures.placed (first_of c.in_err-rewrite_items.ensures.fault),
+    between c.in_ok-batch.batch m w
+    new c.rewrite_items.new.accessor c.in_err-rewrite_items.field-0.0
+    (inr (
+      put_whole c.new-file.result its c.finish_populate.new.self c.in_ok-batch.batch between new file c.in_ok-len.ensures.ok some c.in_ok-put.ensures.ok,
+      untaken c.args.gate c.args.left.now c.in-Some.table.now old between c.in_ok-batch.batch e.rewrite.seq (length bytes) e.accessor c.rewrite_items.new.accessor c.in_err-rewrite_items.field-0.0
+          (ap (finite.get e.accessor.tables) c.in-Some.ensures.own ∙ sym c.in-Some.ensures.value) c.holds_one_run.ensures m
+          (λ taken. c.in_err-rewrite_items.ensures.room (subst (AreTaken c.args.gate e.rewrite.seq e.accessor.tables) (sym are) taken))
+          (subst (λ (l : List Item). IsNextRefused (Rewriting c.args.gate e.rewrite.seq) l e.accessor c.rewrite_items.new.accessor c.in_err-rewrite_items.field-0.0) are c.in_err-rewrite_items.ensures.fault),
     )))))
 
 pub invariant_of-self-2 : goal.invariant_of-self-2
@@ -214,13 +182,7 @@ invariant_of-self-2 g c =
     let m = c.in_ok-batch.ensures.ok in
     let ready : IsReady (record { version = e.version; asks = old; untold = e.untold; accessor = e.accessor; intact = e.intact }) = subst IsReady (sym c.self.view_is) c.requires.ready in
     let some : c.in_ok-batch.batch.items ≢ [] = search rules in
-    let w : IsWritableBatch c.in_ok-batch.batch = record {
-      tiled = c.is_read_again.ensures.tiled;
-      in_range = c.is_read_again.ensures.in_range;
-      in_bytes = c.is_read_again.ensures.in_bytes;
-      some = some;
-      short = c.in_ok-len.ensures.accepted;
-    } in
+    let w = writable_of c.is_read_again.ensures.tiled c.is_read_again.ensures.in_range c.is_read_again.ensures.in_bytes some c.in_ok-len.ensures.accepted in
     let file = c.new-file.ensures ∙ ap (λ (id : FileId). record { id = id; version = e.version }) c.new.ensures in
     kept_moved c.moves_are_stored.ensures.read e.version old e.append e.rewrite e.untold e.accessor e.intact c.self.invariant
     c.moves_are_stored.ensures.moved ready.intact ready.synced ready.told c.args.gate c.args.left.now c.args.region c.in-Some.table.now (sym c.in-Some.ensures.value) c.in-Some.ensures.own c.holds_one_run.ensures
@@ -242,13 +204,7 @@ returns-clause-ok g c =
     let m = c.in_ok-batch.ensures.ok in
     let ready : IsReady (record { version = e.version; asks = old; untold = e.untold; accessor = e.accessor; intact = e.intact }) = subst IsReady (sym c.self.view_is) c.requires.ready in
     let some : c.in_ok-batch.batch.items ≢ [] = search rules in
-    let w : IsWritableBatch c.in_ok-batch.batch = record {
-      tiled = c.is_read_again.ensures.tiled;
-      in_range = c.is_read_again.ensures.in_range;
-      in_bytes = c.is_read_again.ensures.in_bytes;
-      some = some;
-      short = c.in_ok-len.ensures.accepted;
-    } in
+    let w = writable_of c.is_read_again.ensures.tiled c.is_read_again.ensures.in_range c.is_read_again.ensures.in_bytes some c.in_ok-len.ensures.accepted in
     let file = c.new-file.ensures ∙ ap (λ (id : FileId). record { id = id; version = e.version }) c.new.ensures in
     (subst (λ (o : KeptEngine). IsBatchMoved c.args.gate c.args.left.now c.args.region o
     (record {
@@ -268,67 +224,6 @@ returns-clause-ok g c =
     (made_applied c.moves_are_stored.ensures.read e.version old e.append e.rewrite e.untold e.accessor e.intact c.self.invariant
     c.moves_are_stored.ensures.moved ready.intact ready.synced ready.told c.args.gate c.args.left.now c.args.region c.in-Some.table.now (sym c.in-Some.ensures.value) c.in-Some.ensures.own c.holds_one_run.ensures
     between c.in_ok-batch.batch m w c.new-file.result file c.finish_populate.new.self c.in_ok-len.ensures.ok c.put.new.batch.items c.rewrite_items.new.accessor c.in_ok-put.ensures.placed c.in_ok-rewrite_items.ensures.ok)))
-
-pub returns-in_err-put-clause-fault : goal.returns-in_err-put-clause-fault
-returns-in_err-put-clause-fault g c =
-    let e = c.self.inside in
-    let old : List Ask = g.F.EngineFiles.asked e.files in
-    let between : List Ask = g.F.EngineFiles.asked c.moving_batch.new.files in
-    let ready : IsReady (record { version = e.version; asks = old; untold = e.untold; accessor = e.accessor; intact = e.intact }) = subst IsReady (sym c.self.view_is) c.requires.ready in
-    let some : c.in_ok-batch.batch.items ≢ [] = search rules in
-    let its : LogFileContext = record { id = record { queue = Rewrite; seq = e.rewrite.seq }; version = e.version } in
-    let file : c.new-file.result ≡ its = c.new-file.ensures ∙ ap (λ (id : FileId). record { id = id; version = e.version }) c.new.ensures in
-    let new : List Ask = g.F.EngineFiles.asked c.put.new.files in
-    let files = (c.self.invariant.whole ready.intact).rewrite_files in
-    let p = err_from_is_err_and c.from_residual-in_err-put.result c.from_residual-in_err-put.ensures.1 in
-    rw (p.1, p.2)
-    (λ broken. subst (λ (o : KeptEngine). IsBatchFault (g.F.EngineFiles.may_fail) c.args.gate c.args.left.now c.args.region o
-    (record { version = e.version; asks = new; untold = e.untold; accessor = e.accessor; intact = false }) c.in_err-put.field-0.0) c.self.view_is
-    (record {
-      between = between;
-      batch = c.in_ok-batch.batch;
-      moving = record { table = c.in-Some.table.now; there = sym c.in-Some.ensures.value; moving = c.in_ok-batch.ensures.ok };
-      seq = e.rewrite.seq;
-      bytes = files.bytes;
-      last = files_last Rewrite old e.rewrite files;
-      why = inl (made_fails (g.F.EngineFiles.may_fail) c.new-file.result its c.finish_populate.new.self c.in_ok-batch.batch between new c.in_err-put.field-0.0
-          file c.in_ok-len.ensures.ok some c.in_err-put.ensures.err c.in_err-put.ensures.fault);
-    }))
-
-pub returns-in_err-rewrite_items-clause-fault : goal.returns-in_err-rewrite_items-clause-fault
-returns-in_err-rewrite_items-clause-fault g c =
-    let e = c.self.inside in
-    let old : List Ask = g.F.EngineFiles.asked e.files in
-    let between : List Ask = g.F.EngineFiles.asked c.moving_batch.new.files in
-    let m = c.in_ok-batch.ensures.ok in
-    let ready : IsReady (record { version = e.version; asks = old; untold = e.untold; accessor = e.accessor; intact = e.intact }) = subst IsReady (sym c.self.view_is) c.requires.ready in
-    let some : c.in_ok-batch.batch.items ≢ [] = search rules in
-    let its : LogFileContext = record { id = record { queue = Rewrite; seq = e.rewrite.seq }; version = e.version } in
-    let file : c.new-file.result ≡ its = c.new-file.ensures ∙ ap (λ (id : FileId). record { id = id; version = e.version }) c.new.ensures in
-    let new : List Ask = g.F.EngineFiles.asked c.put.new.files in
-    let files = (c.self.invariant.whole ready.intact).rewrite_files in
-    let are : c.put.new.batch.items ≡ placed_at its.id (length files.bytes) c.in_ok-batch.batch =
-    c.in_ok-put.ensures.placed ∙ ap (λ (f : LogFileContext). placed_at f.id e.rewrite.len c.finish_populate.new.self) file ∙ ap (λ (b : Batch). placed_at its.id e.rewrite.len b) c.in_ok-len.ensures.ok
-    ∙ ap (λ (n : ℕ). placed_at its.id n c.in_ok-batch.batch) files.ends in
-    let p = err_from_is_err_and c.from_residual-in_err-rewrite_items.result c.from_residual-in_err-rewrite_items.ensures.1 in
-    rw (p.1, p.2)
-    (λ broken. subst (λ (o : KeptEngine). IsBatchFault (g.F.EngineFiles.may_fail) c.args.gate c.args.left.now c.args.region o
-    (record { version = e.version; asks = new; untold = e.untold; accessor = c.rewrite_items.new.accessor; intact = false }) c.in_err-rewrite_items.field-0.0) c.self.view_is
-    (record {
-      between = between;
-      batch = c.in_ok-batch.batch;
-      moving = record { table = c.in-Some.table.now; there = sym c.in-Some.ensures.value; moving = m };
-      seq = e.rewrite.seq;
-      bytes = files.bytes;
-      last = files_last Rewrite old e.rewrite files;
-      why = inr (
-        put_whole c.new-file.result its c.finish_populate.new.self c.in_ok-batch.batch between new file c.in_ok-len.ensures.ok some c.in_ok-put.ensures.ok,
-        untaken c.args.gate c.args.left.now c.in-Some.table.now old between c.in_ok-batch.batch e.rewrite.seq (length files.bytes) e.accessor c.rewrite_items.new.accessor c.in_err-rewrite_items.field-0.0
-            (ap (finite.get e.accessor.tables) c.in-Some.ensures.own ∙ sym c.in-Some.ensures.value) c.holds_one_run.ensures m
-            (λ taken. c.in_err-rewrite_items.ensures.room (subst (AreTaken c.args.gate e.rewrite.seq e.accessor.tables) (sym are) taken))
-            (subst (λ (l : List Item). IsNextRefused (Rewriting c.args.gate e.rewrite.seq) l e.accessor c.rewrite_items.new.accessor c.in_err-rewrite_items.field-0.0) are c.in_err-rewrite_items.ensures.fault),
-      );
-    }))
 
 pub moving_batch-requires-clause-next : goal.moving_batch-requires-clause-next
 moving_batch-requires-clause-next g c =

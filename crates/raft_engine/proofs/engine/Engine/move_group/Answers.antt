@@ -1,26 +1,7 @@
-use Rattle.std.proofs.lemmas.Result.{err_from_is_err_and}
-use Rattle.std.proofs.Common.{◌≡◌, List, [], inl, inr, None, true, false, refl, sym, ap, ◌∙◌, subst}
-use Rattle.std.specs.List.{AllByRecursion}
-use Rattle.raft_base.specs.declared.pipe_log.FileId.{FileId}
-use Rattle.raft_base.specs.declared.pipe_log.LogFileContext.{LogFileContext}
-use Rattle.raft_base.specs.declared.pipe_log.LogQueue.TheVariants.{Rewrite}
-use Rattle.raft_records.specs.Item.{Item}
-use Rattle.raft_records.specs.LogBatch.{Batch, encoded}
-use Rattle.raft_accessor.specs.Writes.{AreWritten, Rewriting}
-use Rattle.raft_files.specs.Asks.{Ask}
-use Rattle.raft_engine.specs.GroupBatches.{puts_asks}
-use Rattle.raft_engine.specs.GroupParts.{IsGroupInParts}
-use Rattle.raft_engine.specs.GroupPlaces.{BeginInTime}
-use Rattle.raft_engine.specs.KeptEngine.{KeptEngine}
-use Rattle.raft_engine.specs.Moved.{IsReady}
-use Rattle.raft_engine.specs.MovedGroups.{IsGroupHalfMoved, IsGroupMoved, IsGroupUnmoved}
-use Rattle.raft_engine.specs.WrittenBatch.{AreFirstWritten, IsNextRefused}
+use Rattle.raft_engine.proofs.Common.{err_from_is_err_and, ◌≡◌, List, [], inl, inr, None, true, false, refl, sym, ap, ◌∙◌, subst, AllByRecursion, FileId, LogFileContext, Rewrite, Item, Batch, encoded, AreWritten, Rewriting, Ask, puts_asks, IsGroupInParts, BeginInTime, KeptEngine}
+use Rattle.raft_engine.proofs.Common.{IsReady, IsGroupHalfMoved, IsGroupMoved, IsGroupUnmoved, IsNextRefused, FailsAmong}
 use Rattle.raft_engine.proofs.KeptGroups.{all_broken, first_broken, group_half, group_kept, group_long, group_moved, group_open, group_reads, group_some, group_unmade, made_encoded, made_first, made_in_time, made_places, made_put}
 use Rattle.raft_engine.proofs.KeptMoves.{kept_read}
-use Rattle.raft_engine.specs.MovingFaults.{IsGroupFault}
-use Rattle.raft_engine.specs.OpeningAsks.{FailsAmong}
-use Rattle.raft_engine.proofs.FilesLemmas.{files_last}
-use Rattle.raft_engine.proofs.DrainLemmas.{first_of}
 use Rattle.raft_engine.proofs.engine.Engine.move_group.Goals as goal
 
 pub invariant_of-self : goal.invariant_of-self
@@ -129,15 +110,18 @@ returns-in_err-placed-clause-err g c =
     let file : LogFileContext = record { id = record { queue = Rewrite; seq = e.rewrite.seq }; version = e.version } in
     let is_file : c.new-file.result ≡ file =
     c.new-file.ensures ∙ ap (λ (id : FileId). record { id = id; version = e.version }) c.new.ensures in
-    let first = made_first c.new-file.result file is_file c.in_ok-batches.batches.items c.in_ok-made.made.items c.in_ok-made.ensures.ok
-    between new c.in_err-placed.ensures.err in
     let after : KeptEngine = record { version = e.version; asks = new; untold = e.untold; accessor = e.accessor; intact = false } in
     let q = err_from_is_err_and c.from_residual-in_err-placed.result c.from_residual-in_err-placed.ensures.1 in
-    rw (q.1)
-    (inr (subst (λ (o : KeptEngine). IsGroupHalfMoved c.args.region o after) c.self.view_is
+    rw (q.1, q.2)
+    (inr (subst (λ (o : KeptEngine). IsGroupHalfMoved (g.F.EngineFiles.may_fail) c.args.region o after c.in_err-placed.field-0.0) c.self.view_is
     (group_half c.moves_are_stored.ensures.read e.version old e.append e.rewrite e.untold e.accessor e.intact
     c.self.invariant ready.intact c.args.region c.in-Some.table.now (sym c.in-Some.ensures.value) between
-    c.in_ok-batches.batches.items p new e.accessor (inl (first, refl)))))
+    c.in_ok-batches.batches.items p new e.accessor c.in_err-placed.field-0.0
+    (inl (
+      subst (λ (l : List Ask). FailsAmong (g.F.EngineFiles.may_fail) l between new c.in_err-placed.field-0.0)
+          (made_put c.new-file.result file is_file c.in_ok-batches.batches.items c.in_ok-made.made.items c.in_ok-made.ensures.ok [] _ refl) c.in_err-placed.ensures.fault,
+      refl,
+    )))))
 
 pub invariant_of-self-in_err-rewrite_all : goal.invariant_of-self-in_err-rewrite_all
 invariant_of-self-in_err-rewrite_all g c =
@@ -171,21 +155,18 @@ returns-in_err-rewrite_all-clause-err g c =
     let file : LogFileContext = record { id = record { queue = Rewrite; seq = e.rewrite.seq }; version = e.version } in
     let is_file : c.new-file.result ≡ file =
     c.new-file.ensures ∙ ap (λ (id : FileId). record { id = id; version = e.version }) c.new.ensures in
-    let is_new : new ≡ puts_asks file c.in_ok-batches.batches.items between =
-    made_put c.new-file.result file is_file c.in_ok-batches.batches.items c.in_ok-made.made.items c.in_ok-made.ensures.ok between new c.in_ok-placed.ensures.ok in
     let places = made_places c.new-file.result file is_file c.in_ok-batches.batches.items c.in_ok-made.made.items c.in_ok-made.ensures.ok
     e.rewrite.len _ _ (c.self.invariant.whole ready.intact).rewrite_files.ends c.in_ok-placed.ensures.placed in
     let after : KeptEngine = record { version = e.version; asks = new; untold = e.untold; accessor = c.rewrite_all.new.accessor; intact = false } in
     let q = err_from_is_err_and c.from_residual-in_err-rewrite_all.result c.from_residual-in_err-rewrite_all.ensures.1 in
-    rw (q.1)
-    (inr (subst (λ (o : KeptEngine). IsGroupHalfMoved c.args.region o after) c.self.view_is
+    rw (q.1, q.2)
+    (inr (subst (λ (o : KeptEngine). IsGroupHalfMoved (g.F.EngineFiles.may_fail) c.args.region o after c.in_err-rewrite_all.field-0.0) c.self.view_is
     (group_half c.moves_are_stored.ensures.read e.version old e.append e.rewrite e.untold e.accessor e.intact
     c.self.invariant ready.intact c.args.region c.in-Some.table.now (sym c.in-Some.ensures.value) between
-    c.in_ok-batches.batches.items p new c.rewrite_all.new.accessor
+    c.in_ok-batches.batches.items p new c.rewrite_all.new.accessor c.in_err-rewrite_all.field-0.0
     (inr (
-      is_new,
-      subst (λ (l : List Item). AreFirstWritten (Rewriting None e.rewrite.seq) l e.accessor c.rewrite_all.new.accessor) places
-          (first_of c.in_err-rewrite_all.ensures.fault),
+      made_put c.new-file.result file is_file c.in_ok-batches.batches.items c.in_ok-made.made.items c.in_ok-made.ensures.ok between new c.in_ok-placed.ensures.ok,
+      subst (λ (l : List Item). IsNextRefused (Rewriting None e.rewrite.seq) l e.accessor c.rewrite_all.new.accessor c.in_err-rewrite_all.field-0.0) places c.in_err-rewrite_all.ensures.fault,
     )))))
 
 pub invariant_of-self-2 : goal.invariant_of-self-2
@@ -238,66 +219,3 @@ returns-clause-ok g c =
     c.in_ok-batches.batches.items p
     c.moved_groups_are_stored.ensures ready.synced ready.told c.in-Some.ensures.own c.in_ok-made.ensures.writable
     new is_new c.rewrite_all.new.accessor applied))
-
-pub returns-in_err-placed-clause-fault : goal.returns-in_err-placed-clause-fault
-returns-in_err-placed-clause-fault g c =
-    let e = c.self.inside in
-    let old : List Ask = g.F.EngineFiles.asked e.files in
-    let between : List Ask = g.F.EngineFiles.asked c.moving_group.new.files in
-    let before : KeptEngine = record { version = e.version; asks = old; untold = e.untold; accessor = e.accessor; intact = e.intact } in
-    let ready : IsReady before = subst IsReady (sym c.self.view_is) c.requires in
-    let p : IsGroupInParts c.in-Some.table.now old between e.rewrite.seq c.in_ok-batches.batches.items = c.in_ok-batches.ensures.ok in
-    let files = (c.self.invariant.whole ready.intact).rewrite_files in
-    let new : List Ask = g.F.EngineFiles.asked c.put_all.new.files in
-    let file : LogFileContext = record { id = record { queue = Rewrite; seq = e.rewrite.seq }; version = e.version } in
-    let is_file : c.new-file.result ≡ file =
-    c.new-file.ensures ∙ ap (λ (id : FileId). record { id = id; version = e.version }) c.new.ensures in
-    let after : KeptEngine = record { version = e.version; asks = new; untold = e.untold; accessor = e.accessor; intact = false } in
-    let q = err_from_is_err_and c.from_residual-in_err-placed.result c.from_residual-in_err-placed.ensures.1 in
-    rw (q.1, q.2)
-    (λ broken. subst (λ (o : KeptEngine). IsGroupFault (g.F.EngineFiles.may_fail) c.args.region o after c.in_err-placed.field-0.0) c.self.view_is
-    (record {
-      between = between;
-      batches = c.in_ok-batches.batches.items;
-      seq = e.rewrite.seq;
-      bytes = files.bytes;
-      last = files_last Rewrite old e.rewrite files;
-      group = record { table = c.in-Some.table.now; there = sym c.in-Some.ensures.value; parts = p };
-      why = inl (subst (λ (l : List Ask). FailsAmong (g.F.EngineFiles.may_fail) l between new c.in_err-placed.field-0.0)
-          (made_put c.new-file.result file is_file c.in_ok-batches.batches.items c.in_ok-made.made.items c.in_ok-made.ensures.ok [] _ refl) c.in_err-placed.ensures.fault);
-    }))
-
-pub returns-in_err-rewrite_all-clause-fault : goal.returns-in_err-rewrite_all-clause-fault
-returns-in_err-rewrite_all-clause-fault g c =
-    let e = c.self.inside in
-    let old : List Ask = g.F.EngineFiles.asked e.files in
-    let between : List Ask = g.F.EngineFiles.asked c.moving_group.new.files in
-    let before : KeptEngine = record { version = e.version; asks = old; untold = e.untold; accessor = e.accessor; intact = e.intact } in
-    let ready : IsReady before = subst IsReady (sym c.self.view_is) c.requires in
-    let p : IsGroupInParts c.in-Some.table.now old between e.rewrite.seq c.in_ok-batches.batches.items = c.in_ok-batches.ensures.ok in
-    let files = (c.self.invariant.whole ready.intact).rewrite_files in
-    let new : List Ask = g.F.EngineFiles.asked c.put_all.new.files in
-    let file : LogFileContext = record { id = record { queue = Rewrite; seq = e.rewrite.seq }; version = e.version } in
-    let is_file : c.new-file.result ≡ file =
-    c.new-file.ensures ∙ ap (λ (id : FileId). record { id = id; version = e.version }) c.new.ensures in
-    let is_new : new ≡ puts_asks file c.in_ok-batches.batches.items between =
-    made_put c.new-file.result file is_file c.in_ok-batches.batches.items c.in_ok-made.made.items c.in_ok-made.ensures.ok between new c.in_ok-placed.ensures.ok in
-    let places = made_places c.new-file.result file is_file c.in_ok-batches.batches.items c.in_ok-made.made.items c.in_ok-made.ensures.ok
-    e.rewrite.len _ _ files.ends c.in_ok-placed.ensures.placed in
-    let after : KeptEngine = record { version = e.version; asks = new; untold = e.untold; accessor = c.rewrite_all.new.accessor; intact = false } in
-    let q = err_from_is_err_and c.from_residual-in_err-rewrite_all.result c.from_residual-in_err-rewrite_all.ensures.1 in
-    rw (q.1, q.2)
-    (λ broken. subst (λ (o : KeptEngine). IsGroupFault (g.F.EngineFiles.may_fail) c.args.region o after c.in_err-rewrite_all.field-0.0) c.self.view_is
-    (record {
-      between = between;
-      batches = c.in_ok-batches.batches.items;
-      seq = e.rewrite.seq;
-      bytes = files.bytes;
-      last = files_last Rewrite old e.rewrite files;
-      group = record { table = c.in-Some.table.now; there = sym c.in-Some.ensures.value; parts = p };
-      why = inr (
-        is_new,
-        subst (λ (l : List Item). IsNextRefused (Rewriting None e.rewrite.seq) l e.accessor c.rewrite_all.new.accessor c.in_err-rewrite_all.field-0.0) places
-            c.in_err-rewrite_all.ensures.fault,
-      );
-    }))

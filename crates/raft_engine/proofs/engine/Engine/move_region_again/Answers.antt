@@ -1,12 +1,6 @@
-use Rattle.std.proofs.lemmas.Bool.{false≢true}
-use Rattle.std.proofs.lemmas.Result.{err_from_is_err_and}
-use Rattle.std.proofs.Common.{None, inl, inr, refl, sym, ◌∙◌}
-use Rattle.raft_engine.specs.Moved.{IsRegionUnmoved}
-use Rattle.raft_engine.specs.MovedGroups.{IsGroupUnmoved, IsOnePartOf, IsRegionMovedAgain, IsRegionUnmovedAgain}
+use Rattle.raft_engine.proofs.Common.{false≢true, err_from_is_err_and, None, inl, inr, refl, sym, ◌∙◌, IsRegionUnmoved, IsGroupUnmoved, IsOnePartOf, IsRegionMovedAgain, IsRegionUnmovedAgain}
 use Rattle.raft_engine.proofs.MovedRegions.{group_again, group_not_again}
 use Rattle.raft_engine.proofs.RewrittenRegions.{if_err_so, ok_so}
-use Rattle.raft_engine.specs.Faults.{Breaks}
-use Rattle.raft_engine.specs.MovingFaults.{IsGroupFault, IsRegionFault, IsRegionFaultAgain}
 use Rattle.raft_engine.proofs.engine.Engine.move_region_again.Goals as goal
 
 pub returns-clause-ok : goal.returns-clause-ok
@@ -33,18 +27,3 @@ pub returns-in_err-is_one_part-clause-err : goal.returns-in_err-is_one_part-clau
 returns-in_err-is_one_part-clause-err g c =
     let p = err_from_is_err_and c.from_residual.result c.from_residual.ensures.1 in
     rw (p.1, p.2) (inl (refl, c.in_err-is_one_part.ensures.memory))
-
-pub returns-then-branch-clause-fault : goal.returns-then-branch-clause-fault
-returns-then-branch-clause-fault g c =
-    let old = c.args.self.now in
-    let new = c.rewrite_region.new.self in
-    if_err_so (λ e. Breaks old new → IsRegionFault (g.F.EngineFiles.may_fail) None c.args.region old new e) (λ e. Breaks old new → IsRegionFaultAgain (g.F.EngineFiles.may_fail) c.args.region old new e) c.rewrite_region.result
-    (λ e f broken. inl (c.in_ok-is_one_part.ensures.ok.0 c.if-branch.true, f broken)) c.rewrite_region.ensures.fault
-
-pub returns-clause-fault : goal.returns-clause-fault
-returns-clause-fault g c =
-    let old = c.args.self.now in
-    let new = c.move_group.new.self in
-    let several : ¬ (IsOnePartOf c.args.region old) = λ h. false≢true (sym c.if-branch.false ∙ c.in_ok-is_one_part.ensures.ok.1 h) in
-    if_err_so (λ e. Breaks old new → IsGroupFault (g.F.EngineFiles.may_fail) c.args.region old new e) (λ e. Breaks old new → IsRegionFaultAgain (g.F.EngineFiles.may_fail) c.args.region old new e) c.move_group.result
-    (λ e f broken. inr (several, f broken)) c.move_group.ensures.fault

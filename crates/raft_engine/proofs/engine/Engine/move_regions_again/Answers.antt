@@ -1,7 +1,5 @@
-use Rattle.std.proofs.lemmas.Result.{err_from_is_err_and}
-use Rattle.std.proofs.Common.{rules, ◌<◌, length}
+use Rattle.raft_engine.proofs.Common.{err_from_is_err_and, rules, ◌<◌, length}
 use Rattle.raft_engine.proofs.MovedRegions.{moved_ready, next_region, some_moved}
-use Rattle.raft_engine.proofs.MovingFaultLemmas.{fault_of_regions_again}
 use Rattle.raft_engine.proofs.engine.Engine.move_regions_again.Goals as goal
 
 pub loop-region-preserved : goal.loop-region-preserved
@@ -16,11 +14,3 @@ returns-in_err-move_region_again-clause-err g c =
     let less : c.loop-region.region-index < length c.args.regions.now = search rules in
     let p = err_from_is_err_and c.from_residual.result c.from_residual.ensures.1 in
     rw (p.1, p.2) (some_moved c.loop-region.region-index c.args.regions.now _ _ _ _ _ less c.loop-region.invariant.1 c.in_err-move_region_again.ensures.err)
-
-pub returns-in_err-move_region_again-clause-fault : goal.returns-in_err-move_region_again-clause-fault
-returns-in_err-move_region_again-clause-fault g c =
-    let less : c.loop-region.region-index < length c.args.regions.now = search rules in
-    let p = err_from_is_err_and c.from_residual.result c.from_residual.ensures.1 in
-    rw (p.1, p.2)
-    (λ broken. fault_of_regions_again (g.F.EngineFiles.may_fail) c.loop-region.region-index c.args.regions.now _ _ _ _ _ less c.loop-region.invariant.1
-    (c.in_err-move_region_again.ensures.fault (c.loop-region.invariant.0.intact, broken.1)))

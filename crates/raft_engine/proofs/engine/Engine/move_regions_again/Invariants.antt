@@ -1,6 +1,4 @@
-use Rattle.std.proofs.Common.{take}
-use Rattle.raft_engine.specs.Moved.{IsReady}
-use Rattle.raft_engine.specs.MovedGroups.{AreRegionsMovedAgain}
+use Rattle.raft_engine.proofs.Common.{take, IsReady, AreRegionsMovedAgain}
 use Rattle.raft_engine.proofs.engine.Engine.move_regions_again.Given as goal
 
 abbrev pub invariant-loop-region : goal.invariant-loop-region

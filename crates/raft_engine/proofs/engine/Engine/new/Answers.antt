@@ -1,8 +1,5 @@
-use Rattle.std.proofs.Common.{List, ◌∷◌, ap, ◌∙◌, inl, inr, subst}
-use Rattle.raft_base.specs.declared.pipe_log.LogQueue.TheVariants.{Append, Rewrite}
-use Rattle.raft_files.specs.Asks.{Ask, Begin, ask}
+use Rattle.raft_engine.proofs.Common.{List, ◌∷◌, ap, ◌∙◌, inl, inr, subst, Append, Rewrite, Ask, Begin, ask, err_from_is_err_and}
 use Rattle.raft_engine.proofs.KeptLemmas.{kept_new}
-use Rattle.std.proofs.lemmas.Result.{err_from_is_err_and}
 use Rattle.raft_engine.proofs.engine.Engine.new.Goals as goal
 
 pub invariant_of-result : goal.invariant_of-result

@@ -1,8 +1,4 @@
-use Rattle.std.proofs.Common.{subst}
-use Rattle.raft_engine_prefixes.specs.Contents.{AreBothTold}
-use Rattle.raft_engine.specs.KeptEngine.{KeptEngine}
-use Rattle.raft_engine.specs.KeptEngineView.{engine_shown}
-use Rattle.raft_engine.specs.Lasting.{IsLasting}
+use Rattle.raft_engine.proofs.Common.{subst, AreBothTold, KeptEngine, engine_shown, IsLasting}
 use Rattle.raft_engine.proofs.StoredLemmas.{stored_is_lasting}
 use Rattle.raft_engine.proofs.engine.Engine.nothing_synced_is_lost.Goals as goal
 

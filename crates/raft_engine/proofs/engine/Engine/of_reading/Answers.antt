@@ -1,7 +1,4 @@
-use Rattle.std.proofs.Common.{refl, subst, List}
-use Rattle.raft_files.specs.Asks.{Ask}
-use Rattle.raft_engine.specs.OpeningAsks.{FailsAmong}
-use Rattle.raft_engine.specs.ReadFound.{reading_asks}
+use Rattle.raft_engine.proofs.Common.{refl, subst, List, Ask, FailsAmong, reading_asks}
 use Rattle.raft_engine.proofs.OpenedLemmas.{half_opened, kept_opened, opened_so}
 use Rattle.raft_engine.proofs.engine.Engine.of_reading.Goals as goal
 

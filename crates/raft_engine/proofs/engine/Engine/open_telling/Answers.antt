@@ -1,7 +1,4 @@
-use Rattle.std.proofs.Common.{inr, map, sym, subst}
-use Rattle.std.proofs.lemmas.Result.{IfErr-weaker, IfOk-weaker}
-use Rattle.raft_files.specs.HeldFiles.{file_shown}
-use Rattle.raft_engine.specs.DamagedBatches.{AreDamagedTold}
+use Rattle.raft_engine.proofs.Common.{inr, map, sym, subst, IfErr-weaker, IfOk-weaker, file_shown, AreDamagedTold}
 use Rattle.raft_engine.proofs.ModeLemmas.{on_ok}
 use Rattle.raft_engine.proofs.engine.Engine.open_telling.Goals as goal
 

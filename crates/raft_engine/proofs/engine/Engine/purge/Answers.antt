@@ -1,10 +1,7 @@
-use Rattle.std.proofs.lemmas.Result.{err_from_is_err_and}
-use Rattle.std.proofs.Common.{rules, ◌≡◌, ◌≢◌, inl, inr, refl, subst}
-use Rattle.raft_engine.specs.Purged.{AreExpired}
+use Rattle.raft_engine.proofs.Common.{err_from_is_err_and, rules, ◌≡◌, ◌≢◌, inl, inr, refl, subst, AreExpired}
 use Rattle.raft_engine.proofs.ExpiredRewrites.{told_expired}
 use Rattle.raft_engine.proofs.KeptPurges.{told_half, told_purged, untold_unpurged}
 use Rattle.raft_engine.proofs.RewrittenRegions.{told_ready}
-use Rattle.raft_engine.proofs.FaultLemmas.{telling_purge, told_purge}
 use Rattle.raft_engine.proofs.engine.Engine.purge.Goals as goal
 
 pub returns-then-count-eq0-clause-ok : goal.returns-then-count-eq0-clause-ok
@@ -28,20 +25,9 @@ pub returns-in_err-delete_files-clause-err : goal.returns-in_err-delete_files-cl
 returns-in_err-delete_files-clause-err g c =
     let some : c.in_ok-count.count ≢ 0 = search rules in
     let p = err_from_is_err_and c.from_residual-in_err-delete_files.result c.from_residual-in_err-delete_files.ensures.1 in
-    rw (p.1) (inr (told_half c.args.queue c.in_ok-count.count _ c.in_ok-count.ensures.ok some c.tell.new.self c.in_ok-tell.ensures.ok _ c.in_err-delete_files.ensures.err))
+    rw (p.1, p.2) (inr (told_half c.args.queue c.in_ok-count.count _ c.in_ok-count.ensures.ok some c.tell.new.self c.in_ok-tell.ensures.ok _ _ c.in_err-delete_files.ensures.err))
 
 pub returns-clause-ok : goal.returns-clause-ok
 returns-clause-ok g c =
     let some : c.in_ok-count.count ≢ 0 = search rules in
     told_purged c.args.queue c.in_ok-count.count _ c.in_ok-count.ensures.ok some c.tell.new.self c.in_ok-tell.ensures.ok _ c.in_ok-delete_files.ensures.ok
-
-pub returns-in_err-tell-clause-fault : goal.returns-in_err-tell-clause-fault
-returns-in_err-tell-clause-fault g c =
-    let p = err_from_is_err_and c.from_residual-in_err-tell.result c.from_residual-in_err-tell.ensures.1 in
-    rw (p.1, p.2) (λ broken. telling_purge (g.F.EngineFiles.may_fail) c.args.queue c.in_ok-count.count c.args.self.now c.in_ok-count.ensures.ok c.tell.new.self c.in_err-tell.field-0.0 (c.in_err-tell.ensures.fault broken))
-
-pub returns-in_err-delete_files-clause-fault : goal.returns-in_err-delete_files-clause-fault
-returns-in_err-delete_files-clause-fault g c =
-    let p = err_from_is_err_and c.from_residual-in_err-delete_files.result c.from_residual-in_err-delete_files.ensures.1 in
-    rw (p.1, p.2) (λ broken. told_purge (g.F.EngineFiles.may_fail) c.args.queue c.in_ok-count.count c.args.self.now c.in_ok-count.ensures.ok c.tell.new.self
-    c.delete_files.new.self c.in_err-delete_files.field-0.0 c.in_ok-tell.ensures.ok c.in_err-delete_files.ensures.fault)

@@ -1,10 +1,7 @@
-use Rattle.std.proofs.lemmas.Result.{err_from_is_err_and}
-use Rattle.std.proofs.Common.{rules, ◌≡◌, ◌≢◌, [], sym, ap, ◌∙◌, subst}
+use Rattle.raft_engine.proofs.Common.{err_from_is_err_and, rules, ◌≡◌, ◌≢◌, [], sym, ap, ◌∙◌, subst, KeptEngine, AreToMove}
 use Rattle.std.specs.FinMap as finite
-use Rattle.raft_engine.specs.KeptEngine.{KeptEngine}
-use Rattle.raft_engine.specs.Moved.{AreToMove}
 use Rattle.raft_engine.proofs.NextParts.{fewer_left, joined_parts, parted_next, past_gate}
-use Rattle.raft_engine.proofs.RewrittenRegions.{all_so_far, fault_so_far, more_so_far, none_so_far, unlisted, unmoved_so_far}
+use Rattle.raft_engine.proofs.RewrittenRegions.{all_so_far, more_so_far, none_so_far, unlisted, unmoved_so_far}
 use Rattle.raft_engine.proofs.engine.Engine.rewrite_region.Goals as goal
 
 pub loop-entries-init : goal.loop-entries-init
@@ -48,8 +45,3 @@ pub returns-in_err-move_batch-clause-err : goal.returns-in_err-move_batch-clause
 returns-in_err-move_batch-clause-err g c =
     let p = err_from_is_err_and c.from_residual-in_err-move_batch.result c.from_residual-in_err-move_batch.ensures.1 in
     rw (p.1, p.2) (unmoved_so_far c.args.gate c.args.region c.args.self.now c.loop-entries.self c.move_batch.new.self c.loop-entries.rest.now c.split_at.result.1.now _ c.loop-entries.invariant c.in_err-move_batch.ensures.err)
-
-pub returns-in_err-move_batch-clause-fault : goal.returns-in_err-move_batch-clause-fault
-returns-in_err-move_batch-clause-fault g c =
-    let p = err_from_is_err_and c.from_residual-in_err-move_batch.result c.from_residual-in_err-move_batch.ensures.1 in
-    rw (p.1, p.2) (fault_so_far (g.F.EngineFiles.may_fail) c.args.gate c.args.region c.args.self.now c.loop-entries.self c.move_batch.new.self c.loop-entries.rest.now c.split_at.result.1.now _ c.loop-entries.invariant c.in_err-move_batch.ensures.fault)

@@ -1,4 +1,4 @@
-use Rattle.std.proofs.Common.{length}
+use Rattle.raft_engine.proofs.Common.{length}
 use Rattle.raft_engine.proofs.RewrittenRegions.{AreMovedSoFar}
 use Rattle.raft_engine.proofs.engine.Engine.rewrite_region.Given as goal
 

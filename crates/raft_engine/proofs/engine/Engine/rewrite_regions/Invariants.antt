@@ -1,5 +1,4 @@
-use Rattle.std.proofs.Common.{take}
-use Rattle.raft_engine.specs.Moved.{AreRegionsRewritten, IsReady}
+use Rattle.raft_engine.proofs.Common.{take, AreRegionsRewritten, IsReady}
 use Rattle.raft_engine.proofs.engine.Engine.rewrite_regions.Given as goal
 
 abbrev pub invariant-loop-region : goal.invariant-loop-region

@@ -1,12 +1,6 @@
-use Rattle.std.proofs.lemmas.Result.{err_from_is_err_and}
-use Rattle.std.proofs.Common.{rules, ◌≡◌, true, false, inl, inr, subst, List}
-use Rattle.raft_base.specs.declared.pipe_log.LogQueue.TheVariants.{Append}
-use Rattle.raft_files.specs.Asks.{Ask}
-use Rattle.raft_engine.specs.Faults.{IsRotationFault}
-use Rattle.raft_engine.specs.KeptEngine.{KeptEngine}
-use Rattle.raft_engine.specs.WrittenBatch.{IsHalfRotated, IsRotated, IsRotationRefusal}
-use Rattle.raft_engine.proofs.AskedLemmas.{asked_part}
-use Rattle.raft_engine.proofs.KeptLemmas.{half_rotated, is_rotated, kept_between, kept_listed, kept_rotated, last_append}
+use Rattle.raft_engine.proofs.Common.{err_from_is_err_and, rules, ◌≡◌, true, false, inl, inr, subst, List, Append, Ask, KeptEngine, IsHalfRotated, IsRotated, IsRotationRefusal, refl, next_asks}
+use Rattle.raft_engine.proofs.BrokenLemmas.{broken_kept}
+use Rattle.raft_engine.proofs.KeptLemmas.{is_rotated, kept_listed, kept_rotated, last_append, rotated_ever}
 use Rattle.raft_engine.proofs.RefusalLemmas.{unclosed_refusal}
 use Rattle.raft_engine.proofs.engine.Engine.rotate.Goals as goal
 
@@ -20,11 +14,12 @@ pub invariant_of-self-in_err-begin_next : goal.invariant_of-self-in_err-begin_ne
 invariant_of-self-in_err-begin_next g c =
     let e = c.self.inside in
     let old : List Ask = g.F.EngineFiles.asked e.files in
+    let new : List Ask = g.F.EngineFiles.asked c.begin_next.new.files in
     let intact : e.intact ≡ true = search rules in
-    kept_between e.version old e.append e.rewrite e.untold e.accessor e.intact c.self.invariant
-    c.asks_are_stored.ensures.synced c.asks_are_stored.ensures.unsynced c.asks_are_stored.ensures.begun intact Append e.append.seq _ (last_append e.version old e.append e.rewrite e.untold e.accessor e.intact c.self.invariant intact)
-    (g.F.EngineFiles.asked c.begin_next.new.files) c.begin_next.new.self e.rewrite
-    (asked_part (g.F.EngineFiles.may_fail) _ _ _ _ (rw (c.close_last.ensures.seq) at c.in_err-begin_next.ensures.fault))
+    let last = last_append e.version old e.append e.rewrite e.untold e.accessor e.intact c.self.invariant intact in
+    broken_kept c.asks_are_stored.ensures.unsynced e.version new c.begin_next.new.self e.rewrite e.untold e.accessor (g.F.EngineFiles.may_fail) (next_asks Append e.append.seq) old c.in_err-begin_next.field-0.0
+    (rotated_ever e.version old e.append e.rewrite e.untold e.accessor e.intact c.self.invariant c.asks_are_stored.ensures.synced c.asks_are_stored.ensures.begun intact Append e.append.seq _ last)
+    (rw (c.close_last.ensures.seq) at c.in_err-begin_next.ensures.fault)
 
 pub invariant_of-self-2 : goal.invariant_of-self-2
 invariant_of-self-2 g c =
@@ -58,26 +53,11 @@ returns-in_err-close_last-clause-err g c =
 pub returns-in_err-begin_next-clause-err : goal.returns-in_err-begin_next-clause-err
 returns-in_err-begin_next-clause-err g c =
     let e = c.self.inside in
+    let old : List Ask = g.F.EngineFiles.asked e.files in
     let new : List Ask = g.F.EngineFiles.asked c.begin_next.new.files in
     let intact : e.intact ≡ true = search rules in
-    let p = err_from_is_err_and c.from_residual-in_err-begin_next.result c.from_residual-in_err-begin_next.ensures.1 in
-    rw (p.1)
-    (inr (subst (λ (o : KeptEngine). IsHalfRotated o (record { version = e.version; asks = new; untold = e.untold; accessor = e.accessor; intact = false })) c.self.view_is
-    (half_rotated e.version (g.F.EngineFiles.asked e.files) e.append e.rewrite e.untold e.accessor e.intact c.self.invariant intact new
-    (asked_part (g.F.EngineFiles.may_fail) _ _ _ _ (rw (c.close_last.ensures.seq) at c.in_err-begin_next.ensures.fault)))))
-
-pub returns-in_err-begin_next-clause-fault : goal.returns-in_err-begin_next-clause-fault
-returns-in_err-begin_next-clause-fault g c =
-    let e = c.self.inside in
-    let intact : e.intact ≡ true = search rules in
+    let last = last_append e.version old e.append e.rewrite e.untold e.accessor e.intact c.self.invariant intact in
     let p = err_from_is_err_and c.from_residual-in_err-begin_next.result c.from_residual-in_err-begin_next.ensures.1 in
     rw (p.1, p.2)
-    (λ broken. subst (λ (o : KeptEngine). IsRotationFault (g.F.EngineFiles.may_fail) o
-    (record { version = e.version; asks = g.F.EngineFiles.asked c.begin_next.new.files; untold = e.untold; accessor = e.accessor; intact = false })
-    c.in_err-begin_next.field-0.0) c.self.view_is
-    (record {
-      seq = e.append.seq;
-      bytes = (c.self.invariant.whole intact).append_files.bytes;
-      last = last_append e.version (g.F.EngineFiles.asked e.files) e.append e.rewrite e.untold e.accessor e.intact c.self.invariant intact;
-      failed = rw (c.close_last.ensures.seq) at c.in_err-begin_next.ensures.fault;
-    }))
+    (inr (subst (λ (o : KeptEngine). IsHalfRotated (g.F.EngineFiles.may_fail) Append o (record { version = e.version; asks = new; untold = e.untold; accessor = e.accessor; intact = false }) c.in_err-begin_next.field-0.0) c.self.view_is
+    (record { seq = e.append.seq; bytes = _; last = last; broken = record { was = intact; failed = rw (c.close_last.ensures.seq) at c.in_err-begin_next.ensures.fault; others = refl } })))

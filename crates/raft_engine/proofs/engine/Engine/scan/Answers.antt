@@ -1,8 +1,5 @@
-use Rattle.std.proofs.Common.{◌≡◌, [], subst}
+use Rattle.raft_engine.proofs.Common.{◌≡◌, [], subst, option_copied, pairs_between, KeptEngine, table_in}
 use Rattle.std.specs.FinMap as finite
-use Rattle.std.specs.Option.{option_copied}
-use Rattle.raft_table.specs.Scan.{pairs_between}
-use Rattle.raft_engine.specs.KeptEngine.{KeptEngine, table_in}
 use Rattle.raft_engine.proofs.ReadKept.{no_pairs, none_visited}
 use Rattle.raft_engine.proofs.engine.Engine.scan.Goals as goal
 

@@ -1,8 +1,4 @@
-use Rattle.std.proofs.Common.{subst}
-use Rattle.raft_engine_laws.specs.Crashes.{synced, written}
-use Rattle.raft_engine.specs.KeptEngine.{KeptEngine}
-use Rattle.raft_engine.specs.KeptEngineView.{engine_shown}
-use Rattle.raft_engine.specs.RoundTrip.{HasAllAppended, IsRoundTrip}
+use Rattle.raft_engine.proofs.Common.{subst, synced, written, KeptEngine, engine_shown, HasAllAppended, IsRoundTrip}
 use Rattle.raft_engine.proofs.engine.Engine.what_was_written_is_recovered.Goals as goal
 
 pub returns : goal.returns

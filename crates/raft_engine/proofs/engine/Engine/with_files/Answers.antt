@@ -1,8 +1,4 @@
-use Rattle.std.proofs.Common.{refl, sym, ap, subst, ◌∙◌, List}
-use Rattle.std.specs.Fn.{FnOnceReturnsAtMut}
-use Rattle.raft_files.specs.Asks.{Ask}
-use Rattle.raft_engine.specs.KeptEngine.{KeptEngine}
-use Rattle.raft_engine.specs.KeptEngineView.{IsKeptBy}
+use Rattle.raft_engine.proofs.Common.{refl, sym, ap, subst, ◌∙◌, List, FnOnceReturnsAtMut, Ask, KeptEngine, IsKeptBy}
 use Rattle.raft_engine.proofs.engine.Engine.with_files.Goals as goal
 
 pub invariant_of-self : goal.invariant_of-self

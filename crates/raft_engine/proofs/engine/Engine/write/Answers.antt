@@ -1,19 +1,9 @@
-use Rattle.std.proofs.lemmas.Result.{err_from_is_err_and}
-use Rattle.std.proofs.Common.{rules, ◌≡◌, ◌≢◌, ◌<◌, ◌^◌, true, false, List, [], ap, ◌∙◌, subst, inl, inr, refl}
+use Rattle.raft_engine.proofs.Common.{err_from_is_err_and, rules, ◌≡◌, ◌≢◌, ◌<◌, ◌^◌, true, false, List, [], ap, ◌∙◌, subst, inl, inr, refl, FileId, Append, AreAcceptedOncePlaced, IsAppendCheckFault, Ask, taking_items, IsLastFile, KeptEngine, IsHalfWritten, IsOneMore, IsRefusal}
 use Rattle.raft_base.specs.declared.errors.Error.TheVariants as errors
-use Rattle.raft_base.specs.declared.pipe_log.FileId.{FileId}
-use Rattle.raft_base.specs.declared.pipe_log.LogQueue.TheVariants.{Append}
-use Rattle.raft_accessor.specs.AppendChecks.{AreAcceptedOncePlaced, IsAppendCheckFault}
-use Rattle.raft_files.specs.Asks.{Ask}
-use Rattle.raft_engine_laws.specs.Telling.{taking_items}
-use Rattle.raft_engine.specs.KeptEngine.{IsLastFile, KeptEngine}
-use Rattle.raft_engine.specs.WrittenBatch.{IsHalfWritten, IsOneMore, IsRefusal, synced_if}
 use Rattle.raft_engine.proofs.KeptLemmas.{last_append}
 use Rattle.raft_engine.proofs.RefusalLemmas.{bytes_refusal, file_refusal, test_refusal}
-use Rattle.raft_engine.proofs.WriteLemmas.{IsReady, half_written, kept_half, kept_more, kept_put, kept_unsynced, merge_memory, merge_unnoted, none_tested, none_written, one_more, placed_accepted, placed_cut, unsynced_written, whole_asked}
-use Rattle.raft_base.specs.declared.pipe_log.LogFileContext.{LogFileContext}
-use Rattle.raft_engine.specs.Faults.{IsWritingFault}
-use Rattle.raft_engine.proofs.FaultLemmas.{writing_of_none, writing_put, writing_sync, writing_whole}
+use Rattle.raft_engine.proofs.WriteLemmas.{IsReady, cut_written, kept_more, kept_put, kept_unput, kept_unsynced, merge_memory, merge_unnoted, none_tested, none_written, one_more, placed_accepted, unput_written, unsynced_written}
+use Rattle.raft_engine.proofs.FaultLemmas.{writable_of}
 use Rattle.raft_engine.proofs.engine.Engine.write.Goals as goal
 
 pub returns-then-is_empty-clause-tested : goal.returns-then-is_empty-clause-tested
@@ -30,7 +20,7 @@ returns-then-is_empty-clause-err g c =
     let last = subst (λ (o : KeptEngine). IsLastFile Append o.asks e.append.seq (kept.whole intact).append_files.bytes) c.self.view_is
     (last_append e.version (g.F.EngineFiles.asked e.files) e.append e.rewrite e.untold e.accessor e.intact kept intact) in
     let was : c.args.self.now.intact ≡ true = search rules in
-    none_written c.sync_if_wanted.result c.args.sync c.args.batch.now c.args.batch.now c.args.self.now c.sync_if_wanted.new.self e.append.seq (kept.whole intact).append_files.bytes last was none c.sync_if_wanted.ensures.err c.sync_if_wanted.ensures.wanted
+    none_written (g.F.EngineFiles.may_fail) c.sync_if_wanted.result c.args.sync c.args.batch.now c.args.batch.now c.args.self.now c.sync_if_wanted.new.self e.append.seq (kept.whole intact).append_files.bytes last was none c.sync_if_wanted.ensures.err c.sync_if_wanted.ensures.wanted
 
 pub invariant_of-self : goal.invariant_of-self
 invariant_of-self g c =
@@ -38,20 +28,12 @@ invariant_of-self g c =
     let old : List Ask = g.F.EngineFiles.asked e.files in
     let intact : e.intact ≡ true = search rules in
     let some : c.args.batch.now.items ≢ [] = search rules in
-    let ready : IsReady e.accessor.tables c.args.batch.now = record {
-      writable = record {
-        tiled = c.is_read_again.ensures.tiled;
-        in_range = c.is_read_again.ensures.in_range;
-        in_bytes = c.is_read_again.ensures.in_bytes;
-        some = some;
-        short = c.in_ok-len.ensures.accepted;
-      };
-      accepted = rw (c.items.ensures) at c.in_ok-check_append_writes.ensures.ok;
-    } in
+    let w = writable_of c.is_read_again.ensures.tiled c.is_read_again.ensures.in_range c.is_read_again.ensures.in_bytes some c.in_ok-len.ensures.accepted in
+    let ready : IsReady e.accessor.tables c.args.batch.now = record { writable = w; accepted = rw (c.items.ensures) at c.in_ok-check_append_writes.ensures.ok } in
     let file = c.new-file.ensures ∙ ap (λ (id : FileId). record { id = id; version = e.version }) c.new.ensures in
-    kept_half c.asks_are_stored.ensures.written c.asks_are_stored.ensures.synced
+    kept_unput c.asks_are_stored.ensures.written c.asks_are_stored.ensures.synced
     e.version old e.append e.rewrite e.untold e.accessor e.intact c.self.invariant intact c.args.batch.now ready c.new-file.result file c.finish_populate.new.self c.in_ok-len.ensures.ok
-    (g.F.EngineFiles.asked c.put.new.files) e.append e.rewrite e.untold e.accessor c.in_err-put.ensures.err
+    (g.F.EngineFiles.may_fail) c.args.sync (g.F.EngineFiles.asked c.put.new.files) c.in_err-put.field-0.0 c.in_err-put.ensures.err c.in_err-put.ensures.fault c.asks_are_stored.ensures.unsynced e.append e.rewrite e.untold e.accessor
 
 pub invariant_of-self-in_err-sync_if : goal.invariant_of-self-in_err-sync_if
 invariant_of-self-in_err-sync_if g c =
@@ -59,20 +41,12 @@ invariant_of-self-in_err-sync_if g c =
     let old : List Ask = g.F.EngineFiles.asked e.files in
     let intact : e.intact ≡ true = search rules in
     let some : c.args.batch.now.items ≢ [] = search rules in
-    let ready : IsReady e.accessor.tables c.args.batch.now = record {
-      writable = record {
-        tiled = c.is_read_again.ensures.tiled;
-        in_range = c.is_read_again.ensures.in_range;
-        in_bytes = c.is_read_again.ensures.in_bytes;
-        some = some;
-        short = c.in_ok-len.ensures.accepted;
-      };
-      accepted = rw (c.items.ensures) at c.in_ok-check_append_writes.ensures.ok;
-    } in
+    let w = writable_of c.is_read_again.ensures.tiled c.is_read_again.ensures.in_range c.is_read_again.ensures.in_bytes some c.in_ok-len.ensures.accepted in
+    let ready : IsReady e.accessor.tables c.args.batch.now = record { writable = w; accepted = rw (c.items.ensures) at c.in_ok-check_append_writes.ensures.ok } in
     let file = c.new-file.ensures ∙ ap (λ (id : FileId). record { id = id; version = e.version }) c.new.ensures in
     kept_unsynced c.asks_are_stored.ensures.written c.asks_are_stored.ensures.synced
     e.version old e.append e.rewrite e.untold e.accessor e.intact c.self.invariant intact c.args.batch.now ready c.new-file.result file c.finish_populate.new.self c.in_ok-len.ensures.ok
-    c.asks_are_stored.ensures.unsynced (g.F.EngineFiles.asked c.put.new.files) (g.F.EngineFiles.asked c.sync_if.new.files) e.append e.rewrite e.untold e.accessor c.in_ok-put.ensures.ok c.in_err-sync_if.ensures.err
+    (g.F.EngineFiles.may_fail) c.args.sync (g.F.EngineFiles.asked c.sync_if.new.files) c.in_err-sync_if.field-0.0 (g.F.EngineFiles.asked c.put.new.files) c.in_ok-put.ensures.ok c.in_err-sync_if.ensures.fault c.asks_are_stored.ensures.unsynced e.append e.rewrite e.untold e.accessor
 
 pub invariant_of-self-in_err-apply : goal.invariant_of-self-in_err-apply
 invariant_of-self-in_err-apply g c =
@@ -80,16 +54,8 @@ invariant_of-self-in_err-apply g c =
     let old : List Ask = g.F.EngineFiles.asked e.files in
     let intact : e.intact ≡ true = search rules in
     let some : c.args.batch.now.items ≢ [] = search rules in
-    let ready : IsReady e.accessor.tables c.args.batch.now = record {
-      writable = record {
-        tiled = c.is_read_again.ensures.tiled;
-        in_range = c.is_read_again.ensures.in_range;
-        in_bytes = c.is_read_again.ensures.in_bytes;
-        some = some;
-        short = c.in_ok-len.ensures.accepted;
-      };
-      accepted = rw (c.items.ensures) at c.in_ok-check_append_writes.ensures.ok;
-    } in
+    let w = writable_of c.is_read_again.ensures.tiled c.is_read_again.ensures.in_range c.is_read_again.ensures.in_bytes some c.in_ok-len.ensures.accepted in
+    let ready : IsReady e.accessor.tables c.args.batch.now = record { writable = w; accepted = rw (c.items.ensures) at c.in_ok-check_append_writes.ensures.ok } in
     let file = c.new-file.ensures ∙ ap (λ (id : FileId). record { id = id; version = e.version }) c.new.ensures in
     kept_put c.asks_are_stored.ensures.written c.asks_are_stored.ensures.synced
     e.version old e.append e.rewrite e.untold e.accessor e.intact c.self.invariant intact c.args.batch.now ready c.new-file.result file c.finish_populate.new.self c.in_ok-len.ensures.ok
@@ -102,16 +68,8 @@ invariant_of-self-in_err-merge g c =
     let old : List Ask = g.F.EngineFiles.asked e.files in
     let intact : e.intact ≡ true = search rules in
     let some : c.args.batch.now.items ≢ [] = search rules in
-    let ready : IsReady e.accessor.tables c.args.batch.now = record {
-      writable = record {
-        tiled = c.is_read_again.ensures.tiled;
-        in_range = c.is_read_again.ensures.in_range;
-        in_bytes = c.is_read_again.ensures.in_bytes;
-        some = some;
-        short = c.in_ok-len.ensures.accepted;
-      };
-      accepted = rw (c.items.ensures) at c.in_ok-check_append_writes.ensures.ok;
-    } in
+    let w = writable_of c.is_read_again.ensures.tiled c.is_read_again.ensures.in_range c.is_read_again.ensures.in_bytes some c.in_ok-len.ensures.accepted in
+    let ready : IsReady e.accessor.tables c.args.batch.now = record { writable = w; accepted = rw (c.items.ensures) at c.in_ok-check_append_writes.ensures.ok } in
     let file = c.new-file.ensures ∙ ap (λ (id : FileId). record { id = id; version = e.version }) c.new.ensures in
     kept_put c.asks_are_stored.ensures.written c.asks_are_stored.ensures.synced
     e.version old e.append e.rewrite e.untold e.accessor e.intact c.self.invariant intact c.args.batch.now ready c.new-file.result file c.finish_populate.new.self c.in_ok-len.ensures.ok
@@ -124,16 +82,8 @@ invariant_of-self-2 g c =
     let old : List Ask = g.F.EngineFiles.asked e.files in
     let intact : e.intact ≡ true = search rules in
     let some : c.args.batch.now.items ≢ [] = search rules in
-    let ready : IsReady e.accessor.tables c.args.batch.now = record {
-      writable = record {
-        tiled = c.is_read_again.ensures.tiled;
-        in_range = c.is_read_again.ensures.in_range;
-        in_bytes = c.is_read_again.ensures.in_bytes;
-        some = some;
-        short = c.in_ok-len.ensures.accepted;
-      };
-      accepted = rw (c.items.ensures) at c.in_ok-check_append_writes.ensures.ok;
-    } in
+    let w = writable_of c.is_read_again.ensures.tiled c.is_read_again.ensures.in_range c.is_read_again.ensures.in_bytes some c.in_ok-len.ensures.accepted in
+    let ready : IsReady e.accessor.tables c.args.batch.now = record { writable = w; accepted = rw (c.items.ensures) at c.in_ok-check_append_writes.ensures.ok } in
     let file = c.new-file.ensures ∙ ap (λ (id : FileId). record { id = id; version = e.version }) c.new.ensures in
     kept_more c.asks_are_stored.ensures.written c.asks_are_stored.ensures.synced
     e.version old e.append e.rewrite e.untold e.accessor e.intact c.self.invariant intact c.args.batch.now ready c.new-file.result file c.finish_populate.new.self c.in_ok-len.ensures.ok
@@ -148,16 +98,8 @@ returns-clause-ok g c =
     let old : List Ask = g.F.EngineFiles.asked e.files in
     let intact : e.intact ≡ true = search rules in
     let some : c.args.batch.now.items ≢ [] = search rules in
-    let ready : IsReady e.accessor.tables c.args.batch.now = record {
-      writable = record {
-        tiled = c.is_read_again.ensures.tiled;
-        in_range = c.is_read_again.ensures.in_range;
-        in_bytes = c.is_read_again.ensures.in_bytes;
-        some = some;
-        short = c.in_ok-len.ensures.accepted;
-      };
-      accepted = rw (c.items.ensures) at c.in_ok-check_append_writes.ensures.ok;
-    } in
+    let w = writable_of c.is_read_again.ensures.tiled c.is_read_again.ensures.in_range c.is_read_again.ensures.in_bytes some c.in_ok-len.ensures.accepted in
+    let ready : IsReady e.accessor.tables c.args.batch.now = record { writable = w; accepted = rw (c.items.ensures) at c.in_ok-check_append_writes.ensures.ok } in
     let file = c.new-file.ensures ∙ ap (λ (id : FileId). record { id = id; version = e.version }) c.new.ensures in
     inr (subst (λ (o : KeptEngine). IsOneMore c.args.sync c.args.batch.now o
     (record {
@@ -184,25 +126,17 @@ returns-in_err-put-clause-err g c =
     let old : List Ask = g.F.EngineFiles.asked e.files in
     let intact : e.intact ≡ true = search rules in
     let some : c.args.batch.now.items ≢ [] = search rules in
-    let ready : IsReady e.accessor.tables c.args.batch.now = record {
-      writable = record {
-        tiled = c.is_read_again.ensures.tiled;
-        in_range = c.is_read_again.ensures.in_range;
-        in_bytes = c.is_read_again.ensures.in_bytes;
-        some = some;
-        short = c.in_ok-len.ensures.accepted;
-      };
-      accepted = rw (c.items.ensures) at c.in_ok-check_append_writes.ensures.ok;
-    } in
+    let w = writable_of c.is_read_again.ensures.tiled c.is_read_again.ensures.in_range c.is_read_again.ensures.in_bytes some c.in_ok-len.ensures.accepted in
+    let ready : IsReady e.accessor.tables c.args.batch.now = record { writable = w; accepted = rw (c.items.ensures) at c.in_ok-check_append_writes.ensures.ok } in
     let file = c.new-file.ensures ∙ ap (λ (id : FileId). record { id = id; version = e.version }) c.new.ensures in
     let p = err_from_is_err_and c.from_residual-in_err-put.result c.from_residual-in_err-put.ensures.1 in
     rw (p.1, p.2)
-    (inr (subst (λ (o : KeptEngine). IsHalfWritten c.args.sync c.args.batch.now o
-    (record { version = e.version; asks = g.F.EngineFiles.asked c.put.new.files; untold = e.untold; accessor = e.accessor; intact = false })
-    c.in_err-put.field-0.0) c.self.view_is
-    (half_written c.asks_are_stored.ensures.written c.asks_are_stored.ensures.synced
+    (inr (subst (λ (o : KeptEngine). IsHalfWritten (g.F.EngineFiles.may_fail) c.args.sync c.args.batch.now o
+    (record { version = e.version; asks = g.F.EngineFiles.asked c.put.new.files; untold = e.untold; accessor = e.accessor; intact = false }) c.in_err-put.field-0.0) c.self.view_is
+    (unput_written c.asks_are_stored.ensures.written c.asks_are_stored.ensures.synced
     e.version old e.append e.rewrite e.untold e.accessor e.intact c.self.invariant intact c.args.batch.now ready c.new-file.result file c.finish_populate.new.self c.in_ok-len.ensures.ok
-    c.args.sync (g.F.EngineFiles.asked c.put.new.files) e.untold e.accessor c.in_err-put.field-0.0 c.in_err-put.ensures.err refl)))
+    (g.F.EngineFiles.may_fail) c.args.sync (g.F.EngineFiles.asked c.put.new.files) c.in_err-put.field-0.0
+    c.in_err-put.ensures.err c.in_err-put.ensures.fault)))
 
 pub returns-in_err-sync_if-clause-err : goal.returns-in_err-sync_if-clause-err
 returns-in_err-sync_if-clause-err g c =
@@ -210,25 +144,17 @@ returns-in_err-sync_if-clause-err g c =
     let old : List Ask = g.F.EngineFiles.asked e.files in
     let intact : e.intact ≡ true = search rules in
     let some : c.args.batch.now.items ≢ [] = search rules in
-    let ready : IsReady e.accessor.tables c.args.batch.now = record {
-      writable = record {
-        tiled = c.is_read_again.ensures.tiled;
-        in_range = c.is_read_again.ensures.in_range;
-        in_bytes = c.is_read_again.ensures.in_bytes;
-        some = some;
-        short = c.in_ok-len.ensures.accepted;
-      };
-      accepted = rw (c.items.ensures) at c.in_ok-check_append_writes.ensures.ok;
-    } in
+    let w = writable_of c.is_read_again.ensures.tiled c.is_read_again.ensures.in_range c.is_read_again.ensures.in_bytes some c.in_ok-len.ensures.accepted in
+    let ready : IsReady e.accessor.tables c.args.batch.now = record { writable = w; accepted = rw (c.items.ensures) at c.in_ok-check_append_writes.ensures.ok } in
     let file = c.new-file.ensures ∙ ap (λ (id : FileId). record { id = id; version = e.version }) c.new.ensures in
     let p = err_from_is_err_and c.from_residual-in_err-sync_if.result c.from_residual-in_err-sync_if.ensures.1 in
     rw (p.1, p.2)
-    (inr (subst (λ (o : KeptEngine). IsHalfWritten c.args.sync c.args.batch.now o
-    (record { version = e.version; asks = g.F.EngineFiles.asked c.sync_if.new.files; untold = e.untold; accessor = e.accessor; intact = false })
-    c.in_err-sync_if.field-0.0) c.self.view_is
+    (inr (subst (λ (o : KeptEngine). IsHalfWritten (g.F.EngineFiles.may_fail) c.args.sync c.args.batch.now o
+    (record { version = e.version; asks = g.F.EngineFiles.asked c.sync_if.new.files; untold = e.untold; accessor = e.accessor; intact = false }) c.in_err-sync_if.field-0.0) c.self.view_is
     (unsynced_written c.asks_are_stored.ensures.written c.asks_are_stored.ensures.synced
     e.version old e.append e.rewrite e.untold e.accessor e.intact c.self.invariant intact c.args.batch.now ready c.new-file.result file c.finish_populate.new.self c.in_ok-len.ensures.ok
-    c.args.sync (g.F.EngineFiles.asked c.sync_if.new.files) e.untold e.accessor c.in_err-sync_if.field-0.0 (g.F.EngineFiles.asked c.put.new.files) c.in_ok-put.ensures.ok c.in_err-sync_if.ensures.wanted c.in_err-sync_if.ensures.err refl)))
+    (g.F.EngineFiles.may_fail) c.args.sync (g.F.EngineFiles.asked c.sync_if.new.files) c.in_err-sync_if.field-0.0
+    (g.F.EngineFiles.asked c.put.new.files) c.in_ok-put.ensures.ok c.in_err-sync_if.ensures.fault)))
 
 pub returns-in_err-apply-clause-err : goal.returns-in_err-apply-clause-err
 returns-in_err-apply-clause-err g c =
@@ -236,31 +162,18 @@ returns-in_err-apply-clause-err g c =
     let old : List Ask = g.F.EngineFiles.asked e.files in
     let intact : e.intact ≡ true = search rules in
     let some : c.args.batch.now.items ≢ [] = search rules in
-    let ready : IsReady e.accessor.tables c.args.batch.now = record {
-      writable = record {
-        tiled = c.is_read_again.ensures.tiled;
-        in_range = c.is_read_again.ensures.in_range;
-        in_bytes = c.is_read_again.ensures.in_bytes;
-        some = some;
-        short = c.in_ok-len.ensures.accepted;
-      };
-      accepted = rw (c.items.ensures) at c.in_ok-check_append_writes.ensures.ok;
-    } in
+    let w = writable_of c.is_read_again.ensures.tiled c.is_read_again.ensures.in_range c.is_read_again.ensures.in_bytes some c.in_ok-len.ensures.accepted in
+    let ready : IsReady e.accessor.tables c.args.batch.now = record { writable = w; accepted = rw (c.items.ensures) at c.in_ok-check_append_writes.ensures.ok } in
     let file = c.new-file.ensures ∙ ap (λ (id : FileId). record { id = id; version = e.version }) c.new.ensures in
     let p = err_from_is_err_and c.from_residual-in_err-apply.result c.from_residual-in_err-apply.ensures.1 in
     rw (p.1, p.2)
-    (inr (subst (λ (o : KeptEngine). IsHalfWritten c.args.sync c.args.batch.now o
-    (record {
-      version = e.version;
-      asks = g.F.EngineFiles.asked c.sync_if.new.files;
-      untold = e.untold;
-      accessor = c.apply.new.accessor;
-      intact = false;
-    }) c.in_err-apply.field-0.0) c.self.view_is
-    (whole_asked c.asks_are_stored.ensures.written c.asks_are_stored.ensures.synced
+    (inr (subst (λ (o : KeptEngine). IsHalfWritten (g.F.EngineFiles.may_fail) c.args.sync c.args.batch.now o
+    (record { version = e.version; asks = g.F.EngineFiles.asked c.sync_if.new.files; untold = e.untold; accessor = c.apply.new.accessor; intact = false }) c.in_err-apply.field-0.0) c.self.view_is
+    (cut_written c.asks_are_stored.ensures.written c.asks_are_stored.ensures.synced
     e.version old e.append e.rewrite e.untold e.accessor e.intact c.self.invariant intact c.args.batch.now ready c.new-file.result file c.finish_populate.new.self c.in_ok-len.ensures.ok
-    c.args.sync (g.F.EngineFiles.asked c.sync_if.new.files) e.untold c.apply.new.accessor c.in_err-apply.field-0.0 (c.in_ok-sync_if.ensures.ok ∙ ap (synced_if c.args.sync) c.in_ok-put.ensures.ok)
-    c.put.new.batch.items c.in_ok-put.ensures.placed (inl (
+    (g.F.EngineFiles.may_fail) c.args.sync (g.F.EngineFiles.asked c.sync_if.new.files) c.in_err-apply.field-0.0
+    (g.F.EngineFiles.asked c.put.new.files) c.in_ok-put.ensures.ok e.untold c.apply.new.accessor c.put.new.batch.items c.in_ok-sync_if.ensures.ok refl c.in_ok-put.ensures.placed
+    (inl (
       c.in_err-apply.ensures.room
           (placed_accepted c.asks_are_stored.ensures.written c.asks_are_stored.ensures.synced
           e.version old e.append e.rewrite e.untold e.accessor e.intact c.self.invariant intact c.args.batch.now ready c.new-file.result file c.finish_populate.new.self c.in_ok-len.ensures.ok
@@ -274,31 +187,17 @@ returns-in_err-merge-clause-err g c =
     let old : List Ask = g.F.EngineFiles.asked e.files in
     let intact : e.intact ≡ true = search rules in
     let some : c.args.batch.now.items ≢ [] = search rules in
-    let ready : IsReady e.accessor.tables c.args.batch.now = record {
-      writable = record {
-        tiled = c.is_read_again.ensures.tiled;
-        in_range = c.is_read_again.ensures.in_range;
-        in_bytes = c.is_read_again.ensures.in_bytes;
-        some = some;
-        short = c.in_ok-len.ensures.accepted;
-      };
-      accepted = rw (c.items.ensures) at c.in_ok-check_append_writes.ensures.ok;
-    } in
+    let w = writable_of c.is_read_again.ensures.tiled c.is_read_again.ensures.in_range c.is_read_again.ensures.in_bytes some c.in_ok-len.ensures.accepted in
+    let ready : IsReady e.accessor.tables c.args.batch.now = record { writable = w; accepted = rw (c.items.ensures) at c.in_ok-check_append_writes.ensures.ok } in
     let file = c.new-file.ensures ∙ ap (λ (id : FileId). record { id = id; version = e.version }) c.new.ensures in
     let p = err_from_is_err_and c.from_residual-in_err-merge.result c.from_residual-in_err-merge.ensures.1 in
     rw (p.1, p.2)
-    (inr (subst (λ (o : KeptEngine). IsHalfWritten c.args.sync c.args.batch.now o
-    (record {
-      version = e.version;
-      asks = g.F.EngineFiles.asked c.sync_if.new.files;
-      untold = c.merge.new.self;
-      accessor = c.apply.new.accessor;
-      intact = false;
-    }) c.in_err-merge.field-0.0) c.self.view_is
-    (whole_asked c.asks_are_stored.ensures.written c.asks_are_stored.ensures.synced
+    (inr (subst (λ (o : KeptEngine). IsHalfWritten (g.F.EngineFiles.may_fail) c.args.sync c.args.batch.now o
+    (record { version = e.version; asks = g.F.EngineFiles.asked c.sync_if.new.files; untold = c.merge.new.self; accessor = c.apply.new.accessor; intact = false }) c.in_err-merge.field-0.0) c.self.view_is
+    (cut_written c.asks_are_stored.ensures.written c.asks_are_stored.ensures.synced
     e.version old e.append e.rewrite e.untold e.accessor e.intact c.self.invariant intact c.args.batch.now ready c.new-file.result file c.finish_populate.new.self c.in_ok-len.ensures.ok
-    c.args.sync (g.F.EngineFiles.asked c.sync_if.new.files) c.merge.new.self c.apply.new.accessor c.in_err-merge.field-0.0 (c.in_ok-sync_if.ensures.ok ∙ ap (synced_if c.args.sync) c.in_ok-put.ensures.ok)
-    c.put.new.batch.items c.in_ok-put.ensures.placed
+    (g.F.EngineFiles.may_fail) c.args.sync (g.F.EngineFiles.asked c.sync_if.new.files) c.in_err-merge.field-0.0
+    (g.F.EngineFiles.asked c.put.new.files) c.in_ok-put.ensures.ok c.merge.new.self c.apply.new.accessor c.put.new.batch.items c.in_ok-sync_if.ensures.ok c.in_err-merge.ensures.err c.in_ok-put.ensures.placed
     (inr (
       merge_memory e.untold c.in_ok-taken.taken _ _ c.in_err-merge.field-0.0 (c.self.invariant.whole intact).are_untold c.in_ok-taken.ensures.ok c.in_err-merge.ensures.fault,
       c.in_ok-apply.ensures.ok,
@@ -329,147 +228,3 @@ returns-then-self-gt-LAST_OFFSET-clause-err g c =
       subst (λ (o : KeptEngine). IsRefusal o c.args.batch.now errors.Full) c.self.view_is
           (file_refusal e.version (g.F.EngineFiles.asked e.files) e.append e.rewrite e.untold e.accessor e.intact c.args.batch.now c.self.invariant intact many),
     )
-
-pub returns-then-is_empty-clause-fault : goal.returns-then-is_empty-clause-fault
-returns-then-is_empty-clause-fault g c =
-    let e = c.self.inside in
-    let none : c.args.batch.now.items ≡ [] = search rules in
-    let intact : e.intact ≡ true = search rules in
-    let kept = c.self.invariant in
-    let last = subst (λ (o : KeptEngine). IsLastFile Append o.asks e.append.seq (kept.whole intact).append_files.bytes) c.self.view_is
-    (last_append e.version (g.F.EngineFiles.asked e.files) e.append e.rewrite e.untold e.accessor e.intact kept intact) in
-    let was : c.args.self.now.intact ≡ true = search rules in
-    writing_of_none (g.F.EngineFiles.may_fail) c.sync_if_wanted.result c.args.sync c.args.batch.now c.args.self.now c.sync_if_wanted.new.self
-    e.append.seq (kept.whole intact).append_files.bytes last was none c.sync_if_wanted.ensures.err c.sync_if_wanted.ensures.fault
-
-pub returns-in_err-put-clause-fault : goal.returns-in_err-put-clause-fault
-returns-in_err-put-clause-fault g c =
-    let e = c.self.inside in
-    let old : List Ask = g.F.EngineFiles.asked e.files in
-    let intact : e.intact ≡ true = search rules in
-    let some : c.args.batch.now.items ≢ [] = search rules in
-    let its : LogFileContext = record { id = record { queue = Append; seq = e.append.seq }; version = e.version } in
-    let file : c.new-file.result ≡ its = c.new-file.ensures ∙ ap (λ (id : FileId). record { id = id; version = e.version }) c.new.ensures in
-    let new : List Ask = g.F.EngineFiles.asked c.put.new.files in
-    let p = err_from_is_err_and c.from_residual-in_err-put.result c.from_residual-in_err-put.ensures.1 in
-    rw (p.1, p.2)
-    (λ broken. subst (λ (o : KeptEngine). IsWritingFault (g.F.EngineFiles.may_fail) c.args.sync c.args.batch.now o
-    (record { version = e.version; asks = new; untold = e.untold; accessor = e.accessor; intact = false }) c.in_err-put.field-0.0) c.self.view_is
-    (record {
-      seq = e.append.seq;
-      bytes = (c.self.invariant.whole intact).append_files.bytes;
-      last = last_append e.version old e.append e.rewrite e.untold e.accessor e.intact c.self.invariant intact;
-      why = inl (writing_put (g.F.EngineFiles.may_fail) c.new-file.result its c.finish_populate.new.self c.args.batch.now c.args.sync old new
-          c.in_err-put.field-0.0 file c.in_ok-len.ensures.ok some c.in_err-put.ensures.err c.in_err-put.ensures.fault);
-    }))
-
-pub returns-in_err-sync_if-clause-fault : goal.returns-in_err-sync_if-clause-fault
-returns-in_err-sync_if-clause-fault g c =
-    let e = c.self.inside in
-    let old : List Ask = g.F.EngineFiles.asked e.files in
-    let intact : e.intact ≡ true = search rules in
-    let some : c.args.batch.now.items ≢ [] = search rules in
-    let its : LogFileContext = record { id = record { queue = Append; seq = e.append.seq }; version = e.version } in
-    let file : c.new-file.result ≡ its = c.new-file.ensures ∙ ap (λ (id : FileId). record { id = id; version = e.version }) c.new.ensures in
-    let new : List Ask = g.F.EngineFiles.asked c.sync_if.new.files in
-    let p = err_from_is_err_and c.from_residual-in_err-sync_if.result c.from_residual-in_err-sync_if.ensures.1 in
-    rw (p.1, p.2)
-    (λ broken. subst (λ (o : KeptEngine). IsWritingFault (g.F.EngineFiles.may_fail) c.args.sync c.args.batch.now o
-    (record { version = e.version; asks = new; untold = e.untold; accessor = e.accessor; intact = false }) c.in_err-sync_if.field-0.0)
-    c.self.view_is
-    (record {
-      seq = e.append.seq;
-      bytes = (c.self.invariant.whole intact).append_files.bytes;
-      last = last_append e.version old e.append e.rewrite e.untold e.accessor e.intact c.self.invariant intact;
-      why = inl (writing_sync (g.F.EngineFiles.may_fail) c.new-file.result its c.finish_populate.new.self c.args.batch.now c.args.sync old
-          (g.F.EngineFiles.asked c.put.new.files) new c.in_err-sync_if.field-0.0 file c.in_ok-len.ensures.ok some c.in_ok-put.ensures.ok
-          c.in_err-sync_if.ensures.fault);
-    }))
-
-pub returns-in_err-apply-clause-fault : goal.returns-in_err-apply-clause-fault
-returns-in_err-apply-clause-fault g c =
-    let e = c.self.inside in
-    let old : List Ask = g.F.EngineFiles.asked e.files in
-    let intact : e.intact ≡ true = search rules in
-    let some : c.args.batch.now.items ≢ [] = search rules in
-    let its : LogFileContext = record { id = record { queue = Append; seq = e.append.seq }; version = e.version } in
-    let file : c.new-file.result ≡ its = c.new-file.ensures ∙ ap (λ (id : FileId). record { id = id; version = e.version }) c.new.ensures in
-    let ready : IsReady e.accessor.tables c.args.batch.now = record {
-      writable = record {
-        tiled = c.is_read_again.ensures.tiled;
-        in_range = c.is_read_again.ensures.in_range;
-        in_bytes = c.is_read_again.ensures.in_bytes;
-        some = some;
-        short = c.in_ok-len.ensures.accepted;
-      };
-      accepted = rw (c.items.ensures) at c.in_ok-check_append_writes.ensures.ok;
-    } in
-    let new : List Ask = g.F.EngineFiles.asked c.sync_if.new.files in
-    let p = err_from_is_err_and c.from_residual-in_err-apply.result c.from_residual-in_err-apply.ensures.1 in
-    rw (p.1, p.2)
-    (λ broken. subst (λ (o : KeptEngine). IsWritingFault (g.F.EngineFiles.may_fail) c.args.sync c.args.batch.now o
-    (record { version = e.version; asks = new; untold = e.untold; accessor = c.apply.new.accessor; intact = false }) c.in_err-apply.field-0.0)
-    c.self.view_is
-    (record {
-      seq = e.append.seq;
-      bytes = (c.self.invariant.whole intact).append_files.bytes;
-      last = last_append e.version old e.append e.rewrite e.untold e.accessor e.intact c.self.invariant intact;
-      why = inr (
-        some,
-        writing_whole c.new-file.result its c.finish_populate.new.self c.args.batch.now c.args.sync old (g.F.EngineFiles.asked c.put.new.files) new file c.in_ok-len.ensures.ok some c.in_ok-put.ensures.ok c.in_ok-sync_if.ensures.ok,
-        placed_cut c.asks_are_stored.ensures.written c.asks_are_stored.ensures.synced
-            e.version old e.append e.rewrite e.untold e.accessor e.intact c.self.invariant intact c.args.batch.now ready c.new-file.result file c.finish_populate.new.self c.in_ok-len.ensures.ok
-            c.put.new.batch.items (record { version = e.version; asks = new; untold = e.untold; accessor = c.apply.new.accessor; intact = false })
-            c.in_err-apply.field-0.0 c.in_ok-put.ensures.placed (inl (
-              c.in_err-apply.ensures.room
-                  (placed_accepted c.asks_are_stored.ensures.written c.asks_are_stored.ensures.synced
-                  e.version old e.append e.rewrite e.untold e.accessor e.intact c.self.invariant intact c.args.batch.now ready c.new-file.result file c.finish_populate.new.self c.in_ok-len.ensures.ok
-                  c.put.new.batch.items c.in_ok-put.ensures.placed),
-              c.in_err-apply.ensures.fault,
-            )),
-      );
-    }))
-
-pub returns-in_err-merge-clause-fault : goal.returns-in_err-merge-clause-fault
-returns-in_err-merge-clause-fault g c =
-    let e = c.self.inside in
-    let old : List Ask = g.F.EngineFiles.asked e.files in
-    let intact : e.intact ≡ true = search rules in
-    let some : c.args.batch.now.items ≢ [] = search rules in
-    let its : LogFileContext = record { id = record { queue = Append; seq = e.append.seq }; version = e.version } in
-    let file : c.new-file.result ≡ its = c.new-file.ensures ∙ ap (λ (id : FileId). record { id = id; version = e.version }) c.new.ensures in
-    let ready : IsReady e.accessor.tables c.args.batch.now = record {
-      writable = record {
-        tiled = c.is_read_again.ensures.tiled;
-        in_range = c.is_read_again.ensures.in_range;
-        in_bytes = c.is_read_again.ensures.in_bytes;
-        some = some;
-        short = c.in_ok-len.ensures.accepted;
-      };
-      accepted = rw (c.items.ensures) at c.in_ok-check_append_writes.ensures.ok;
-    } in
-    let new : List Ask = g.F.EngineFiles.asked c.sync_if.new.files in
-    let p = err_from_is_err_and c.from_residual-in_err-merge.result c.from_residual-in_err-merge.ensures.1 in
-    rw (p.1, p.2)
-    (λ broken. subst (λ (o : KeptEngine). IsWritingFault (g.F.EngineFiles.may_fail) c.args.sync c.args.batch.now o
-    (record { version = e.version; asks = new; untold = c.merge.new.self; accessor = c.apply.new.accessor; intact = false })
-    c.in_err-merge.field-0.0) c.self.view_is
-    (record {
-      seq = e.append.seq;
-      bytes = (c.self.invariant.whole intact).append_files.bytes;
-      last = last_append e.version old e.append e.rewrite e.untold e.accessor e.intact c.self.invariant intact;
-      why = inr (
-        some,
-        writing_whole c.new-file.result its c.finish_populate.new.self c.args.batch.now c.args.sync old
-            (g.F.EngineFiles.asked c.put.new.files) new file c.in_ok-len.ensures.ok some c.in_ok-put.ensures.ok c.in_ok-sync_if.ensures.ok,
-        placed_cut c.asks_are_stored.ensures.written c.asks_are_stored.ensures.synced
-            e.version old e.append e.rewrite e.untold e.accessor e.intact c.self.invariant intact c.args.batch.now ready c.new-file.result file c.finish_populate.new.self c.in_ok-len.ensures.ok
-            c.put.new.batch.items (record { version = e.version; asks = new; untold = c.merge.new.self; accessor = c.apply.new.accessor; intact = false })
-            c.in_err-merge.field-0.0 c.in_ok-put.ensures.placed
-            (inr (
-              merge_memory e.untold c.in_ok-taken.taken _ _ c.in_err-merge.field-0.0 (c.self.invariant.whole intact).are_untold c.in_ok-taken.ensures.ok c.in_err-merge.ensures.fault,
-              c.in_ok-apply.ensures.ok,
-              (merge_unnoted c.in_ok-taken.taken _ (rw (c.items-2.ensures) at c.in_ok-taken.ensures.ok) c.in_err-merge.ensures.refused, c.in_err-merge.ensures.err),
-            )),
-      );
-    }))

@@ -1,6 +1,4 @@
-use Rattle.std.proofs.lemmas.Result.{err_from_is_err_and}
-use Rattle.std.proofs.Common.{None}
-use Rattle.raft_accessor.specs.Writes.{Rewriting}
+use Rattle.raft_engine.proofs.Common.{err_from_is_err_and, None, Rewriting}
 use Rattle.raft_engine.proofs.GroupPutLemmas.{group_refused, one_written}
 use Rattle.raft_engine.proofs.engine.groups.rewrite_all.Goals as goal
 

@@ -1,5 +1,4 @@
-use Rattle.std.proofs.Common.{None}
-use Rattle.raft_accessor.specs.Writes.{Rewriting}
+use Rattle.raft_engine.proofs.Common.{None, Rewriting}
 use Rattle.raft_engine.proofs.GroupPutLemmas.{AreWrittenSoFar}
 use Rattle.raft_engine.proofs.engine.groups.rewrite_all.Given as goal
 

@@ -1,6 +1,6 @@
-use Rattle.raft_accessor.specs.Writes.{Rewriting}
+use Rattle.raft_engine.proofs.Common.{Rewriting}
 use Rattle.raft_engine.proofs.DrainLemmas.{apply_so, next_refused}
-use Rattle.raft_engine.proofs.MovingFaultLemmas.{drain_room}
+use Rattle.raft_engine.proofs.UntakenLemmas.{drain_room}
 use Rattle.raft_engine.proofs.engine.rewrite.rewrite_items.Goals as goal
 
 pub returns-clause-ok : goal.returns-clause-ok

@@ -1,7 +1,4 @@
-use Rattle.std.proofs.Common.{sym, subst}
-use Rattle.std.proofs.lemmas.Result.{IfOk-weaker}
-use Rattle.raft_base.specs.declared.pipe_log.LogQueue.TheVariants.{Append}
-use Rattle.raft_recover.specs.Files.{AreWholeFiles}
+use Rattle.raft_engine.proofs.Common.{sym, subst, IfOk-weaker, Append, AreWholeFiles}
 use Rattle.raft_engine.proofs.DamagedLemmas.{damaged_of_last, none_damaged}
 use Rattle.raft_engine.proofs.FoundQueueLemmas.{torn_as}
 use Rattle.raft_engine.proofs.found_queue.FoundQueue.damaged.Goals as goal

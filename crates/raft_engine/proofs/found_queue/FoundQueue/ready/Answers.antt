@@ -1,6 +1,4 @@
-use Rattle.std.proofs.lemmas.Result.{err_from_is_err_and}
-use Rattle.std.proofs.Common.{sym, subst}
-use Rattle.raft_recover.specs.Files.{AreWholeFiles}
+use Rattle.raft_engine.proofs.Common.{err_from_is_err_and, sym, subst, AreWholeFiles}
 use Rattle.raft_engine.proofs.FoundQueueLemmas.{is_ready}
 use Rattle.raft_engine.proofs.found_queue.FoundQueue.ready.Goals as goal
 

@@ -1,6 +1,4 @@
-use Rattle.std.proofs.Common.{sym, subst}
-use Rattle.std.proofs.lemmas.Result.{IfOk-weaker}
-use Rattle.raft_recover.specs.Files.{AreWholeFiles}
+use Rattle.raft_engine.proofs.Common.{sym, subst, IfOk-weaker, AreWholeFiles}
 use Rattle.raft_engine.proofs.FoundQueueLemmas.{none_told, tail_told}
 use Rattle.raft_engine.proofs.found_queue.FoundQueue.tail.Goals as goal
 

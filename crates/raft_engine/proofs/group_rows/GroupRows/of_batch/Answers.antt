@@ -1,4 +1,4 @@
-use Rattle.std.proofs.Common.{refl}
+use Rattle.raft_engine.proofs.Common.{refl}
 use Rattle.raft_engine.proofs.GroupRowLemmas.{of_one}
 use Rattle.raft_engine.proofs.group_rows.GroupRows.of_batch.Goals as goal
 

@@ -1,5 +1,4 @@
-use Rattle.raft_engine_laws.proofs.RowJoins.{joined_summary}
-use Rattle.raft_engine.specs.RowsShown.{rows_shown}
+use Rattle.raft_engine.proofs.Common.{joined_summary, rows_shown}
 use Rattle.raft_engine.proofs.group_rows.GroupRowsReplayMachine.merge.Goals as goal
 
 pub returns-clause-stands : goal.returns-clause-stands

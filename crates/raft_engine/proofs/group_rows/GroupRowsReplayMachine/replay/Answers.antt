@@ -1,7 +1,4 @@
-use Rattle.std.proofs.Common.{List, map, refl, sym, ap, ◌∙◌}
-use Rattle.raft_records.specs.Item.{item_of}
-use Rattle.raft_history.specs.Batches.{marker_in}
-use Rattle.raft_history.specs.ReplayMachine.{event}
+use Rattle.raft_engine.proofs.Common.{List, map, refl, sym, ap, ◌∙◌, item_of, marker_in, event}
 use Rattle.raft_engine.proofs.GroupRowLemmas.{one_more}
 use Rattle.raft_engine.proofs.group_rows.GroupRowsReplayMachine.replay.Goals as goal
 

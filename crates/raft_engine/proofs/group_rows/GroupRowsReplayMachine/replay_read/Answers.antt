@@ -1,5 +1,4 @@
-use Rattle.std.proofs.Common.{refl}
-use Rattle.raft_history.specs.ReplayMachine.{event}
+use Rattle.raft_engine.proofs.Common.{refl, event}
 use Rattle.raft_engine.proofs.GroupRowLemmas.{one_more}
 use Rattle.raft_engine.proofs.group_rows.GroupRowsReplayMachine.replay_read.Goals as goal
 

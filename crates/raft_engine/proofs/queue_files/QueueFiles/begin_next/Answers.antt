@@ -1,4 +1,4 @@
-use Rattle.std.proofs.lemmas.Result.{err_from_is_err_and}
+use Rattle.raft_engine.proofs.Common.{err_from_is_err_and}
 use Rattle.raft_engine.proofs.FaultLemmas.{first_of_two, second_of_two}
 use Rattle.raft_engine.proofs.queue_files.QueueFiles.begin_next.Goals as goal
 

@@ -1,7 +1,4 @@
-use Rattle.std.proofs.Common.{◌∷◌, [], map, ap, ◌∙◌, sym}
-use Rattle.std.proofs.lemmas.List.{map-append, take_all}
-use Rattle.raft_files.specs.HeldFiles.{file_shown}
-use Rattle.raft_engine_prefixes.specs.Done.{numbers}
+use Rattle.raft_engine.proofs.Common.{◌∷◌, [], map, ap, ◌∙◌, sym, map-append, take_all, file_shown, numbers}
 use Rattle.raft_engine.proofs.queue_files.QueueFiles.of.Goals as goal
 
 pub returns-clause-ok : goal.returns-clause-ok

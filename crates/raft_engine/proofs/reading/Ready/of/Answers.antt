@@ -1,6 +1,4 @@
-use Rattle.std.proofs.lemmas.Result.{err_from_is_err_and}
-use Rattle.std.proofs.Common.{inl, inr}
-use Rattle.raft_base.specs.declared.pipe_log.LogQueue.TheVariants.{Append, Rewrite}
+use Rattle.raft_engine.proofs.Common.{err_from_is_err_and, inl, inr, Append, Rewrite}
 use Rattle.raft_engine.proofs.reading.Ready.of.Goals as goal
 
 pub ready-requires : goal.ready-requires

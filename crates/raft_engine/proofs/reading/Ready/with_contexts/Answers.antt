@@ -1,9 +1,4 @@
-use Rattle.std.proofs.lemmas.Result.{err_from_is_err_and}
-use Rattle.std.proofs.Common.{◌≡◌, ℕ, ◌<◌, ◌^◌, ap, sym, subst, ◌∙◌}
-use Rattle.raft_records.specs.LogBatch.{Batch, encoded_length}
-use Rattle.raft_contexts.specs.declared.context_stage.ContextStage.{ContextStage}
-use Rattle.raft_contexts.specs.declared.context_stage.ContextStage.TheVariants.{Failed, Overlaid}
-use Rattle.raft_engine.specs.FoundQueues.{left_by}
+use Rattle.raft_engine.proofs.Common.{err_from_is_err_and, ◌≡◌, ℕ, ◌<◌, ◌^◌, ap, sym, subst, ◌∙◌, Batch, encoded_length, ContextStage, Failed, Overlaid, left_by}
 use Rattle.raft_engine.proofs.RecoveredLemmas.{both_exactly, merge_memory, read_on, recovered_by}
 use Rattle.raft_engine.proofs.reading.Ready.with_contexts.Goals as goal
 

@@ -1,8 +1,4 @@
-use Rattle.std.proofs.lemmas.Result.{err_from_is_err_and}
-use Rattle.std.proofs.Common.{inl, inr, sym, subst}
-use Rattle.raft_base.specs.declared.pipe_log.LogQueue.TheVariants.{Append, Rewrite}
-use Rattle.raft_recover.specs.Files.{AreWholeFiles}
-use Rattle.raft_engine.specs.ReadFound.{IsNoRefusal}
+use Rattle.raft_engine.proofs.Common.{err_from_is_err_and, inl, inr, sym, subst, Append, Rewrite, AreWholeFiles, IsNoRefusal}
 use Rattle.raft_engine.proofs.RecoveredLemmas.{many_files, reading_refused, segments_of}
 use Rattle.raft_engine.proofs.reading.ReadySegments.of.Goals as goal
 

@@ -1,32 +1,28 @@
-use Rattle.raft_ffi.proofs.Common.{List, ◌++◌, ◌≢◌, Result, Ok, Err, IfErr, OnOk, Error, Event, ReaderSeen, AreReadersUnsound, ReadersStand, ReadersStandExactly}
-use Rattle.raft_base.specs.declared.errors.Error.TheVariants as errors
+use Rattle.raft_ffi.proofs.Common.{List, ◌++◌, Event, ReaderSeen, AreReadersUnsound, ReadersStand, ReadersStandExactly, err_from_is_err_and}
 use Rattle.raft_base.specs.declared.pipe_log.LogQueue.{LogQueue}
 use Rattle.raft_history.specs.Histories.{Apart, IsOfQueue, IsSmall, Sound}
 use Rattle.raft_engine.specs.ReadQueues.{HaveBothRead, HaveBothReadExactly}
 use Rattle.raft_ffi.proofs.queue_reader.QueueReader.merge.Goals as goal
 
-stand : {R : Type 0} (r : Result R Error) (newer old new : ReaderSeen) → ((h g : List Event) → IsSmall (h ++ g) → HaveBothRead old h → HaveBothRead newer g → OnOk r (HaveBothRead new (h ++ g))) → OnOk r (ReadersStand newer old new)
+stand : (newer old new : ReaderSeen) → ((h g : List Event) → IsSmall (h ++ g) → HaveBothRead old.read h → HaveBothRead newer.read g → HaveBothRead new.read (h ++ g)) → ReadersStand newer old new
 unfolding ReadersStand
-stand (Ok x) newer old new so = so
-stand (Err e) newer old new so = tt
+stand newer old new so = so
 
-stand_exactly : {R : Type 0} (r : Result R Error) (newer old new : ReaderSeen) → ((h g : List Event) → IsSmall (h ++ g) → Apart (h ++ g) → HaveBothReadExactly old h → HaveBothReadExactly newer g → OnOk r (HaveBothReadExactly new (h ++ g)))
-    → OnOk r (ReadersStandExactly newer old new)
+stand_exactly : (newer old new : ReaderSeen) → ((h g : List Event) → IsSmall (h ++ g) → Apart (h ++ g) → HaveBothReadExactly old.read h → HaveBothReadExactly newer.read g → HaveBothReadExactly new.read (h ++ g)) → ReadersStandExactly newer old new
 unfolding ReadersStandExactly
-stand_exactly (Ok x) newer old new so = so
-stand_exactly (Err e) newer old new so = tt
+stand_exactly newer old new so = so
 
-unsound : {R : Type 0} (r : Result R Error) (queue : LogQueue) (newer old : ReaderSeen)
-    → IfErr r (λ e. e ≢ errors.Memory → (h g : List Event) → IsSmall (h ++ g) → IsOfQueue queue (h ++ g) → HaveBothRead old h → HaveBothRead newer g → ¬ (Sound (h ++ g))) → IfErr r (λ e. e ≢ errors.Memory → AreReadersUnsound queue old newer)
+unsound : (queue : LogQueue) (newer old : ReaderSeen) → ((h g : List Event) → IsSmall (h ++ g) → IsOfQueue queue (h ++ g) → HaveBothRead old.read h → HaveBothRead newer.read g → ¬ (Sound (h ++ g))) → AreReadersUnsound queue old newer
 unfolding AreReadersUnsound
-unsound (Ok x) queue newer old so = so
-unsound (Err e) queue newer old so = so
+unsound queue newer old so = so
 
 pub returns-clause-stands : goal.returns-clause-stands
-returns-clause-stands c = rw (← c.self.view_is, ← c.newer.view_is) (stand c.merge.result c.newer.inside.both c.self.inside.both c.merge.new.self c.merge.ensures.stands)
+returns-clause-stands c = rw (← c.self.view_is, ← c.newer.view_is) (stand _ _ _ c.in_ok-merge.ensures.stands)
 
 pub returns-clause-exact : goal.returns-clause-exact
-returns-clause-exact c = rw (← c.self.view_is, ← c.newer.view_is) (stand_exactly c.merge.result c.newer.inside.both c.self.inside.both c.merge.new.self c.merge.ensures.exact)
+returns-clause-exact c = rw (← c.self.view_is, ← c.newer.view_is) (stand_exactly _ _ _ c.in_ok-merge.ensures.exact)
 
-pub returns-clause-refused : goal.returns-clause-refused
-returns-clause-refused c = rw (← c.self.view_is, ← c.newer.view_is) (unsound c.merge.result c.args.queue c.newer.inside.both c.self.inside.both c.merge.ensures.refused)
+pub returns-in_err-merge-clause-refused : goal.returns-in_err-merge-clause-refused
+returns-in_err-merge-clause-refused c =
+    let p = err_from_is_err_and c.from_residual.result c.from_residual.ensures.1 in
+    rw (← c.self.view_is, ← c.newer.view_is, p.1, p.2) (λ other. unsound c.args.queue _ _ (c.in_err-merge.ensures.refused other))

@@ -1,5 +1,4 @@
-use Rattle.std.proofs.Common.{◌≡◌, drop}
-use Rattle.raft_listing.specs.Dumped.{has_one}
+use Rattle.raft_listing.proofs.Common.{◌≡◌, drop, has_one}
 use Rattle.raft_listing.proofs.selection.Selection.has_one.Given as goal
 
 -- one of those that are left, where one of all is

@@ -1,7 +1,4 @@
-use Rattle.std.proofs.Common.{List, inl, subst}
-use Rattle.raft_reading.specs.declared.queue_files.FileSize.{FileSize}
-use Rattle.std.proofs.lemmas.Result.{err_from_is_err_and}
-use Rattle.raft_opening.specs.SizedFiles.{AreKnownOf}
+use Rattle.raft_opening.proofs.Common.{List, inl, subst, FileSize, err_from_is_err_and, AreKnownOf}
 use Rattle.raft_opening.proofs.SizedLemmas.{apart_sized, consecutive_sized, known_left, left_sized}
 use Rattle.raft_opening.proofs.sized_files.SizedQueue.of.Goals as goal
 

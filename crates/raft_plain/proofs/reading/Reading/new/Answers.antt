@@ -1,4 +1,4 @@
-use Rattle.std.proofs.Common.{refl}
+use Rattle.raft_plain.proofs.Common.{refl}
 use Rattle.raft_plain.proofs.ReadLemmas.{read_none}
 use Rattle.raft_plain.proofs.reading.Reading.new.Goals as goal
 

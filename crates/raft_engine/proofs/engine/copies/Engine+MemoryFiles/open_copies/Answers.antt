@@ -1,8 +1,4 @@
-use Rattle.std.proofs.lemmas.Result.{err_from_is_err_and}
-use Rattle.std.proofs.Common.{map}
-use Rattle.raft_base.specs.declared.pipe_log.LogQueue.TheVariants.{Append, Rewrite}
-use Rattle.raft_files.specs.Disk.{files_of}
-use Rattle.raft_files.specs.HeldFiles.{file_shown}
+use Rattle.raft_engine.proofs.Common.{err_from_is_err_and, map, Append, Rewrite, files_of, file_shown}
 use Rattle.raft_engine.proofs.CopiesLemmas.{for_memory, for_reason}
 use Rattle.raft_engine.proofs.engine.copies.Engine+MemoryFiles.open_copies.Goals as goal
 

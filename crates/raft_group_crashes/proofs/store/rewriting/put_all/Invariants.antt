@@ -1,6 +1,0 @@
-use Rattle.std.proofs.Common.{◌≡◌}
-use Rattle.raft_records.specs.LogBatch.{is_open}
-use Rattle.raft_group_crashes.proofs.store.rewriting.put_all.Given as goal
-
-abbrev pub invariant-loop-pair : goal.invariant-loop-pair
-invariant-loop-pair l = l.batch.stage ≡ is_open

@@ -1,6 +1,0 @@
-use Rattle.std.proofs.Common.{drop, string_bytes}
-use Rattle.raft_listing.proofs.TextLemmas.{AreEntriesAdding}
-use Rattle.raft_listing.proofs.items.append_lines.Given as goal
-
-abbrev pub invariant-loop-index : goal.invariant-loop-index
-invariant-loop-index l = AreEntriesAdding l.selection l.part l.entries (string_bytes l.fn.text) (drop l.index-index l.entries) (string_bytes l.text)

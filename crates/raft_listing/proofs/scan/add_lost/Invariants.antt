@@ -1,7 +1,0 @@
-use Rattle.std.proofs.Common.{map, drop}
-use Rattle.raft_records.specs.Item.{item_of}
-use Rattle.raft_listing.proofs.LossLemmas.{IsSaying}
-use Rattle.raft_listing.proofs.scan.add_lost.Given as goal
-
-abbrev pub invariant-loop-item : goal.invariant-loop-item
-invariant-loop-item l = IsSaying l.part l.offset (map item_of l.items) l.fn.damages.items (map item_of (drop l.item-index l.items)) l.damages.items

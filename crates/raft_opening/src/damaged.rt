@@ -1,0 +1,32 @@
+//! The batches of a file whose entries are damaged, by where they begin.
+
+ghost use Rattle.std.specs.Prelude.{◌≡◌, IfErr, IfOk};
+ghost use Rattle.raft_opening.specs.NamedBatches.{AreNamed};
+
+use raft_base::{Error, FileId, Result};
+use raft_engine::DamagedBatch;
+use raft_engine::found::unless_memory;
+use raft_prefix::entry_blocks::damage_at;
+use std::alloc::Global;
+
+/// Returns the batches of `file` that begin at `offsets`, and whose entries are damaged, each with the error that says so.
+///
+/// # Errors
+///
+/// `Memory`.
+pub fn named_batches(alloc: Global, file: FileId, offsets: &[u64]) -> Result<Vec<DamagedBatch>>
+    ensures ok { IfOk result (λ batches. AreNamed file offsets.now batches.items) }
+    ensures memory { IfErr result (λ e. e ≡ Error.Memory) }
+{
+    let mut batches = Vec::new(alloc);
+    for offset in offsets {
+        let error = damage_at(alloc, file, *offset);
+        unless_memory(&error)?;
+        batches.push(DamagedBatch {
+            file: file.seq,
+            offset: *offset,
+            error,
+        })?;
+    }
+    Ok(batches)
+}

@@ -1,8 +1,0 @@
-use Rattle.std.proofs.Common.{rules, string_bytes}
-use Rattle.raft_report.proofs.ItemLemmas.{contents_added}
-use Rattle.raft_report.proofs.json_items.append_contents.Goals as goal
-
-pub returns-clause-ok : goal.returns-clause-ok
-returns-clause-ok c =
-    contents_added c.args.selection.now c.args.part.now c.args.entries.now (string_bytes c.args.text.now) (string_bytes c.push_str.new.self) (string_bytes c.append_each_entry.new.text) (string_bytes c.push_str-2.new.self)
-    (search rules) c.in_ok-push_str.ensures.bytes c.in_ok-append_each_entry.ensures.ok c.in_ok-push_str-2.ensures.bytes

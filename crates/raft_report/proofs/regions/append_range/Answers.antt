@@ -1,6 +1,0 @@
-use Rattle.std.proofs.Common.{arith}
-use Rattle.raft_base.proofs.ConsecutiveLemmas.{end_bounded}
-use Rattle.raft_report.proofs.regions.append_range.Goals as goal
-
-pub overflow_add-end : goal.overflow_add-end
-overflow_add-end c = omega (arith, c.in-Some-Some.ensures', end_bounded c.args.table.now.entries c.holds_one_run.ensures.consecutive.bounded)

@@ -22,7 +22,7 @@ import tempfile
 import xml.dom.minidom
 from pathlib import Path
 
-from damage_rows import LAST, ROWS, TOP, Room, batch, batches, both_torn, counted, entries_of, entry_byte, first_byte, name_of, put, rewrite_torn, torn
+from damage_rows import APPEND, GROUP, LAST, OLDER, ROWS, TOP, Room, batch, batches, both_torn, counted, entries_of, entry_byte, first_byte, name_of, put, rewrite_torn, torn
 
 SECONDS = 60
 
@@ -415,6 +415,17 @@ def look_at_changes(looker, folder, count, seed):
         shutil.rmtree(room.path)
 
 
+def look_at_rewrite_bytes(looker, folder):
+    """A changed bit of each byte of the last rewrite file is told there."""
+    room = Room(folder / "rewrite_bytes")
+    room.only([APPEND], [OLDER, GROUP])
+    file = room.file(2, "rewrite")
+    whole = file.read_bytes()
+    for at, byte in enumerate(whole):
+        file.write_bytes(whole[:at] + bytes([byte ^ 1 << at % 8]) + whole[at + 1:])
+        looker.expect(f"byte {at} of the last rewrite file", looker.run("check", room.path), 1, ["rewrite file 2 offset ", "\ndamaged\n"], lacks=["\nsound\n"])
+
+
 def look_at_damaged(looker):
     """Each line of demo/damaged/lines is a batch of the files there, or a byte at which none can be read, or the end of a file that can be read to there."""
     damaged = TOP / "demo/damaged"
@@ -497,6 +508,7 @@ def main():
         look_at_closed_streams(looker, folder)
         look_at_damaged(looker)
         look_at_words(looker, folder)
+        look_at_rewrite_bytes(looker, folder)
         look_at_changes(looker, folder, asked.changes, asked.seed)
     print(f"{looker.count} runs of raftlog, {looker.wrongs} different")
     return 1 if looker.wrongs else 0

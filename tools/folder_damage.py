@@ -22,7 +22,7 @@ import tempfile
 import xml.dom.minidom
 from pathlib import Path
 
-from damage_rows import LAST, ROWS, TOP, Room, batch, batches, both_torn, counted, entries_of, entry_byte, first_byte, name_of, put, rewrite_torn, torn
+from damage_rows import APPEND, GROUP, LAST, OLDER, ROWS, TOP, Room, batch, batches, both_torn, counted, entries_of, entry_byte, first_byte, name_of, put, rewrite_torn, torn
 
 SECONDS = 60
 
@@ -176,7 +176,23 @@ def look_at_rows(looker, folder):
                 looker.count += 2
                 if dumped.returncode != lines.returncode or dump_of_text(dumped.stdout.splitlines()) != dump_of_json([json.loads(line) for line in lines.stdout.splitlines()]):
                     looker.wrong(f"{row.__name__}, dumped {words} as JSON: status {lines.returncode}, of text {dumped.returncode}\n{lines.stdout}\n{dumped.stdout}")
+            look_at_opening(looker, row.__name__, room, "opening: would open" in told.stdout)
             looker.open_as_said(row.__name__, room, told.stdout)
+
+
+def look_at_opening(looker, about, room, accepts):
+    """`regions`, `files` and `cut --dry-run` end with 0 just where an opening accepts the files; else the first two print nothing, and each says why."""
+    for words in (["regions"], ["regions", "--json"], ["files"], ["files", "--json"], ["cut", "--dry-run"], ["cut", "--dry-run", "--json"]):
+        ended = looker.run(*words, room.path)
+        looker.count += 1
+        lines = [json.loads(line) for line in ended.stdout.splitlines()] if "--json" in words else ended.stdout.splitlines()
+        said = ended.stdout if words[0] == "cut" else ended.stderr
+        if accepts:
+            fits = ended.returncode == 0 and not ended.stderr and (words[0] != "regions" or lines)
+        else:
+            fits = ended.returncode == 1 and (words[0] == "cut" or not lines) and (said or ended.stderr.startswith("raftlog: "))
+        if not fits:
+            looker.wrong(f"{about}, {' '.join(words)}: status {ended.returncode}, though an opening {'accepts' if accepts else 'refuses'} the files\n{ended.stdout}{ended.stderr}")
 
 
 def look_at_cuts(looker, folder):
@@ -193,11 +209,82 @@ def look_at_cuts(looker, folder):
     looker.expect("after cut --yes", looker.run("check", room.path), 0, ["\nsound\n"])
     if (room.path / f"{name_of(LAST)}.{at}.cut").read_bytes() != tail:
         looker.wrong("what was cut isn't kept")
+    look_at_cut_lines(looker, folder)
     typo = folder / "typo"
     for word in ("--yes", "--dry-run"):
         looker.expect(f"cut {word} of no folder", looker.run("cut", word, typo), 1, [f"raftlog: {typo}: ", "No such file or directory"])
     if typo.exists():
         looker.wrong("a folder was made to be cut")
+
+
+def look_at_cut_lines(looker, folder):
+    """The same as lines of JSON."""
+    room = Room(folder / "cut_lines")
+    torn(room)
+    *_, (at, _, _) = batches((TOP / f"demo/{LAST}.log").read_bytes())
+    left = room.file(LAST).stat().st_size - at
+    owed = [{"opening": "opens", "queue": "append", "cut": left, "file": LAST, "offset": at}, {"opening": "opens", "queue": "rewrite", "cut": 0}]
+    kept = {"kept": f"{room.path}/{name_of(LAST)}.{at}.cut", "bytes": left}
+    for words, behind in ((["--dry-run"], []), (["--yes"], [kept]), (["--dry-run"], None)):
+        ended = looker.run("cut", *words, "--json", room.path)
+        looker.count += 1
+        said = [{name: value for name, value in json.loads(line).items() if name != "why"} for line in ended.stdout.splitlines()]
+        wanted = owed + behind if behind is not None else [{**owed[1], "queue": queue} for queue in ("append", "rewrite")]
+        if said != wanted or ended.returncode or ended.stderr:
+            looker.wrong(f"cut {words} --json says something else: {ended.stdout}{ended.stderr}")
+
+
+def look_at_selection(looker, folder):
+    """A dump has what the words select, and nothing else."""
+    room = Room(folder / "selection")
+    first = batch(1, entries_of(1, 10, [1] * 5), put(1, b"k", b"v"), entries=b"abcde")
+    second = batch(1, entries_of(2, 3, [2, 2]), entries=b"xxyy")
+    room.only([[first, second]])
+    at = len(first)
+    heads = [f"append file 1 offset 0 length {at} items 2\n", f"append file 1 offset {at} length {len(second)} items 1\n"]
+    runs = ["  region 1 entries 10..15 block at 16 length 9\n", f"  region 2 entries 3..5 block at {at + 16} length 8\n"]
+    value = '  region 1 put "k" = "v"\n'
+    bytes_of = {10: "a", 11: "b", 12: "c", 13: "d", 14: "e", 3: "xx", 4: "yy"}
+
+    def entries(*indexes):
+        return "".join(f'    {index} "{bytes_of[index]}"\n' for index in indexes)
+
+    for words, owed in (([], heads[0] + runs[0] + entries(10, 11, 12, 13, 14) + value + heads[1] + runs[1] + entries(3, 4)),
+                        (["--from", "12", "--to", "14"], heads[0] + runs[0] + entries(12, 13) + value),
+                        (["--from", "4"], heads[0] + runs[0] + entries(10, 11, 12, 13, 14) + value + heads[1] + runs[1] + entries(4)),
+                        (["--to", "11"], heads[0] + runs[0] + entries(10) + value + heads[1] + runs[1] + entries(3, 4)),
+                        (["--region", "2", "--to", "4"], heads[1] + runs[1] + entries(3)),
+                        (["--region", "1", "--from", "15"], heads[0] + value)):
+        told, lines = looker.run("dump", "--values", *words, room.path), looker.run("dump", "--values", *words, "--json", room.path)
+        looker.count += 2
+        if told.stdout != owed or told.returncode or told.stderr:
+            looker.wrong(f"dump --values {words} says something else: {told.stdout}{told.stderr}")
+        if dump_of_json([json.loads(line) for line in lines.stdout.splitlines()]) != dump_of_text(owed.splitlines()) or lines.returncode:
+            looker.wrong(f"dump --values {words} --json says something else: {lines.stdout}{lines.stderr}")
+
+
+def look_at_full_outputs(looker, folder):
+    """An output that takes no more is an error of its own, and nothing is cut then."""
+    for words in (["check"], ["dump"], ["regions"], ["regions", "--region", "1"], ["files"], ["cut", "--dry-run"], ["cut", "--yes"]):
+        for form in ([], ["--json"]):
+            room = Room(folder / f"full_{'_'.join(words + form)}")
+            torn(room)
+            before = room.contents()
+            with open("/dev/full", "wb") as full:
+                ended = subprocess.run([looker.program, *words, *form, room.path], stdin=subprocess.DEVNULL, stdout=full, stderr=subprocess.PIPE, text=True, timeout=SECONDS)
+            looker.count += 1
+            if ended.returncode != 1 or not ended.stderr.startswith("raftlog: output: ") or ended.stderr.count("\n") != 1 or room.contents() != before:
+                looker.wrong(f"{words + form} to a full output: status {ended.returncode}, {ended.stderr}")
+
+
+def look_at_pipes(looker, folder):
+    """What is no regular file is refused by its path, and not waited for."""
+    pipe, entry = folder / "pipe", folder / "entry"
+    os.mkfifo(pipe)
+    entry.mkdir()
+    for path in (pipe, entry):
+        for words in (["check"], ["dump"], ["regions"], ["files"]):
+            looker.expect(f"{words} of {path.name}", looker.run(*words, "--append", f"1={path}"), 1, [f"raftlog: {path}: it isn't a regular file\n"])
 
 
 def look_at_tails(looker, folder):
@@ -328,6 +415,17 @@ def look_at_changes(looker, folder, count, seed):
         shutil.rmtree(room.path)
 
 
+def look_at_rewrite_bytes(looker, folder):
+    """A changed bit of each byte of the last rewrite file is told there."""
+    room = Room(folder / "rewrite_bytes")
+    room.only([APPEND], [OLDER, GROUP])
+    file = room.file(2, "rewrite")
+    whole = file.read_bytes()
+    for at, byte in enumerate(whole):
+        file.write_bytes(whole[:at] + bytes([byte ^ 1 << at % 8]) + whole[at + 1:])
+        looker.expect(f"byte {at} of the last rewrite file", looker.run("check", room.path), 1, ["rewrite file 2 offset ", "\ndamaged\n"], lacks=["\nsound\n"])
+
+
 def look_at_damaged(looker):
     """Each line of demo/damaged/lines is a batch of the files there, or a byte at which none can be read, or the end of a file that can be read to there."""
     damaged = TOP / "demo/damaged"
@@ -402,11 +500,15 @@ def main():
         look_at_rows(looker, folder)
         look_at_cuts(looker, folder)
         look_at_tails(looker, folder)
+        look_at_selection(looker, folder)
+        look_at_full_outputs(looker, folder)
+        look_at_pipes(looker, folder)
         look_at_pictures(looker, folder)
         look_at_uses(looker, folder)
         look_at_closed_streams(looker, folder)
         look_at_damaged(looker)
         look_at_words(looker, folder)
+        look_at_rewrite_bytes(looker, folder)
         look_at_changes(looker, folder, asked.changes, asked.seed)
     print(f"{looker.count} runs of raftlog, {looker.wrongs} different")
     return 1 if looker.wrongs else 0

@@ -56,15 +56,15 @@ impl<T: Drop> From<AllocFailed<T>> for FolderError {
     }
 }
 
-/// Makes of a refusal that of a call on an engine, which has no room for the path where the system refused a request.
+/// Makes of a refusal that of a call on an engine.
 impl From<FolderError> for Error {
-    /// Returns `Io` with the system's own error, without the path; `TryAgain` with the path if another engine
+    /// Returns `Io` of the system's kind with the path and the system's words; `TryAgain` with the path if another engine
     /// has the folder open; `InvalidArgument` with the path and the reason for a wrong name, a file of
     /// raft-engine, and a request that can't be met; `Memory` for want of memory, also for one of these
     /// texts.
     fn from(error: FolderError) -> Error {
         match error {
-            FolderError::System(_, error) => Error::Io(error),
+            FolderError::System(path, error) => Error::Io(with_path(path, error)),
             FolderError::Locked(path) => match told(path, "another engine has the folder open") {
                 Ok(text) => Error::TryAgain(text),
                 Err(_) => Error::Memory,
@@ -74,6 +74,15 @@ impl From<FolderError> for Error {
             FolderError::Refused(path, why) => refused(path, why),
             FolderError::Memory => Error::Memory,
         }
+    }
+}
+
+/// Returns the system's error with `path: ` in front of its words; as it is where there is no memory for them.
+fn with_path(path: String, error: io::Error) -> io::Error {
+    let mut text = path;
+    match write!(text, ": {error}") {
+        Ok(()) => io::Error::new(error.kind(), text.as_str()),
+        Err(_) => error,
     }
 }
 

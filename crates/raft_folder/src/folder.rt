@@ -106,13 +106,14 @@ impl<'a, R: FolderHost> Folder<'a, R> {
     ///
     /// # Errors
     ///
-    /// `Misnamed` for a name that ends like that of a log file and is none; `System`; `Memory`.
+    /// `Misnamed` for a name that ends like that of a log file and is none; `Refused` where no regular file has it; `System`; `Memory`.
     fn open_named(&mut self, how: &OpenOptions, name: &str) -> FolderResult<()> {
         let alloc = self.rt.alloc();
         let folder = self.path;
         match meaning_of(alloc, name)? {
             Meaning::Log(id) => {
                 let path = format!(in alloc; "{folder}/{name}")?;
+                refuse_irregular(self.rt, path.as_str())?;
                 let file = about_path(self.rt, path.as_str(), how.open(self.rt, path.as_str()))?;
                 self.files_mut(id.queue).insert(id.seq, file)?;
                 Ok(())
@@ -394,6 +395,20 @@ impl<'a, R: FolderHost> Folder<'a, R> {
             Err(_) => FolderError::Memory,
         }
     }
+}
+
+/// Refuses what isn't a regular file: to open a pipe might take for ever.
+///
+/// # Errors
+///
+/// `Refused` where something else is at `path`; `System`; `Memory`.
+fn refuse_irregular<R: FolderHost>(rt: &R, path: &str) -> FolderResult<()> {
+    let metadata = about_path(rt, path, fs::metadata(rt, path))?;
+    if metadata.is_file() {
+        return Ok(());
+    }
+    let path = String::from_str(rt.alloc(), path)?;
+    Err(FolderError::Refused(path, "it isn't a regular file"))
 }
 
 /// Tests whether there is something at `path`.

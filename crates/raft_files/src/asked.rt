@@ -38,6 +38,7 @@ const UNSYNCED: u64 = 6;
 /// contract can tell keeps one, and notes each ask in it.
 #[derive(Drop)]
 pub struct Asked {
+    /// Nothing: the list is in the ghost field alone.
     marker: PhantomData<u8>,
     /// What was asked, newest first.
     pub ghost asks: { List Ask } by { coded_list ask_code },

@@ -100,7 +100,9 @@ fn marker_byte(kv: &KeyValue) -> Option<u8>
 /// group marker of a batch is read. So a group has at least two batches.
 #[derive(Debug, Drop)]
 pub struct AtomicGroupBuilder {
+    /// The number of the group.
     id: u64,
+    /// The status of the group marker that was added last, if any was.
     status: Option<AtomicGroupStatus>,
 }
 

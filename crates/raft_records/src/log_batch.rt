@@ -65,8 +65,11 @@ impl BufState {
 /// written. `drain` takes the items out, and opens it again.
 #[derive(Debug, Drop)]
 pub struct LogBatch {
+    /// The items.
     item_batch: LogItemBatch,
+    /// The stage of the batch.
     state: BufState,
+    /// What the stage says: the entry bytes, or the bytes of the whole batch.
     buf: Vec<u8>,
 }
 
@@ -168,8 +171,8 @@ impl LogBatch {
         self.item_batch.as_slice()
     }
 
-    /// Takes all items out of the batch, in order, and leaves it open and empty. Up to 8 MiB of its buffer
-    /// stay allocated for later items.
+    /// Returns all items, in the order in which they were added, and leaves the batch open and empty. Up to 8
+    /// MiB of its buffer stay allocated for later items.
     pub fn drain(&mut self) -> vec::IntoIter<LogItem>
         ensures items { map item_of (into_iter_items result) ≡ self.old.items }
         ensures len { into_iter_len result ≡ length self.old.items }

@@ -23,6 +23,7 @@ use std::{mem, slice, vec};
 /// entry bytes, and those of each later item where those before it end.
 #[derive(Debug, Drop)]
 pub struct LogItemBatch {
+    /// The items, in the order in which they were added.
     items: Vec<LogItem>,
     /// The approximate length of the items in bytes, at most `usize::MAX`.
     item_size: usize,
@@ -300,7 +301,7 @@ impl LogItemBatch {
         Ok(())
     }
 
-    /// Takes all items out of the batch, in order, and leaves it empty.
+    /// Returns all items, in the order in which they were added, and leaves the batch empty.
     pub fn drain(&mut self) -> vec::IntoIter<LogItem>
         ensures items { map item_of (into_iter_items result) ≡ self.old }
         ensures len { into_iter_len result ≡ length self.old }

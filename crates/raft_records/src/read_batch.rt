@@ -50,6 +50,7 @@ pub struct ReadItem<'a> {
 /// longest of them.
 #[derive(Drop)]
 pub struct ReadBatch<'a> {
+    /// The items, in order.
     items: Vec<ReadItem<'a>>,
     /// The span of each entry: its offset and its length. Those of the first run come first.
     spans: Vec<(u32, u32)>,

@@ -16,10 +16,15 @@ const EXPONENT_LIMIT: u128 = 1 << 65;
 /// The digits are ASCII.
 #[derive(Clone, Copy)]
 pub(super) struct SizeNumber<'a> {
+    /// Whether the sign is a minus.
     is_negative: bool,
+    /// The digits before the point.
     whole: &'a [u8],
+    /// The digits after the point; none without a point.
     fraction: &'a [u8],
+    /// Whether the sign of the exponent is a minus.
     is_exponent_negative: bool,
+    /// The digits of the exponent; none without an exponent.
     exponent: &'a [u8],
 }
 

@@ -55,9 +55,13 @@ use std::marker::Model;
 /// be counted.
 #[derive(Drop)]
 pub struct MemTable {
+    /// The id of the region.
     region_id: u64,
+    /// The entries of the region.
     entries: Entries,
+    /// The key values of the region.
     keys: KeyValues,
+    /// The first and the last file of the region's atomic group in the rewrite queue, if one was applied.
     atomic_group: Option<(FileSeq, FileSeq)>,
 }
 

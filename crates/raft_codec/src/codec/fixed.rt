@@ -107,9 +107,9 @@ pub fn decode_u16(buf: &mut BytesSlice<'_>) -> Result<u16>
     Ok(u16::from_be_bytes(bytes))
 }
 
-/// Reads a number from the start of `buf` that is stored as
-/// [`NumberEncoder::encode_u64_desc`](crate::codec::NumberEncoder::encode_u64_desc) writes it, and moves
-/// `buf` past it: the complement of eight big-endian bytes. Any eight bytes are such a number.
+/// Reads eight bytes from the start of `buf` as a number in the form of
+/// [`NumberEncoder::encode_u64_desc`](crate::codec::NumberEncoder::encode_u64_desc), and moves `buf` past
+/// them: the complement of a big-endian number. Any eight bytes are such a number.
 ///
 /// # Errors
 ///
@@ -125,9 +125,9 @@ pub fn decode_u64_desc(buf: &mut BytesSlice<'_>) -> Result<u64>
     Ok(!complement)
 }
 
-/// Reads a number from the start of `buf` that is stored as
-/// [`NumberEncoder::encode_i64`](crate::codec::NumberEncoder::encode_i64) writes it, and moves `buf` past it:
-/// two's complement with the sign bit flipped, in eight big-endian bytes. Any eight bytes are such a number.
+/// Reads eight bytes from the start of `buf` as a number in the form of
+/// [`NumberEncoder::encode_i64`](crate::codec::NumberEncoder::encode_i64), and moves `buf` past them: two's
+/// complement with the sign bit flipped, big-endian. Any eight bytes are such a number.
 ///
 /// # Errors
 ///
@@ -143,9 +143,9 @@ pub fn decode_i64(buf: &mut BytesSlice<'_>) -> Result<i64>
     Ok((flipped ^ SIGN_BIT).cast_signed())
 }
 
-/// Reads a number from the start of `buf` that is stored as
-/// [`NumberEncoder::encode_i64_desc`](crate::codec::NumberEncoder::encode_i64_desc) writes it, and moves
-/// `buf` past it: the complement of the bytes that [`decode_i64`] reads. Any eight bytes are such a number.
+/// Reads eight bytes from the start of `buf` as a number in the form of
+/// [`NumberEncoder::encode_i64_desc`](crate::codec::NumberEncoder::encode_i64_desc), and moves `buf` past
+/// them: the complement of the bytes that [`decode_i64`] reads. Any eight bytes are such a number.
 ///
 /// # Errors
 ///

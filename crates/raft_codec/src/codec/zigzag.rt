@@ -10,8 +10,8 @@ ghost use Rattle.raft_codec.specs.Zigzag.{IsVarI64, zigzag};
 use crate::codec::varint::decode_var_u64;
 use crate::codec::{BytesSlice, Result};
 
-/// Reads a signed number that is stored as `encode_var_i64` writes it from the start of `buf`, and moves
-/// `buf` past it. A longer form is read too, up to ten bytes. It allocates nothing.
+/// Reads a signed number in the form of `encode_var_i64` from the start of `buf`, and moves `buf` past it. A
+/// longer form than `encode_var_i64` writes is read too, up to ten bytes. It allocates nothing.
 ///
 /// # Errors
 ///

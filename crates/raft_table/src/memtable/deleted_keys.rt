@@ -15,6 +15,7 @@ use std::mem;
 #[doc(hidden)]
 #[derive(Debug, Drop)]
 pub struct DeletedKeys {
+    /// The deleted keys.
     keys: BTreeMap<Vec<u8>, ()>,
 }
 

@@ -30,8 +30,8 @@ fn runs_on(entries: &[EntryIndex]) -> bool
     true
 }
 
-/// The entries of one item, with consecutive indexes. The field is public, so what breaks this is only
-/// refused once the item is written.
+/// The entries of one item. Their indexes should be consecutive, and each entry should begin where the one
+/// before it ends; both are tested only when the item is written.
 #[derive(Clone, PartialEq, Eq, Debug, Drop)]
 pub struct EntryIndexes(pub Vec<EntryIndex>);
 

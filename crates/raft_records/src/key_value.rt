@@ -58,7 +58,8 @@ pub struct KeyValue {
 }
 
 impl KeyValue {
-    /// Returns a change of `key` that isn't in a file yet.
+    /// Returns a change of `key` that isn't in a file yet. A put needs a `value`, and a deletion none; this
+    /// isn't tested before the change is written.
     pub fn new(op_type: OpType, key: Vec<u8>, value: Option<Vec<u8>>) -> KeyValue
         ensures { result
             ≡ record { op_type = op_type; key = key; value = value; file_id = None } }

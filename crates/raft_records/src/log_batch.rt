@@ -396,7 +396,7 @@ impl LogBatch {
     /// Sets the places of the items of a sealed batch, once its bytes were written to `handle`. Each entry
     /// gets the place of the entry block, which begins 16 bytes after the start of the batch, and has length
     /// 0 if there are no entry bytes. Each key value gets the file of `handle`, whose offset must be at most
-    /// 2^64 - 17. The bytes of the batch stay, and it allocates nothing.
+    /// 2^64 - 17. The bytes of the batch stay the same, and it allocates nothing.
     pub fn finish_write(&mut self, handle: FileBlockHandle)
         requires sealed { IsSealedStage self.old.stage }
         requires offset { handle.offset ≤ 2 ^ 64 - 17 }

@@ -1,10 +1,11 @@
 //! [`MemTable`], the table of a region: where its entries are, its key values, and the files of its atomic
 //! group.
 //!
-//! A *run* is entries with consecutive indexes. A run that is put into a table replaces the entries from its
-//! first index on, so that the entries of a table are always one run. A run that starts above the end of the
-//! entries leaves a *hole*: the append queue refuses it, and in the rewrite queue it replaces all entries. A
-//! record is an entry or a key value; it is *live* as long as it is in a table.
+//! A *run* is entries with consecutive indexes; its *end* is the index after that of the last one. A run that
+//! is put into a table replaces the entries from its first index on, so that the entries of a table are
+//! always one run. A run that starts above the end of the entries leaves a *hole*: the append queue refuses
+//! it, and in the rewrite queue it replaces all entries. A record is an entry or a key value; it is *live* as
+//! long as it is in a table.
 
 ghost use Rattle.std.specs.Prelude.{◌≡◌, ◌≢◌, ◌+◌, ◌≤◌, ◌^◌, false, length, MatchOption, OnOk, OnErr, IfErr, Some, [], MatchBool, option_map};
 ghost use Rattle.raft_table.specs.Common.{LogQueue, Append, Rewrite, end_of, IsRunIn, AreTableEntries, start_of, entry_at, entry_count, below, from, blocks_shown, entries_in_blocks, AreDistinctBlocks, Counts, live, with_added, block_count};

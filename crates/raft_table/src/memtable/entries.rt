@@ -1,4 +1,5 @@
-//! [`Entries`]: the entries of a region's table, in order of their indexes.
+//! [`Entries`]: the entries of a region's table, in order of their indexes. Their *end* is the index after
+//! that of the last one.
 
 ghost use Rattle.std.specs.Prelude.{◌≡◌, ◌≢◌, ◌+◌, ◌<◌, [], length, MatchOption};
 ghost use Rattle.raft_table.specs.Common.{shown, entries_in_blocks, AreDistinctBlocks, block_count, end_of, AreTableEntries, start_of, entry_at, entry_count};

@@ -14,8 +14,8 @@ use raft_base::{Error, LogQueue, Result};
 use std::mem;
 
 impl MemTable {
-    /// Returns the end (the last index and one) of those entries of this table that the first run of `mark`,
-    /// a newer region mark, meets: those that are neither compacted nor truncated before that run. Returns 0
+    /// Returns the index after that of the last entry of this table that the first run of `mark`, a newer
+    /// region mark, meets. It meets the entries that are neither compacted nor truncated before it. Returns 0
     /// if there are none.
     #[doc(hidden)]
     pub fn end_at_reach(&self, mark: &Mark) -> u64

@@ -58,8 +58,8 @@ impl MemTable {
         self.entries.fetch_to(begin, end, max_size, vec)
     }
 
-    /// Appends appended entries to `vec`, from the first one on, as long as the numbers of their files are at
-    /// most `gate`.
+    /// Appends entries whose place is in the append queue to `vec`: from the first such entry on, as long as
+    /// the numbers of their files are at most `gate`.
     ///
     /// # Errors
     ///
@@ -135,7 +135,7 @@ impl MemTable {
     /// Calls `f` with each key that is at least `start` and below `end`, and its value, until `f` returns
     /// false. Keys come in the order of their bytes or, with `reverse`, in the opposite order. A bound that
     /// is `None` doesn't limit its side. If `start` is above `end`, `f` isn't called. The result is always
-    /// `Ok`.
+    /// `Ok`; it is a `Result` since raft-engine's is.
     pub fn scan<F: FnMut(&[u8], &[u8]) -> bool>(
         &self,
         start: Option<&[u8]>,

@@ -93,7 +93,7 @@ fn push_without_spans_of(
     }
 }
 
-/// Sets the offsets and lengths of the entries that [`push_without_spans`] appended to the first `len`
+/// Sets the offsets and lengths of the entries that [`push_without_spans`] appended after the first `len`
 /// entries of `vec`: the second walk of [`push_entries`].
 fn set_spans(
     vec: &mut Vec<EntryIndex>,

@@ -38,13 +38,13 @@ pub enum Error {
     /// `InvalidData` where one in base 128 is too long or too large.
     #[error("{0}")]
     Io(io::Error),
-    /// A key of the wrong length. Layers above use it.
+    /// A key of the wrong length. No call here returns it: it is for layers above.
     #[error("bad format key(length)")]
     KeyLength,
-    /// A key with the wrong padding. Layers above use it.
+    /// A key with the wrong padding. No call here returns it: it is for layers above.
     #[error("bad format key(padding)")]
     KeyPadding,
-    /// A key that is not there. Layers above use it.
+    /// A key that isn't there. No call here returns it: it is for layers above.
     #[error("key not found")]
     KeyNotFound,
 }
@@ -55,7 +55,7 @@ impl From<io::Error> for Error {
 
     ghost from_gives = { λ e r. r ≡ Io e };
 
-    /// Returns `Io` with this error, so that `?` passes on what a writer returned.
+    /// Wraps `e` in `Io`, so that `?` hands on the error of a writer.
     fn from(e: io::Error) -> Error {
         Error::Io(e)
     }
@@ -73,7 +73,7 @@ impl Error {
     }
 }
 
-/// The result of a codec's call.
+/// The result of an encoder or a decoder.
 pub type Result<T> = std::result::Result<T, Error>;
 
 /// Appends encoded numbers to any [`Write`]. The only error is the writer's, as [`Error::Io`]. The writer may

@@ -1,4 +1,4 @@
-//! [`MemoryFiles`]: files of an engine in memory, for tests and tools.
+//! [`MemoryFiles`]: files of an engine in memory, for tests and for programs that crash engines.
 
 ghost use Rattle.raft_base.specs.declared.pipe_log.LogQueue.TheVariants.{Append, Rewrite};
 ghost use Rattle.std.specs.Prelude.{◌≡◌, ◌≢◌, ◌<◌, List, [], ◌∷◌, ◌++◌, drop, length, map, None, Some, IfErr, IfOk, IsOk, OnErr, OnOk};

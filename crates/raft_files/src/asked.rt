@@ -40,7 +40,6 @@ const UNSYNCED: u64 = 6;
 pub struct Asked {
     /// Nothing: the list is in the ghost field alone.
     marker: PhantomData<u8>,
-    /// What was asked, newest first.
     pub ghost asks: { List Ask } by { coded_list ask_code },
 }
 

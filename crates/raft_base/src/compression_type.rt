@@ -6,15 +6,16 @@ ghost use Rattle.raft_base.specs.Compression.{compression_byte, IsCompressionFau
 use crate::{Error, Result};
 use std::alloc::Global;
 
-/// How the entry bytes of a batch are compressed.
+/// How the entry bytes of a batch are compressed. Only uncompressed ones are supported.
 #[derive(Clone, Copy, PartialEq, Eq, Debug)]
 pub enum CompressionType {
-    /// The bytes stand as they are.
+    /// The entry bytes are stored uncompressed.
     None = 0,
 }
 
 impl CompressionType {
-    /// Returns the compression type that `byte` stands for: only 0 stands for one.
+    /// Returns the compression type that a batch names by `byte`. Only 0 names one. `alloc` is for the text
+    /// of an error.
     ///
     /// # Errors
     ///
@@ -31,7 +32,7 @@ impl CompressionType {
         }
     }
 
-    /// Returns the byte that stands for the compression type.
+    /// Returns the byte by which a batch names the compression type.
     pub fn to_u8(self) -> u8
         ensures { result ≡ compression_byte self }
     {

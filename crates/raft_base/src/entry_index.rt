@@ -1,21 +1,23 @@
-//! Where an entry of a region's log stands.
+//! [`EntryIndex`]: where an entry of a region's log is stored.
 
 ghost use Rattle.std.specs.Prelude.{◌↔◌, IsTrue};
 ghost use Rattle.raft_base.specs.Runs.{IsConsecutive};
 
 use crate::{CompressionType, FileBlockHandle};
 
-/// An entry of a region's log: its index, and the place of its bytes.
+/// The index of an entry of a region's log, and where its bytes are stored.
 #[derive(Clone, Copy, PartialEq, Eq, Debug)]
 pub struct EntryIndex {
+    /// The index of the entry in its region's log.
     pub index: u64,
-    /// The place of the entry block that holds this entry's bytes, once it has been written to a file.
+    /// The place of the entry block in which the entry is stored; `None` until the block's batch is written
+    /// to a file. An entry block has the entries of one batch, one after the other, and their checksum.
     pub entries: Option<FileBlockHandle>,
-    /// How that entry block is compressed.
+    /// How the entry block is compressed.
     pub compression_type: CompressionType,
-    /// Where this entry's bytes begin in it.
+    /// The offset in bytes of the entry in its entry block.
     pub entry_offset: u32,
-    /// How many bytes it has.
+    /// The length of the entry in bytes.
     pub entry_len: u32,
 }
 
@@ -25,7 +27,7 @@ impl Default for EntryIndex {
 
     ghost is_default = { λ e. e ≡ no_entry };
 
-    /// Returns the entry with index 0, without bytes and without a place.
+    /// Returns an entry with index 0, without bytes and without a place.
     fn default() -> EntryIndex {
         EntryIndex {
             index: 0,
@@ -37,8 +39,8 @@ impl Default for EntryIndex {
     }
 }
 
-/// Tests whether the indexes of `entries` rise by one from entry to entry, and none is 2^64 - 1. True without
-/// entries. It allocates nothing.
+/// Tests whether the indexes of `entries` rise by one from each entry to the next, and none of them is 2^64 -
+/// 1. Returns true if there are no entries. It allocates nothing.
 pub fn is_consecutive(entries: &[EntryIndex]) -> bool
     ensures { IsTrue result ↔ IsConsecutive entries.now }
 {

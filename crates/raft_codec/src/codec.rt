@@ -1,4 +1,5 @@
-//! Numbers as bytes.
+//! Encoders and decoders of numbers, with their error. An encoder appends to a [`Write`]; a decoder reads
+//! from the start of a slice of bytes.
 
 ghost use Rattle.std.specs.Prelude.{OnOk, IfErr};
 ghost use Rattle.std.specs.Io.KnownBytes.{Appends};
@@ -27,23 +28,23 @@ use std::io;
 use std::io::{ErrorKind, Write};
 use thiserror::Error;
 
-/// The bytes that a decoder reads from the front.
+/// Bytes to decode: a decoder reads from the start of the slice and then moves the slice past what it read.
 pub type BytesSlice<'a> = &'a [u8];
 
-/// The reason why a number was not read or written.
+/// The reason why a number was not read or written. Decoders and encoders return [`Error::Io`] alone.
 #[derive(Debug, Drop, Error)]
 pub enum Error {
-    /// The writer failed, or the bytes spell no number: `UnexpectedEof` where they end too early, `InvalidData`
-    /// where they cannot be completed.
+    /// The writer failed, or the bytes begin with no number: `UnexpectedEof` where they end within one,
+    /// `InvalidData` where one in base 128 is too long or too large.
     #[error("{0}")]
     Io(io::Error),
-    /// A key of the wrong length. Layers above use it.
+    /// A key of the wrong length. No call here returns it: it is for layers above.
     #[error("bad format key(length)")]
     KeyLength,
-    /// A key with the wrong padding. Layers above use it.
+    /// A key with the wrong padding. No call here returns it: it is for layers above.
     #[error("bad format key(padding)")]
     KeyPadding,
-    /// A key that is not there. Layers above use it.
+    /// A key that isn't there. No call here returns it: it is for layers above.
     #[error("key not found")]
     KeyNotFound,
 }
@@ -54,7 +55,7 @@ impl From<io::Error> for Error {
 
     ghost from_gives = { λ e r. r ≡ Io e };
 
-    /// Returns `Io` with this error, so that `?` passes on what a writer returned.
+    /// Wraps `e` in `Io`, so that `?` hands on the error of a writer.
     fn from(e: io::Error) -> Error {
         Error::Io(e)
     }
@@ -64,7 +65,7 @@ impl Error {
     ghost use Rattle.std.specs.declared.io.ErrorKind.TheVariants.{UnexpectedEof};
     ghost use Rattle.raft_codec.specs.Errors.{IsIoOf};
 
-    /// Returns the error for bytes that end too early: `Io` of the kind `UnexpectedEof`.
+    /// Returns the error for bytes that end before their number does: `Io` of the kind `UnexpectedEof`.
     pub fn unexpected_eof() -> Error
         ensures { IsIoOf result UnexpectedEof }
     {
@@ -72,13 +73,13 @@ impl Error {
     }
 }
 
-/// The result of a codec's call.
+/// The result of an encoder or a decoder.
 pub type Result<T> = std::result::Result<T, Error>;
 
-/// Writes numbers to any writer. The error is the writer's, as `Error::Io`. The writer may have taken a part of
-/// the number's bytes before it.
+/// Appends encoded numbers to any [`Write`]. The only error is the writer's, as [`Error::Io`]. The writer may
+/// have taken some of the number's bytes by then.
 pub trait NumberEncoder: Write {
-    /// Writes `v` in eight bytes, the highest first, so that bytes order as the numbers do.
+    /// Writes `v` in eight bytes, big-endian, so that the encoded bytes sort as the numbers do.
     ///
     /// # Errors
     ///
@@ -94,7 +95,7 @@ pub trait NumberEncoder: Write {
         Ok(())
     }
 
-    /// Writes `v` in four bytes, the highest first, so that bytes order as the numbers do.
+    /// Writes `v` in four bytes, big-endian, so that the encoded bytes sort as the numbers do.
     ///
     /// # Errors
     ///
@@ -110,7 +111,7 @@ pub trait NumberEncoder: Write {
         Ok(())
     }
 
-    /// Writes `v` in two bytes, the highest first, so that bytes order as the numbers do.
+    /// Writes `v` in two bytes, big-endian, so that the encoded bytes sort as the numbers do.
     ///
     /// # Errors
     ///
@@ -126,8 +127,8 @@ pub trait NumberEncoder: Write {
         Ok(())
     }
 
-    /// Writes `v` in eight bytes that order in reverse of the numbers: every bit complemented, the highest
-    /// byte first.
+    /// Writes the complement `!v` in eight bytes, big-endian, so that the encoded bytes sort in descending
+    /// order of the numbers.
     ///
     /// # Errors
     ///
@@ -143,8 +144,8 @@ pub trait NumberEncoder: Write {
         Ok(())
     }
 
-    /// Writes `v` in eight bytes that order as the numbers do: two's complement with the sign bit flipped,
-    /// the highest byte first.
+    /// Writes `v` in two's complement with the sign bit flipped, in eight bytes, big-endian. So the encoded
+    /// bytes sort as the numbers do, negative ones first.
     ///
     /// # Errors
     ///
@@ -160,8 +161,8 @@ pub trait NumberEncoder: Write {
         Ok(())
     }
 
-    /// Writes `v` in the bytes of [`NumberEncoder::encode_i64`] with every bit complemented, so that they
-    /// order in reverse of the numbers.
+    /// Writes the complement of the bytes of [`NumberEncoder::encode_i64`], so that the encoded bytes sort in
+    /// descending order of the numbers.
     ///
     /// # Errors
     ///
@@ -177,7 +178,7 @@ pub trait NumberEncoder: Write {
         Ok(())
     }
 
-    /// Writes `v` in two bytes, the lowest first.
+    /// Writes `v` in two bytes, little-endian.
     ///
     /// # Errors
     ///
@@ -193,7 +194,7 @@ pub trait NumberEncoder: Write {
         Ok(())
     }
 
-    /// Writes `v` in four bytes, the lowest first.
+    /// Writes `v` in four bytes, little-endian.
     ///
     /// # Errors
     ///
@@ -209,7 +210,7 @@ pub trait NumberEncoder: Write {
         Ok(())
     }
 
-    /// Writes `v` in eight bytes, the lowest first.
+    /// Writes `v` in eight bytes, little-endian.
     ///
     /// # Errors
     ///
@@ -225,7 +226,7 @@ pub trait NumberEncoder: Write {
         Ok(())
     }
 
-    /// Writes `v` in two's complement in four bytes, the lowest first.
+    /// Writes `v` in two's complement in four bytes, little-endian.
     ///
     /// # Errors
     ///
@@ -241,7 +242,7 @@ pub trait NumberEncoder: Write {
         Ok(())
     }
 
-    /// Writes `v` in two's complement in eight bytes, the lowest first.
+    /// Writes `v` in two's complement in eight bytes, little-endian.
     ///
     /// # Errors
     ///
@@ -257,7 +258,8 @@ pub trait NumberEncoder: Write {
         Ok(())
     }
 
-    /// Writes `v` in base 128, in its shortest form of one to ten bytes: 300 is `ac 02`.
+    /// Writes `v` in base 128 (a varint, as in protobuf), in its shortest form of one to ten bytes: 300 is
+    /// `ac 02`.
     ///
     /// # Errors
     ///
@@ -279,8 +281,8 @@ pub trait NumberEncoder: Write {
         Ok(())
     }
 
-    /// Writes `v` in base 128 by a code that is small if `v` is near 0: `2v` for `v` from 0 on, and `-2v - 1`
-    /// below 0.
+    /// Writes `v` as the varint of its zigzag code, which is small if `v` is near 0: `2v` if `v` is at least
+    /// 0, and `-2v - 1` if it is negative. This is protobuf's `sint64`.
     ///
     /// # Errors
     ///

@@ -1,4 +1,4 @@
-//! Numbers as bytes: of fixed length, of 7 bits a byte, and of alternating sign.
+//! The number formats of log files: fixed width, base 128 (varints), and signed base 128 (zigzag).
 #![tactic(auto)]
 
 pub mod codec;

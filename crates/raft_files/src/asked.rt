@@ -1,4 +1,4 @@
-//! A list of what was asked of files, which only clauses read.
+//! [`Asked`]: the list of what was asked of files, which exists for contracts alone.
 ghost use Rattle.std.specs.Prelude.{◌≡◌, List, [], ◌∷◌, map};
 ghost use Rattle.std.specs.Borrow.{ftrue};
 ghost use Rattle.std.specs.Coded.{coded_list};
@@ -12,24 +12,33 @@ use crate::Found;
 use raft_base::{FileBlockHandle, FileSeq, LogQueue};
 use std::marker::{Model, PhantomData};
 
+/// The number by which a put of bytes is noted.
 const PUT: u64 = 0;
 
+/// The number by which the begin of a file is noted.
 const BEGIN: u64 = 1;
 
+/// The number by which a sync is noted.
 const SYNC: u64 = 2;
 
+/// The number by which a deletion is noted.
 const DELETE: u64 = 3;
 
+/// The number by which a cut is noted.
 const CUT: u64 = 4;
 
+/// The number by which a read is noted.
 const READ: u64 = 5;
 
+/// The number by which a failed sync is noted.
 const UNSYNCED: u64 = 6;
 
-/// What was asked of files, newest first. It has no bytes when a program runs: whoever implements
-/// [`EngineFiles`](crate::EngineFiles) over files whose contents no contract tells keeps one, and notes each ask.
+/// The list of what was asked of files, newest first. Only contracts read it: when a program runs it takes no memory,
+/// and its calls do nothing. An implementation of [`EngineFiles`](crate::EngineFiles) over files whose contents no
+/// contract can tell keeps one, and notes each ask in it.
 #[derive(Drop)]
 pub struct Asked {
+    /// Nothing: the list is in the ghost field alone.
     marker: PhantomData<u8>,
     pub ghost asks: { List Ask } by { coded_list ask_code },
 }
@@ -39,7 +48,7 @@ impl Model for Asked {
 }
 
 impl Asked {
-    /// Returns the list of what was asked before the first ask: nothing.
+    /// Returns the list of nothing that was asked.
     pub fn new() -> Asked
         ensures { result.asks ≡ [] }
     {
@@ -48,14 +57,14 @@ impl Asked {
         }
     }
 
-    /// Notes that `bytes` were put behind the last file of `queue`.
+    /// Notes that `bytes` were put at the end of the last file of `queue`.
     pub fn put(&mut self, queue: LogQueue, bytes: &[u8])
         ensures { IsAsked (ask queue (Put bytes.now)) self.old.asks self.new.asks }
     {
         self.note(&[number_of(queue), PUT, 0], bytes);
     }
 
-    /// Notes that a file numbered `seq` was begun behind the last one of `queue`.
+    /// Notes that a file with the number `seq` was begun after the last one of `queue`.
     pub fn begin(&mut self, queue: LogQueue, seq: FileSeq)
         ensures { IsAsked (ask queue (Begin seq)) self.old.asks self.new.asks }
     {
@@ -106,16 +115,16 @@ impl Asked {
         );
     }
 
-    /// Notes `files`, those of `queue` that are found when the machine starts, oldest first. All of their
-    /// bytes are on the disk.
+    /// Notes that `files`, each with its number and its bytes, are those of `queue` that were found when the machine
+    /// started, oldest first. All of their bytes must be on the disk.
     pub fn found(&mut self, queue: LogQueue, files: &Vec<(FileSeq, Vec<u8>)>)
         ensures { IsAsked (ask queue (Found (map file_shown files.now.items))) self.old.asks self.new.asks }
     {
         self.note_found(&[number_of(queue)], files);
     }
 
-    /// Returns the list of what was asked once files of both queues are found, of which `found` says what is
-    /// known: they are some that may be those files. None of their bytes are held.
+    /// Returns the list in which only the found files of both queues are noted, for files whose bytes nobody holds.
+    /// `found` says what is known of their bytes; the noted ones agree with it.
     pub fn of_found<X: Found>(found: &X) -> Asked
         requires { (append : List NumberedBytes) × (rewrite : List NumberedBytes) × X.are_found found.now append rewrite }
         ensures { (append : List NumberedBytes) × (rewrite : List NumberedBytes) × X.are_found found.now append rewrite
@@ -127,14 +136,13 @@ impl Asked {
         }
     }
 
-    /// Notes files that are found, by the number of their queue. It computes nothing: only its contract
-    /// counts.
+    /// Notes found files. `_numbers` has the number of their queue. It computes nothing: only its contract counts.
     fn note_found(&mut self, _numbers: &[u64], _files: &Vec<(FileSeq, Vec<u8>)>)
         ensures { self.new.asks ≡ found_noted _numbers.now (map file_shown _files.now.items) ∷ self.old.asks }
     {}
 
-    /// Notes an ask by numbers (of its queue and its kind, and the number that it names, or those of a place)
-    /// and bytes. It computes nothing: only its contract counts.
+    /// Notes an ask, given by numbers (that of its queue, that of its kind, and the number that it names, or those of
+    /// a place) and by bytes. It computes nothing: only its contract counts.
     fn note(&mut self, _numbers: &[u64], _bytes: &[u8])
         ensures { self.new.asks ≡ ask_noted _numbers.now _bytes.now ∷ self.old.asks }
     {}
@@ -143,7 +151,7 @@ impl Asked {
 // It owns nothing.
 unsafe impl Send for Asked {}
 
-/// Returns the number by which asks note `queue`: 0 for the append queue, 1 for the rewrite queue.
+/// Returns the number by which `queue` is noted: 0 for the append queue, 1 for the rewrite queue.
 fn number_of(queue: LogQueue) -> u64
     ensures { queue_noted result ≡ queue }
 {

@@ -1,4 +1,4 @@
-//! What follows of a disk.
+//! Laws of what a crash may leave of files.
 
 ghost use Rattle.std.specs.Prelude.{◌≡◌, List, ◌∷◌, ℕ};
 ghost use Rattle.raft_base.specs.declared.pipe_log.FileBlockHandle.{FileBlockHandle};
@@ -7,10 +7,11 @@ ghost use Rattle.raft_base.specs.declared.pipe_log.LogQueue.TheVariants.{Append,
 ghost use Rattle.raft_files.specs.Asks.{Act, Ask, Found, Put, Read, Sync, Unsynced, ask};
 ghost use Rattle.raft_files.specs.Disk.{IsLeftOf, NumberedBytes, files_of};
 
-/// States what a crash may leave of files. If nothing is lost, it leaves what was asked. After a sync it
-/// leaves nothing else, and of files that were found nothing else than these. After bytes were put it may
-/// leave everything that it might have left before. After a read, or a sync that failed, it may leave only
-/// what it might have left before. What is asked of one queue leaves the other as it is.
+/// States what a crash may leave of files. It may leave exactly what was asked. After a sync it leaves
+/// nothing else, and right after files were found, exactly these. After bytes were put, it may still leave
+/// everything that it might have left before. After a read, or a sync that failed, it may leave only what it
+/// might have left before. What is asked of one queue changes nothing for the other. This is a law: it
+/// computes nothing.
 pub fn files_that_are_left()
     ensures whole { (queue : LogQueue) (asked : List Ask) → IsLeftOf queue asked (files_of queue asked) }
     ensures synced { (queue : LogQueue) (asked : List Ask) (files : List NumberedBytes)

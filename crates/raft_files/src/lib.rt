@@ -1,4 +1,7 @@
-//! The files of an engine: what is asked of them, and what may be left of that when the machine crashes.
+//! The files of an engine: what is asked of them, and what may be left of it when the machine crashes.
+//!
+//! Contracts don't see the contents of files. They see a list of *asks*, what an engine asked of the files of each
+//! queue, and say what a crash may leave of them (`specs/Disk.antt`).
 #![tactic(auto)]
 
 pub mod asked;

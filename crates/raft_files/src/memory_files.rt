@@ -1,4 +1,4 @@
-//! Files in memory.
+//! [`MemoryFiles`]: files of an engine in memory, for tests and for programs that crash engines.
 
 ghost use Rattle.raft_base.specs.declared.pipe_log.LogQueue.TheVariants.{Append, Rewrite};
 ghost use Rattle.std.specs.Prelude.{◌≡◌, ◌≢◌, ◌<◌, List, [], ◌∷◌, ◌++◌, drop, length, map, None, Some, IfErr, IfOk, IsOk, OnErr, OnOk};
@@ -13,11 +13,14 @@ use raft_base::{Error, FileBlockHandle, FileSeq, LogQueue, Result};
 use std::alloc::Global;
 use std::marker::Model;
 
-/// The files of both queues in memory. They are those that were asked for.
+/// The files of both queues in memory. They have exactly what was asked.
 #[derive(Drop)]
 pub struct MemoryFiles {
+    /// The files of the append queue, each with its number and its bytes, oldest first.
     append: Vec<(FileSeq, Vec<u8>)>,
+    /// The files of the rewrite queue, each with its number and its bytes, oldest first.
     rewrite: Vec<(FileSeq, Vec<u8>)>,
+    /// What was asked of them.
     asked: Asked,
 }
 
@@ -39,7 +42,7 @@ impl Model for MemoryFiles {
 }
 
 impl MemoryFiles {
-    /// Returns files of which nothing was asked: there are none.
+    /// Returns files of which nothing was asked: there are none. They will allocate from `alloc`.
     pub fn new(alloc: Global) -> MemoryFiles
         ensures { result ≡ [] }
     {
@@ -50,8 +53,8 @@ impl MemoryFiles {
         }
     }
 
-    /// Returns files that are found when the machine starts: `append` and `rewrite` have those of each queue,
-    /// oldest first, with their numbers and bytes.
+    /// Returns files that were found when the machine started: those of each queue, oldest first, each with
+    /// its number and its bytes.
     pub fn found(append: Vec<(FileSeq, Vec<u8>)>, rewrite: Vec<(FileSeq, Vec<u8>)>) -> MemoryFiles
         ensures { result ≡ ask Rewrite (Found (map file_shown rewrite.items))
             ∷ ask Append (Found (map file_shown append.items)) ∷ [] }
@@ -66,7 +69,7 @@ impl MemoryFiles {
         }
     }
 
-    /// Returns the files of `queue` with their numbers and bytes, oldest first.
+    /// Returns the files of `queue`, each with its number and its bytes, oldest first.
     pub fn files(&self, queue: LogQueue) -> &Vec<(FileSeq, Vec<u8>)>
         ensures { map file_shown result.now.items ≡ files_of queue self.now }
     {
@@ -76,7 +79,7 @@ impl MemoryFiles {
         }
     }
 
-    /// Returns copies of the files of `queue`, oldest first.
+    /// Returns copies of the files of `queue`, each with its number and its bytes, oldest first.
     ///
     /// # Errors
     ///
@@ -94,11 +97,12 @@ impl EngineFiles for MemoryFiles {
 
     ghost may_fail = { IsMemoryFault };
 
-    /// Puts `bytes` behind those of the last file of `queue`.
+    /// Puts `bytes` at the end of the last file of `queue`.
     ///
     /// # Errors
     ///
-    /// `InvalidArgument` if the queue has no file; `Memory`. The files are unchanged then.
+    /// `InvalidArgument` if the queue has no file; `Memory`. The files are unchanged then, and nothing is
+    /// noted.
     fn append(&mut self, queue: LogQueue, bytes: &[u8]) -> Result<()>
         ensures ok { OnOk result (IsAsked (ask queue (Put bytes.now)) self.old self.new) }
         ensures accepted { OnOk result (0 < length (files_of queue self.old)) }
@@ -113,12 +117,13 @@ impl EngineFiles for MemoryFiles {
         Ok(())
     }
 
-    /// Begins a new file of `queue`, numbered `seq`.
+    /// Begins a new file of `queue` with the number `seq` after the last one. What is in memory counts as
+    /// synced.
     ///
     /// # Errors
     ///
     /// `InvalidArgument` if `seq` isn't above the number of the last file; `Memory`. The files are unchanged
-    /// then.
+    /// then, and nothing is noted.
     fn rotate(&mut self, queue: LogQueue, seq: FileSeq) -> Result<()>
         ensures ok { OnOk result (IsAsked (ask queue (Begin seq)) self.old self.new) }
         ensures accepted { OnOk result (IsNext seq (files_of queue self.old)) }
@@ -133,7 +138,7 @@ impl EngineFiles for MemoryFiles {
         Ok(())
     }
 
-    /// Notes a sync of `queue`, and returns `Ok`: what is in memory counts as synced.
+    /// Notes a sync of `queue`, and returns `Ok`: there is nothing to write.
     fn sync(&mut self, queue: LogQueue) -> Result<()>
         ensures ok { IsAsked (ask queue Sync) self.old self.new }
         ensures succeeds { IsOk result }
@@ -142,12 +147,12 @@ impl EngineFiles for MemoryFiles {
         Ok(())
     }
 
-    /// Deletes the oldest file of `queue`.
+    /// Deletes the oldest file of `queue`, which must have at least two files.
     ///
     /// # Errors
     ///
-    /// `InvalidArgument` if the queue has fewer than two files, or `Memory` if there is none for its text.
-    /// The files are unchanged then.
+    /// `InvalidArgument` if the queue has fewer than two files; `Memory` if there is none for its text. The
+    /// files are unchanged then, and nothing is noted.
     fn delete_oldest(&mut self, queue: LogQueue) -> Result<()>
         ensures ok { OnOk result (IsAsked (ask queue Delete) self.old self.new) }
         ensures accepted { OnOk result (1 < length (files_of queue self.old)) }
@@ -162,12 +167,12 @@ impl EngineFiles for MemoryFiles {
         Ok(())
     }
 
-    /// Cuts the last file of `queue` to `len` bytes, if it has more.
+    /// Cuts the last file of `queue` to its first `len` bytes, if it has more.
     ///
     /// # Errors
     ///
-    /// `InvalidArgument` if the queue has no file, or `Memory` if there is none for its text. The files are
-    /// unchanged then.
+    /// `InvalidArgument` if the queue has no file; `Memory` if there is none for its text. The files are
+    /// unchanged then, and nothing is noted.
     fn truncate(&mut self, queue: LogQueue, len: u64) -> Result<()>
         ensures ok { OnOk result (IsAsked (ask queue (Cut len)) self.old self.new) }
         ensures accepted { OnOk result (0 < length (files_of queue self.old)) }
@@ -182,11 +187,11 @@ impl EngineFiles for MemoryFiles {
         Ok(())
     }
 
-    /// Returns the bytes at `place`.
+    /// Returns a copy of the bytes at `place`, which are those that were put there, and notes the read.
     ///
     /// # Errors
     ///
-    /// `InvalidArgument` if no file has this place; `Memory`. Nothing changes then.
+    /// `InvalidArgument` if no file has this place; `Memory`. Nothing is noted then.
     fn read(&mut self, place: FileBlockHandle) -> Result<Vec<u8>>
         ensures ok { IfOk result (λ bytes. IsAsked (ask place.id.queue (Read place bytes.items)) self.old self.new) }
         ensures there { IfOk result (λ bytes. IsAt self.old place bytes.items) }
@@ -218,7 +223,7 @@ fn copies_of(files: &Vec<(FileSeq, Vec<u8>)>) -> Result<Vec<(FileSeq, Vec<u8>)>>
     Ok(copies)
 }
 
-/// Puts `bytes` behind those of the last file.
+/// Puts `bytes` at the end of the last of `files`.
 ///
 /// # Errors
 ///
@@ -238,7 +243,7 @@ fn put(files: &mut Vec<(FileSeq, Vec<u8>)>, bytes: &[u8]) -> Result<()>
     Ok(())
 }
 
-/// Begins a file numbered `seq`, without bytes.
+/// Adds an empty file with the number `seq` to the end of `files`.
 ///
 /// # Errors
 ///
@@ -261,11 +266,11 @@ fn begin(files: &mut Vec<(FileSeq, Vec<u8>)>, seq: FileSeq) -> Result<()>
     Ok(())
 }
 
-/// Removes the first of `files`, of which there are two or more.
+/// Removes the first of `files`, of which there must be at least two.
 ///
 /// # Errors
 ///
-/// `InvalidArgument` if there are fewer, or `Memory` if there is none for its text. The files are unchanged
+/// `InvalidArgument` if there are fewer; `Memory` if there is none for its text. The files are unchanged
 /// then.
 fn delete_first(files: &mut Vec<(FileSeq, Vec<u8>)>) -> Result<()>
     ensures ok { OnOk result (map file_shown files.new.items
@@ -282,11 +287,11 @@ fn delete_first(files: &mut Vec<(FileSeq, Vec<u8>)>) -> Result<()>
     Ok(())
 }
 
-/// Cuts the last file to `len` bytes, if it has more.
+/// Cuts the last of `files` to its first `len` bytes, if it has more.
 ///
 /// # Errors
 ///
-/// `InvalidArgument` if there is no file, or `Memory` if there is none for its text. The files are unchanged
+/// `InvalidArgument` if there is no file; `Memory` if there is none for its text. The files are unchanged
 /// then.
 fn cut(files: &mut Vec<(FileSeq, Vec<u8>)>, len: u64) -> Result<()>
     ensures ok { OnOk result (map file_shown files.new.items
@@ -303,11 +308,11 @@ fn cut(files: &mut Vec<(FileSeq, Vec<u8>)>, len: u64) -> Result<()>
     Ok(())
 }
 
-/// Returns the bytes at `place`, in the first of `files` with the number of its file.
+/// Returns a copy of the bytes at `place`, from the first of `files` that has the number of its file.
 ///
 /// # Errors
 ///
-/// `InvalidArgument` if that file doesn't have the place, or there is none; `Memory`.
+/// `InvalidArgument` if there is no such file, or it doesn't have all of the place; `Memory`.
 fn read_of(files: &Vec<(FileSeq, Vec<u8>)>, place: FileBlockHandle) -> Result<Vec<u8>>
     ensures ok { IfOk result (λ bytes.
         bytes_at (map file_shown files.now.items) place.id.seq place.offset place.len ≡ Some bytes.items) }
@@ -323,11 +328,11 @@ fn read_of(files: &Vec<(FileSeq, Vec<u8>)>, place: FileBlockHandle) -> Result<Ve
     Err(Error::invalid_argument(alloc, "no file has this place"))
 }
 
-/// Returns `len` of `bytes`, from `offset` on.
+/// Returns a copy of `len` bytes of `bytes`, from `offset` on.
 ///
 /// # Errors
 ///
-/// `InvalidArgument` if there are fewer; `Memory`.
+/// `InvalidArgument` if there aren't as many; `Memory`.
 fn stretch(bytes: &Vec<u8>, offset: u64, len: usize) -> Result<Vec<u8>>
     ensures ok { IfOk result (λ found. stretch_of bytes.now.items offset len ≡ Some found.items) }
     ensures refused { IfErr result (λ e. e ≢ Error.Memory → stretch_of bytes.now.items offset len ≡ None) }

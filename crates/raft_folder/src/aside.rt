@@ -1,4 +1,4 @@
-//! Bytes that are kept aside before they are cut off a log file.
+//! How bytes are kept in a file of their own before they are cut off a log file.
 
 use crate::errors::{FolderError, FolderResult};
 use crate::host::FolderHost;
@@ -7,16 +7,16 @@ use raft_base::FileId;
 use std::io::Write;
 use std::{fs, io};
 
-/// The most tails that are kept of one offset in one file.
+/// The names that are tried for what is cut off one file at one offset have numbers below this.
 const MOST_KEPT: u64 = 1 << 32;
 
-/// Writes `bytes`, which are about to be cut off the log file `id` at `offset`, to a file of their own, and
-/// syncs it, but not its name. Returns its path.
+/// Writes `bytes`, which are about to be cut off the log file `id` at `offset`, to a file of their own in the
+/// folder at the path `folder`. Syncs that file, but not its name, and returns its path.
 ///
 /// # Errors
 ///
-/// `System`, and the file has been removed then, unless that failed too; `Refused` if too much was cut off at
-/// this offset already; `Memory`.
+/// `System`; if it came from writing the file, that has been removed, unless this failed too. `Refused` if
+/// too much was cut off at this offset before; `Memory`.
 pub(crate) fn keep<R: FolderHost>(
     rt: &R,
     folder: &str,
@@ -34,12 +34,13 @@ pub(crate) fn keep<R: FolderHost>(
     }
 }
 
-/// Returns the path for bytes that are cut off at `offset`: the first one that [`is_free`] for them. So an
-/// opening that ended before it had cut them leaves no second copy, and other bytes that were cut there stay.
+/// Returns the path of the file for `bytes`, which are cut off the log file `id` at `offset`: the first one
+/// that [`is_free`] for them. So bytes that were kept but not cut off, since an opening ended too early, get
+/// no second copy, and other bytes that were cut off there stay.
 ///
 /// # Errors
 ///
-/// `Refused` if none of `MOST_KEPT` paths is free; `System`; `Memory`.
+/// `Refused` if no path is free whose number is below `MOST_KEPT`; `System`; `Memory`.
 fn path_for<R: FolderHost>(
     rt: &R,
     folder: &str,
@@ -59,7 +60,8 @@ fn path_for<R: FolderHost>(
     Err(FolderError::Refused(folder, "too much was cut off one place of a file"))
 }
 
-/// Tests whether `bytes` may be written to `path`: no file is there, or one with a prefix of them.
+/// Tests whether `bytes` may be written to `path`: no file is there, or one whose bytes are a prefix of
+/// `bytes`.
 ///
 /// # Errors
 ///
@@ -76,7 +78,7 @@ fn is_free<R: FolderHost>(rt: &R, path: &str, bytes: &[u8]) -> FolderResult<bool
     }
 }
 
-/// Writes a file with `bytes` and syncs it, but not its name. A file that is there is written anew.
+/// Writes a file with `bytes` at `path` and syncs it, but not its name. A file that is there is overwritten.
 ///
 /// # Errors
 ///

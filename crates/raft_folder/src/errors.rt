@@ -1,29 +1,29 @@
-//! Why a folder, or a file in it, can't be opened, read or changed.
+//! The errors of folders of log files.
 
 use raft_base::{AllocResult, Error};
 use std::alloc::{AllocError, AllocFailed, Global};
 use std::io;
 use thiserror::Error;
 
-/// The reason why a call on a folder was refused.
+/// The reason why a call on a folder was refused. Each but `Memory` names the path that it is about.
 #[derive(Debug, Drop, Error)]
 pub enum FolderError {
-    /// The system refused a request, about the file or folder at a path.
+    /// The system refused a request on the file or folder at this path.
     #[error("{0}: {1}")]
     System(String, io::Error),
-    /// Another engine has the folder open at this path.
+    /// Another engine has the folder open: it has locked what is at this path, the folder or the file `LOCK` in it.
     #[error("{0}: another engine has the folder open")]
     Locked(String),
-    /// A file's name ends like that of a log file, and is none.
+    /// The name of the file at this path ends like that of a log file but isn't one.
     #[error("{0}: it isn't the name of a log file")]
     Misnamed(String),
-    /// A file begins with raft-engine's header. Its batches can't be read.
+    /// The file at this path begins with raft-engine's header, so its batches can't be read here.
     #[error("{0}: it is a file of raft-engine, which begins with a header of its own")]
     Foreign(String),
-    /// What is asked of the folder can't be done with its files.
+    /// The files of the folder at this path don't allow the request, for this reason.
     #[error("{0}: {1}")]
     Refused(String, &'static str),
-    /// A growth was refused for want of memory.
+    /// There is no memory for what the call had to allocate.
     #[error("memory")]
     Memory,
 }
@@ -32,8 +32,7 @@ pub enum FolderError {
 pub type FolderResult<T> = std::result::Result<T, FolderError>;
 
 impl FolderError {
-    /// Returns `System`, for a request about the file or folder at `path` that the system refused, or
-    /// `Memory` if there is none for the path.
+    /// Returns `System` with `path` and the system's `error`, or `Memory` if there is none for the path.
     pub(crate) fn system(alloc: Global, path: &str, error: io::Error) -> FolderError {
         match String::from_str(alloc, path) {
             Ok(path) => FolderError::System(path, error),
@@ -43,25 +42,24 @@ impl FolderError {
 }
 
 impl From<AllocError> for FolderError {
-    /// Returns `Memory`, so that `?` passes on want of memory.
+    /// Returns `Memory`, so that `?` hands on a lack of memory.
     fn from(_: AllocError) -> FolderError {
         FolderError::Memory
     }
 }
 
 impl<T: Drop> From<AllocFailed<T>> for FolderError {
-    /// Returns `Memory`. What couldn't be stored is dropped.
+    /// Returns `Memory`. The value for which there was no memory is dropped.
     fn from(_: AllocFailed<T>) -> FolderError {
         FolderError::Memory
     }
 }
 
-/// Makes of a refusal that of a call on an engine.
+/// Makes an error of an engine's call of one of a folder.
 impl From<FolderError> for Error {
-    /// Returns `Io` of the system's kind with the path and the system's words; `TryAgain` with the path if another engine
-    /// has the folder open; `InvalidArgument` with the path and the reason for a wrong name, a file of
-    /// raft-engine, and a request that can't be met; `Memory` for want of memory, also for one of these
-    /// texts.
+    /// Returns `Io` with the path and the words of the system's error, and its kind, for `System` (the system's error itself if there
+    /// is no memory for them); `TryAgain` with path and reason for `Locked`; `InvalidArgument` with path and reason for `Misnamed`,
+    /// `Foreign` and `Refused`; and `Memory` for `Memory`, or if there is none for one of the other texts.
     fn from(error: FolderError) -> Error {
         match error {
             FolderError::System(path, error) => Error::Io(with_path(path, error)),
@@ -77,7 +75,7 @@ impl From<FolderError> for Error {
     }
 }
 
-/// Returns the system's error with `path: ` in front of its words; as it is where there is no memory for them.
+/// Returns an error of the kind of `error` with the text `path: words`, or `error` itself if there is no memory for it.
 fn with_path(path: String, error: io::Error) -> io::Error {
     let mut text = path;
     match write!(text, ": {error}") {
@@ -86,7 +84,7 @@ fn with_path(path: String, error: io::Error) -> io::Error {
     }
 }
 
-/// Returns `InvalidArgument` with `path: why`, or `Memory` if there is none for the text.
+/// Returns `InvalidArgument` with the text `path: why`, or `Memory` if there is none for it.
 fn refused(path: String, why: &str) -> Error {
     match told(path, why) {
         Ok(text) => Error::InvalidArgument(text),
@@ -94,7 +92,7 @@ fn refused(path: String, why: &str) -> Error {
     }
 }
 
-/// Returns `path: why`, as `logs: another engine has the folder open`.
+/// Returns the text `path: why`, such as `logs: another engine has the folder open`.
 ///
 /// # Errors
 ///

@@ -1,4 +1,5 @@
-//! A folder of log files, and what is done there.
+//! [`Folder`]: a folder of log files, and what is done to it. Nothing is noted here of what was asked: that
+//! is up to its users.
 
 use crate::aside::keep;
 use crate::errors::{FolderError, FolderResult};
@@ -13,40 +14,49 @@ use std::fs::{File, OpenOptions};
 use std::os::unix::fs::FileExt;
 use std::{fs, io};
 
-/// How the files of raft-engine begin. No batch begins so.
+/// The first bytes of a file of raft-engine. No batch begins with them.
 const FOREIGN_HEADER: &[u8] = b"RAFT-LOG-FILE-HEADER";
 
-/// The end of a log file, which was cut off.
+/// The end of a log file that was cut off, and is kept in a file of its own.
 #[derive(Drop)]
 pub struct KeptTail {
-    /// How many bytes it had.
+    /// The number of bytes that were cut off.
     pub len: usize,
-    /// The path of the file that keeps it: that of the log file, and the offset at which it began.
+    /// The path of the file that keeps them. Its name has that of the log file, and the offset at which they
+    /// began.
     pub kept: String,
 }
 
 /// The files of a queue, all of them open, by their numbers.
 pub(crate) type OpenFiles = BTreeMap<FileSeq, File>;
 
-/// A folder with the log files of both queues, which is locked for as long as this value lives.
+/// A folder with the log files of both queues, all of them open. It is locked for as long as this value
+/// lives.
 #[derive(Drop)]
 pub(crate) struct Folder<'a, R: FolderHost> {
+    /// The machine that has the folder.
     rt: &'a R,
+    /// The path of the folder.
     path: &'a str,
+    /// The folder itself, open and locked.
     locked: LockedFolder,
+    /// The files of the append queue.
     append: OpenFiles,
+    /// The files of the rewrite queue.
     rewrite: OpenFiles,
-    /// What was cut off.
+    /// What was cut off files since the folder was opened, in order.
     kept: Vec<KeptTail>,
 }
 
 impl<'a, R: FolderHost> Folder<'a, R> {
-    /// Opens the folder at `path` with all log files in it, to change them, and locks it. A folder that isn't
-    /// there is made. Its name, and those of the files, are on the disk then.
+    /// Opens the folder at `path` with all log files in it, to change them, and locks it for this value
+    /// alone. A folder that isn't there is made. The names of the files, and of the folder, are on the disk
+    /// then.
     ///
     /// # Errors
     ///
-    /// `Locked` if another engine has the folder open; `Misnamed`; `System`; `Memory`.
+    /// `Locked` if another engine has the folder open; `Misnamed` if a name ends like that of a log file but
+    /// isn't one; `System`; `Memory`.
     pub(crate) fn open(rt: &'a R, path: &'a str) -> FolderResult<Folder<'a, R>> {
         if !is_there(rt, path)? {
             about_path(rt, path, fs::create_dir(rt, path))?;
@@ -61,11 +71,12 @@ impl<'a, R: FolderHost> Folder<'a, R> {
     }
 
     /// Opens the folder at `path` with all log files in it, to read them, and locks it with a shared lock.
+    /// Nothing is made or synced.
     ///
     /// # Errors
     ///
-    /// `Locked` if an engine that writes has the folder open; `Misnamed`; `System`, also if there is no
-    /// folder; `Memory`.
+    /// `Locked` if an engine that writes has the folder open; `Misnamed` if a name ends like that of a log
+    /// file but isn't one; `System`, also if there is no folder; `Memory`.
     pub(crate) fn open_to_read(rt: &'a R, path: &'a str) -> FolderResult<Folder<'a, R>> {
         let locked = LockedFolder::shared(rt, path)?;
         let mut how = OpenOptions::new();
@@ -75,7 +86,7 @@ impl<'a, R: FolderHost> Folder<'a, R> {
         Ok(folder)
     }
 
-    /// Returns the folder at `path`, which is `locked`, and of which no file is open yet.
+    /// Returns the folder at `path`, which is `locked`, without any open file.
     fn of(rt: &'a R, path: &'a str, locked: LockedFolder) -> Folder<'a, R> {
         let alloc = rt.alloc();
         Folder {
@@ -88,12 +99,12 @@ impl<'a, R: FolderHost> Folder<'a, R> {
         }
     }
 
-    /// Opens all log files in the folder, as `how` says. Other names are left alone.
+    /// Opens all log files in the folder, as `how` says. Other files are left alone.
     ///
     /// # Errors
     ///
-    /// `Misnamed` for a name that ends like that of a log file and is none; `System`; `Memory`. Some of the
-    /// files are open then.
+    /// `Misnamed` if a name ends like that of a log file but isn't one; `System`; `Memory`. Some of the files
+    /// are open then.
     fn open_files(&mut self, how: &OpenOptions) -> FolderResult<()> {
         for entry in about_path(self.rt, self.path, fs::read_dir(self.rt, self.path))? {
             let entry = about_path(self.rt, self.path, entry)?;
@@ -102,11 +113,11 @@ impl<'a, R: FolderHost> Folder<'a, R> {
         Ok(())
     }
 
-    /// Opens the log file with this name, if the name is that of one.
+    /// Opens the file `name` as `how` says, if that is the name of a log file.
     ///
     /// # Errors
     ///
-    /// `Misnamed` for a name that ends like that of a log file and is none; `Refused` where no regular file has it; `System`; `Memory`.
+    /// `Misnamed` if `name` ends like that of a log file but isn't one; `Refused` if it isn't a regular file; `System`; `Memory`.
     fn open_named(&mut self, how: &OpenOptions, name: &str) -> FolderResult<()> {
         let alloc = self.rt.alloc();
         let folder = self.path;
@@ -123,11 +134,11 @@ impl<'a, R: FolderHost> Folder<'a, R> {
         }
     }
 
-    /// Syncs the names in the folder, and its own name in the folder above.
+    /// Syncs the names in the folder, and the folder's own name in its parent.
     ///
     /// # Errors
     ///
-    /// Those of the system, and want of memory.
+    /// Those of the system, and that of a lack of memory.
     fn sync_names(&self) -> io::Result<()> {
         self.locked.entry.sync_all()?;
         let parent = format!(in self.rt.alloc(); "{}/..", self.path)?;
@@ -189,12 +200,12 @@ impl<'a, R: FolderHost> Folder<'a, R> {
         Ok(())
     }
 
-    /// Checks that no file of `queue` begins with raft-engine's header, by reading its first bytes. No batch
-    /// can be read in such a file, so all of it would be taken for a torn tail, and cut.
+    /// Checks that no file of `queue` begins with raft-engine's header. No batch can be read in such a file,
+    /// so all of it would be taken for a torn tail, and cut off.
     ///
     /// # Errors
     ///
-    /// `Foreign` for such a file; `System`; `Memory`.
+    /// `Foreign` if a file does; `System`; `Memory`.
     pub(crate) fn check_headers(&self, queue: LogQueue) -> FolderResult<()> {
         for (seq, file) in self.files(queue) {
             let id = FileId::new(queue, *seq);
@@ -207,12 +218,11 @@ impl<'a, R: FolderHost> Folder<'a, R> {
         Ok(())
     }
 
-    /// Returns the number and all bytes of each file of `queue`, oldest first, if none begins with
-    /// raft-engine's header (see [`check_headers`](Folder::check_headers)).
+    /// Returns the number and all bytes of each file of `queue`, oldest first.
     ///
     /// # Errors
     ///
-    /// `Foreign` for such a file; `System`; `Memory`.
+    /// `Foreign` if a file begins with raft-engine's header ([`Folder::check_headers`]); `System`; `Memory`.
     pub(crate) fn bytes_of_files(&self, queue: LogQueue) -> FolderResult<Vec<(FileSeq, Vec<u8>)>> {
         let mut files = Vec::new(self.rt.alloc());
         for (seq, file) in self.files(queue) {
@@ -227,18 +237,18 @@ impl<'a, R: FolderHost> Folder<'a, R> {
         Ok(files)
     }
 
-    /// Writes `bytes` behind those of the last file of `queue`.
+    /// Writes `bytes` to the end of the last file of `queue`, without syncing it.
     ///
     /// # Errors
     ///
-    /// `Refused` if the queue has no file; `System`; `Memory`. Some of the bytes may be there then: for want
-    /// of room they are taken off again, but that may fail too.
+    /// `Refused` if the queue has no file; `System`; `Memory`. Some of the bytes may be there then. If there
+    /// was no room for all, they are cut off again, but that may fail too.
     pub(crate) fn append(&self, queue: LogQueue, bytes: &[u8]) -> FolderResult<()> {
         let (id, file) = self.last(queue)?;
         self.about_file(id, write_all_or_nothing(file, bytes))
     }
 
-    /// Syncs the last file of `queue`, if it has one. The older ones were synced when a newer one was begun.
+    /// Syncs the last file of `queue`, if it has one. The older files were synced when newer ones were begun.
     ///
     /// # Errors
     ///
@@ -250,13 +260,13 @@ impl<'a, R: FolderHost> Folder<'a, R> {
         }
     }
 
-    /// Makes the file `id`, whose number is above that of the queue's last one. Its name is on the disk
+    /// Makes the file `id`, whose number must be above that of the queue's last file. Its name is on the disk
     /// then.
     ///
     /// # Errors
     ///
-    /// `Refused` if its number isn't above: nothing has changed then. `System`, also if there is a file of
-    /// that name; `Memory`. The file may be on the disk then, but isn't listed.
+    /// `Refused` if its number isn't above; nothing has changed then. `System`, also if there is a file with
+    /// that name; `Memory`. The file may be on the disk then, but isn't listed here.
     pub(crate) fn create(&mut self, id: FileId) -> FolderResult<()> {
         if let Some((last, _)) = self.files(id.queue).last_key_value() {
             if id.seq <= *last {
@@ -272,12 +282,12 @@ impl<'a, R: FolderHost> Folder<'a, R> {
         Ok(())
     }
 
-    /// Deletes the oldest file of `queue`, but not its last one. Its name is gone from the disk then.
+    /// Deletes the oldest file of `queue`, unless it is the only one. Its name is gone from the disk then.
     ///
     /// # Errors
     ///
-    /// `Refused` if the queue has fewer than two files: nothing has changed then. `System`; `Memory`. The
-    /// file isn't listed any more then, though it may still be on the disk.
+    /// `Refused` if the queue has fewer than two files; nothing has changed then. `System`; `Memory`. The
+    /// file is no longer listed here then, but it may still be on the disk.
     pub(crate) fn delete_oldest(&mut self, queue: LogQueue) -> FolderResult<()> {
         if self.files(queue).len() < 2 {
             return Err(self.refusal("a queue keeps its last file"));
@@ -291,12 +301,13 @@ impl<'a, R: FolderHost> Folder<'a, R> {
         Ok(())
     }
 
-    /// Cuts the last file of `queue` to `len` bytes, if it has more. What is cut off is first written to a
-    /// file beside it, which keeps it; both are on the disk then.
+    /// Cuts the last file of `queue` to its first `len` bytes, if it has more. What is cut off is first
+    /// written to a file beside it ([`KeptTail`]). Both files are synced then, and so is the new name.
     ///
     /// # Errors
     ///
-    /// `Refused`; `System`; `Memory`. Nothing has been cut then that isn't kept.
+    /// `Refused` if the queue has no file, or too much was cut off at this offset before; `System`; `Memory`.
+    /// The file may be cut then, or not; what was cut off is kept.
     pub(crate) fn truncate(&mut self, queue: LogQueue, len: u64) -> FolderResult<()> {
         let (id, file) = self.last(queue)?;
         let old = self.len_of(id, file)?;
@@ -313,7 +324,7 @@ impl<'a, R: FolderHost> Folder<'a, R> {
         Ok(())
     }
 
-    /// Returns what was cut off the files, in order.
+    /// Returns what was cut off files since the folder was opened, in order.
     pub(crate) fn kept(&self) -> &[KeptTail] {
         &self.kept
     }
@@ -322,7 +333,8 @@ impl<'a, R: FolderHost> Folder<'a, R> {
     ///
     /// # Errors
     ///
-    /// `Refused` if the file isn't there; `System`, also if the file ends before the place does; `Memory`.
+    /// `Refused` if the queue has no such file; `System`, also if the file ends before the place does;
+    /// `Memory`.
     pub(crate) fn read(&self, place: FileBlockHandle) -> FolderResult<Vec<u8>> {
         match self.files(place.id.queue).get(&place.id.seq) {
             Some(file) => self.about_file(place.id, self.bytes_at(file, place.offset, place.len)),
@@ -330,18 +342,18 @@ impl<'a, R: FolderHost> Folder<'a, R> {
         }
     }
 
-    /// Returns `len` bytes of `file` from `offset` on.
+    /// Returns `len` bytes of `file`, from `offset` on.
     ///
     /// # Errors
     ///
-    /// Those of the system, also if the file ends before, and want of memory.
+    /// Those of the system, also if the file ends before; that of a lack of memory.
     fn bytes_at(&self, file: &File, offset: u64, len: usize) -> io::Result<Vec<u8>> {
         let mut bytes = vec![in self.rt.alloc(); 0; len]?;
         file.read_exact_at(&mut bytes, offset)?;
         Ok(bytes)
     }
 
-    /// Returns the length of `file` in bytes. `id` names it if that fails.
+    /// Returns the length of `file` in bytes. `id` is its name for the text of an error.
     ///
     /// # Errors
     ///
@@ -353,11 +365,11 @@ impl<'a, R: FolderHost> Folder<'a, R> {
         }
     }
 
-    /// Returns the last file of `queue`.
+    /// Returns the last file of `queue`, with its name.
     ///
     /// # Errors
     ///
-    /// `Refused` if the queue has none; `Memory`.
+    /// `Refused` if the queue has no file; `Memory` if there is none for the path in it.
     fn last(&self, queue: LogQueue) -> FolderResult<(FileId, &File)> {
         match self.files(queue).last_key_value() {
             Some((seq, file)) => Ok((FileId::new(queue, *seq), file)),
@@ -375,11 +387,11 @@ impl<'a, R: FolderHost> Folder<'a, R> {
         Ok(format!(in self.rt.alloc(); "{}/{name}", self.path)?)
     }
 
-    /// Adds the path of the file `id` to a refusal of the system, or returns what the system answered.
+    /// Returns the value in `answer`, or adds the path of the file `id` to the system's error in it.
     ///
     /// # Errors
     ///
-    /// `System` for such a refusal; `Memory` if there is none for the path.
+    /// `System` if `answer` is an error; `Memory` if there is none for the path.
     fn about_file<T>(&self, id: FileId, answer: io::Result<T>) -> FolderResult<T> {
         match answer {
             Ok(value) => Ok(value),
@@ -397,11 +409,11 @@ impl<'a, R: FolderHost> Folder<'a, R> {
     }
 }
 
-/// Refuses what isn't a regular file: to open a pipe might take for ever.
+/// Refuses what isn't a regular file: opening a pipe might wait for ever.
 ///
 /// # Errors
 ///
-/// `Refused` where something else is at `path`; `System`; `Memory`.
+/// `Refused` if something else is at `path`; `System`; `Memory`.
 fn refuse_irregular<R: FolderHost>(rt: &R, path: &str) -> FolderResult<()> {
     let metadata = about_path(rt, path, fs::metadata(rt, path))?;
     if metadata.is_file() {
@@ -411,7 +423,7 @@ fn refuse_irregular<R: FolderHost>(rt: &R, path: &str) -> FolderResult<()> {
     Err(FolderError::Refused(path, "it isn't a regular file"))
 }
 
-/// Tests whether there is something at `path`.
+/// Tests whether there is a file or a folder at `path`.
 ///
 /// # Errors
 ///
@@ -420,11 +432,11 @@ fn is_there<R: FolderHost>(rt: &R, path: &str) -> FolderResult<bool> {
     about_path(rt, path, fs::exists(rt, path))
 }
 
-/// Adds `path` to a refusal of the system, or returns what the system answered.
+/// Returns the value in `answer`, or adds `path` to the system's error in it.
 ///
 /// # Errors
 ///
-/// `System` for such a refusal; `Memory` if there is none for the path.
+/// `System` if `answer` is an error; `Memory` if there is none for the path.
 fn about_path<R: FolderHost, T>(rt: &R, path: &str, answer: io::Result<T>) -> FolderResult<T> {
     match answer {
         Ok(value) => Ok(value),

@@ -1,4 +1,4 @@
-//! The files of an engine in a folder.
+//! [`FolderFiles`]: the files of an engine in a folder.
 
 ghost use Rattle.std.specs.Prelude.{◌≡◌, [], ◌∷◌, map, IfOk};
 ghost use Rattle.raft_base.specs.declared.pipe_log.LogQueue.TheVariants.{Append, Rewrite};
@@ -12,40 +12,45 @@ use crate::read_folder::FolderFile;
 use raft_base::{Error, FileBlockHandle, FileId, FileSeq, LogQueue, Result};
 use raft_files::{Asked, EngineFiles, NotesFound};
 
-/// The files of both queues in a folder, as `0000000000000001.raftlog` and `0000000000000001.rewrite`, and a file `LOCK`. It and
-/// the folder itself are locked for as long as this value lives. Other names are left alone.
+/// The files of both queues in a folder, named `0000000000000001.raftlog` and `0000000000000001.rewrite`. The folder and a
+/// file `LOCK` in it are locked for as long as this value lives. Files with other names are left alone.
 ///
-/// What an opened engine cuts off a file is kept first, in a file beside it whose name says where it stood:
-/// `0000000000000001.raftlog.4096.cut`, and `0000000000000001.raftlog.4096.2.cut` where something else was cut there before.
-/// None is ever read or deleted: look at them where a batch is missed, and delete them when you like.
+/// What an opened engine cuts off a file is kept first, in a file beside it whose name says where it was:
+/// `0000000000000001.raftlog.4096.cut`, or `0000000000000001.raftlog.4096.2.cut` if something else was cut off there before.
+/// Such files are never read as log files, nor deleted: look at them if a batch is missing, and delete them when you like.
 ///
 /// A call is noted before anything is done that may be left half done. After an `Err` of any call but `read`, whatever its
-/// reason, every later call fails with `Failed`: what the disk has is found when the folder is opened again.
+/// reason, every later call fails with `Failed`: open the folder again to find what the disk has.
 #[derive(Drop)]
 pub struct FolderFiles<'a, R: FolderHost> {
+    /// The folder and its open files.
     folder: Folder<'a, R>,
+    /// What was asked of the files, for contracts alone.
     asked: Asked,
-    /// Whether a call has begun and not ended well.
+    /// Whether a call that changes files has begun and hasn't succeeded.
     has_failed: bool,
 }
 
-/// What a folder has when it is opened: its files, and the bytes of those of each queue, oldest first.
+/// What was found in a folder: its files, and their bytes.
 #[derive(Drop)]
 pub struct FoundFolder<'a, R: FolderHost> {
+    /// The opened files, which have noted what was found.
     pub files: FolderFiles<'a, R>,
+    /// The number and the bytes of each file of the append queue, oldest first.
     pub append: Vec<(FileSeq, Vec<u8>)>,
+    /// The number and the bytes of each file of the rewrite queue, oldest first.
     pub rewrite: Vec<(FileSeq, Vec<u8>)>,
 }
 
 impl<'a, R: FolderHost> FolderFiles<'a, R> {
-    /// Opens the folder at `path` with all log files in it, and locks it. Their bytes and their names, and
-    /// the name of the folder, are on the disk then. A folder that isn't there is made, in one that is. Hand
+    /// Opens the folder at `path` with all log files in it, locks it, and reads all files. Their bytes and names, and the
+    /// name of the folder, are on the disk then. If the folder isn't there it is made, but its parent must be there. Hand
     /// what is found to `Engine::open`.
     ///
     /// # Errors
     ///
-    /// `Locked` if another engine has the folder open; `Misnamed` if a name ends like that of a log file and
-    /// is none; `Foreign` if a file is one of raft-engine, which begins with a header; `System`; `Memory`.
+    /// `Locked` if another engine has the folder open; `Misnamed` if a name ends like that of a log file but isn't one;
+    /// `Foreign` if a file begins with raft-engine's header; `System`; `Memory`.
     pub fn open(rt: &'a R, path: &'a str) -> FolderResult<FoundFolder<'a, R>>
         ensures { IfOk result (λ found. found.files.asked.asks
             ≡ ask Rewrite (Found (map file_shown found.rewrite.items))
@@ -69,8 +74,8 @@ impl<'a, R: FolderHost> FolderFiles<'a, R> {
         })
     }
 
-    /// Opens the folder at `path` as [`FolderFiles::open`] does, but reads no more of its files than how they
-    /// begin, and notes none as found: for `open_in_pieces` of `raft_opening`, which reads them.
+    /// Opens the folder at `path` with all log files in it and locks it, as [`FolderFiles::open`] does, but reads only the
+    /// first bytes of each file, and notes none as found. `open_in_pieces` of `raft_opening` then reads and notes them.
     ///
     /// # Errors
     ///
@@ -115,12 +120,12 @@ impl<'a, R: FolderHost> FolderFiles<'a, R> {
         self.folder.path_of(id)
     }
 
-    /// Returns what was cut off the files since the folder was opened, in order.
+    /// Returns what was cut off files since the folder was opened, in order.
     pub fn kept(&self) -> &[KeptTail] {
         self.folder.kept()
     }
 
-    /// Begins a call: it counts as failed until it ends well.
+    /// Begins a call that changes files: it counts as failed until it succeeds.
     ///
     /// # Errors
     ///
@@ -139,11 +144,12 @@ impl<'a, R: FolderHost> FolderFiles<'a, R> {
 impl<R: FolderHost> EngineFiles for FolderFiles<'_, R> {
     ghost asked = { λ files. files.asked.asks };
 
-    /// Writes `bytes` behind those of the last file of `queue`, which isn't synced.
+    /// Writes `bytes` to the end of the last file of `queue`, without syncing it.
     ///
     /// # Errors
     ///
-    /// Those of writing, and `Failed` after an earlier error. Every later call fails then.
+    /// Those of writing, and `Failed` after an earlier error. Some of the bytes may be there then, and every later call
+    /// fails.
     fn append(&mut self, queue: LogQueue, bytes: &[u8]) -> Result<()> {
         self.begin()?;
         self.asked.put(queue, bytes);
@@ -152,12 +158,12 @@ impl<R: FolderHost> EngineFiles for FolderFiles<'_, R> {
         Ok(())
     }
 
-    /// Syncs the last file of `queue`, and makes one numbered `seq` behind it. Its name is on the disk then.
+    /// Syncs the last file of `queue`, and makes a new one with the number `seq` after it, whose name is on the disk then.
     ///
     /// # Errors
     ///
-    /// Those of the sync and of making the file, and `Failed` after an earlier error. Every later call fails
-    /// then.
+    /// Those of the sync and of making the file, and `Failed` after an earlier error. The new file may be there then, or not,
+    /// and every later call fails.
     fn rotate(&mut self, queue: LogQueue, seq: FileSeq) -> Result<()> {
         self.begin()?;
         self.folder.sync(queue)?;
@@ -167,12 +173,12 @@ impl<R: FolderHost> EngineFiles for FolderFiles<'_, R> {
         Ok(())
     }
 
-    /// Syncs the last file of `queue`. Names need no sync: they are synced when a file is made or deleted.
+    /// Syncs the last file of `queue`, which makes everything that was asked of the queue survive a crash: older files were
+    /// synced when newer ones were begun, and names when files were made or deleted.
     ///
     /// # Errors
     ///
-    /// Those of the sync, which is noted as failed, and `Failed` after an earlier error. Every later call
-    /// fails then.
+    /// Those of the sync, which is noted as failed, and `Failed` after an earlier error. Every later call fails then.
     fn sync(&mut self, queue: LogQueue) -> Result<()> {
         self.begin()?;
         let synced = self.folder.sync(queue);
@@ -185,12 +191,12 @@ impl<R: FolderHost> EngineFiles for FolderFiles<'_, R> {
         Ok(())
     }
 
-    /// Deletes the oldest file of `queue`. Its name is gone from the disk then.
+    /// Deletes the oldest file of `queue`, whose name is gone from the disk then.
     ///
     /// # Errors
     ///
-    /// Those of deleting it, and `Failed` after an earlier error. The file may be gone then, or not, and
-    /// every later call fails.
+    /// Those of deleting it, and `Failed` after an earlier error. The file may be gone then, or not, and every later call
+    /// fails.
     fn delete_oldest(&mut self, queue: LogQueue) -> Result<()> {
         self.begin()?;
         self.asked.delete(queue);
@@ -199,12 +205,13 @@ impl<R: FolderHost> EngineFiles for FolderFiles<'_, R> {
         Ok(())
     }
 
-    /// Cuts the last file of `queue` to `len` bytes, if it has more, and keeps what is cut off in a file
-    /// beside it.
+    /// Cuts the last file of `queue` to its first `len` bytes, if it has more. What is cut off is kept in a file beside it,
+    /// and all of this is synced.
     ///
     /// # Errors
     ///
-    /// Those of keeping and cutting it, and `Failed` after an earlier error. Every later call fails then.
+    /// Those of keeping and cutting it, and `Failed` after an earlier error. The file may be cut then, or not, and every
+    /// later call fails.
     fn truncate(&mut self, queue: LogQueue, len: u64) -> Result<()> {
         self.begin()?;
         self.asked.cut(queue, len);
@@ -213,12 +220,12 @@ impl<R: FolderHost> EngineFiles for FolderFiles<'_, R> {
         Ok(())
     }
 
-    /// Returns the bytes at `place`.
+    /// Returns the bytes at `place`, and notes them.
     ///
     /// # Errors
     ///
-    /// Those of reading, after which later calls still serve, and `Failed` after an earlier error of another
-    /// call.
+    /// Those of reading, after which later calls can still succeed; `Failed` after an earlier error of another call. Nothing
+    /// is noted then.
     fn read(&mut self, place: FileBlockHandle) -> Result<Vec<u8>> {
         if self.has_failed {
             return Err(Error::Failed);
@@ -230,14 +237,14 @@ impl<R: FolderHost> EngineFiles for FolderFiles<'_, R> {
 }
 
 impl<R: FolderHost> NotesFound for FolderFiles<'_, R> {
-    /// Takes `found` as what was asked so far.
+    /// Makes `found`, which notes the found files of both queues, the list of what was asked so far.
     fn note_found(&mut self, found: Asked) {
         self.asked = found;
     }
 }
 
-/// Opens the folder at `path` with all log files in it, and syncs them. Their bytes and their names, and the
-/// name of the folder, are on the disk then.
+/// Opens the folder at `path` with all log files in it, to change them, locks it, and syncs all files. Their bytes and names,
+/// and the name of the folder, are on the disk then.
 ///
 /// # Errors
 ///

@@ -1,7 +1,8 @@
 //! The log files of an engine in a folder.
 //!
-//! The names in it are those of the Rust crate in `rust/`: `0000000000000001.raftlog` and `0000000000000001.rewrite`, a file `LOCK`,
-//! and `0000000000000001.raftlog.4096.cut` for what was cut off a file at an offset. So either opens a folder of the other.
+//! The files are named as those of the Rust crate in `rust/`: `0000000000000001.raftlog` in the append queue,
+//! `0000000000000001.rewrite` in the rewrite queue, a file `LOCK`, and `0000000000000001.raftlog.4096.cut` with what was cut
+//! off a file at an offset. So each of the two opens folders of the other.
 #![tactic(auto)]
 
 mod aside;

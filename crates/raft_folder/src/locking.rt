@@ -6,25 +6,26 @@ use std::alloc::Global;
 use std::fs;
 use std::fs::{File, OpenOptions, TryLockError};
 
-/// The name of the file that is locked beside the folder itself: raft-engine looks at that file alone.
+/// The name of the file that is locked besides the folder itself. raft-engine locks only that file.
 const LOCK: &str = "LOCK";
 
 /// A folder that is locked for as long as this value lives.
 #[derive(Drop)]
 pub(crate) struct LockedFolder {
-    /// The folder itself, which is synced where a name in it is made or deleted. Nobody can take its lock away by deleting a file.
+    /// The folder itself, open and locked. It is synced when a name in it is made or deleted. Its lock can't be
+    /// circumvented by deleting a file.
     pub(crate) entry: File,
-    /// The file `LOCK`, where there is one.
+    /// The file `LOCK`, open and locked; `None` for a reader if there is no such file.
     lock: Option<File>,
 }
 
 impl LockedFolder {
-    /// Locks the folder at `path`, and the file `LOCK` in it, which is made if it isn't there, for one who
-    /// changes the folder.
+    /// Locks the folder at `path` and the file `LOCK` in it for an engine that changes the folder. `LOCK` is made if it
+    /// isn't there.
     ///
     /// # Errors
     ///
-    /// `Locked` if either lock is held by another; `System`; `Memory`.
+    /// `Locked` if anyone else has locked the folder or `LOCK`; `System`; `Memory`.
     pub(crate) fn exclusive<R: FolderHost>(rt: &R, path: &str) -> FolderResult<LockedFolder> {
         let alloc = rt.alloc();
         let entry = open_folder(rt, path)?;
@@ -43,12 +44,12 @@ impl LockedFolder {
         })
     }
 
-    /// Locks the folder at `path`, and the file `LOCK` in it, if it is there, for one who reads the folder
-    /// and may be allowed no more. Others may read it at the same time.
+    /// Locks the folder at `path` and the file `LOCK` in it, if it is there, for a reader, who may have no permission
+    /// to write. Others may read at the same time.
     ///
     /// # Errors
     ///
-    /// `Locked` if an engine that writes has it open; `System`; `Memory`.
+    /// `Locked` if an engine that writes has locked the folder or `LOCK`; `System`; `Memory`.
     pub(crate) fn shared<R: FolderHost>(rt: &R, path: &str) -> FolderResult<LockedFolder> {
         let alloc = rt.alloc();
         let entry = open_folder(rt, path)?;
@@ -84,11 +85,11 @@ fn open_folder<R: FolderHost>(rt: &R, path: &str) -> FolderResult<File> {
     }
 }
 
-/// Checks that a lock on `path` was taken.
+/// Checks that `locked`, the answer to a try to lock `path`, says that the lock was taken.
 ///
 /// # Errors
 ///
-/// `Locked` if another holds it; `System`; `Memory` if there is none for the path.
+/// `Locked` if someone else has it; `System`; `Memory` if there is none for the path.
 fn taken(
     alloc: Global,
     path: &str,

@@ -1,19 +1,19 @@
-//! The names of the files in a folder.
+//! The names of log files in a folder, and of files that keep what was cut off them.
 
 use raft_base::{AllocResult, FileId, LogQueue};
 use std::alloc::Global;
 
-/// What a name in a folder says.
+/// What a name in a folder stands for.
 pub(crate) enum Meaning {
-    /// It is that of this log file.
+    /// The name is that of this log file.
     Log(FileId),
-    /// It ends like that of a log file, and is none.
+    /// The name ends like that of a log file but isn't one.
     Misnamed,
-    /// It has nothing to do with log files.
+    /// The name has nothing to do with log files.
     Other,
 }
 
-/// Returns how the names of the files of `queue` end: `.raftlog` or `.rewrite`.
+/// Returns the ending of the names of the files of `queue`: `.raftlog` or `.rewrite`.
 fn ending_of(queue: LogQueue) -> &'static str {
     match queue {
         LogQueue::Append => ".raftlog",
@@ -21,7 +21,8 @@ fn ending_of(queue: LogQueue) -> &'static str {
     }
 }
 
-/// Returns the name of the log file `id`, as `0000000000000001.raftlog`: its number in at least 16 digits.
+/// Returns the name of the log file `id`, such as `0000000000000001.raftlog`: its number in at least 16
+/// digits, and the ending of its queue.
 ///
 /// # Errors
 ///
@@ -31,9 +32,9 @@ pub(crate) fn name_of(alloc: Global, id: FileId) -> AllocResult<String> {
     format!(in alloc; "{:016}{ending}", id.seq)
 }
 
-/// Returns the name of the file that keeps what was cut off the log file `id` at `offset`, as
-/// `0000000000000001.raftlog.4096.cut`; from the second one on that was cut there with its number `nth`, as
-/// `0000000000000001.raftlog.4096.2.cut`.
+/// Returns the name of the file that keeps what was cut off the log file `id` at `offset`, such as
+/// `0000000000000001.raftlog.4096.cut`. If other bytes were cut off there before, `nth` is above 1 and part
+/// of the name, as in `0000000000000001.raftlog.4096.2.cut`.
 ///
 /// # Errors
 ///
@@ -46,11 +47,11 @@ pub(crate) fn name_of_cut(alloc: Global, id: FileId, offset: u64, nth: u64) -> A
     format!(in alloc; "{:016}{ending}.{offset}.{nth}.cut", id.seq)
 }
 
-/// Returns whether `name` is that of a log file, and of which one.
+/// Returns what `name`, a name in a folder, stands for.
 ///
 /// # Errors
 ///
-/// `AllocError` if there is no memory to spell the name that the file should have.
+/// `AllocError` if there is no memory for the name that a log file should have.
 pub(crate) fn meaning_of(alloc: Global, name: &str) -> AllocResult<Meaning> {
     for queue in [LogQueue::Append, LogQueue::Rewrite] {
         if let Some(number) = name.strip_suffix(ending_of(queue)) {
@@ -60,8 +61,8 @@ pub(crate) fn meaning_of(alloc: Global, name: &str) -> AllocResult<Meaning> {
     Ok(Meaning::Other)
 }
 
-/// Returns whether `name`, which ends like those of `queue` behind `number`, is that of a log file: only if
-/// it is spelled as [`name_of`] spells it.
+/// Returns what `name` stands for, which is `number` with the ending of the files of `queue`: a log file only
+/// if it is exactly as [`name_of`] makes it.
 ///
 /// # Errors
 ///

@@ -1,4 +1,4 @@
-//! A folder of log files that is only read.
+//! [`ReadFolder`]: a folder of log files that is only read.
 
 use crate::errors::FolderResult;
 use crate::folder::Folder;
@@ -8,17 +8,18 @@ use raft_base::{FileId, FileSeq, LogQueue};
 /// A log file in a folder.
 #[derive(Clone, Copy, PartialEq, Eq, Debug, Drop)]
 pub struct FolderFile {
-    /// Its number.
+    /// The number of the file in its queue.
     pub seq: FileSeq,
-    /// How many bytes it has.
+    /// The length of the file in bytes.
     pub len: u64,
 }
 
-/// A folder of log files that is open for reading: nothing in it is made, changed or synced, so it may be one that can only be
-/// read. It has a shared lock, as the file `LOCK` has, if it is there: others may read it at the same time, but no engine writes to it,
-/// which would move and delete what is read, or cut it.
+/// A folder of log files that is open for reading alone: nothing in it is made, changed or synced, so a permission to read is
+/// enough. It has shared locks on the folder and, if it is there, the file `LOCK`. So others may read at the same time, but
+/// no engine can open the folder, which might move, delete or cut off what is read.
 #[derive(Drop)]
 pub struct ReadFolder<'a, R: FolderHost> {
+    /// The folder and its open files.
     folder: Folder<'a, R>,
 }
 
@@ -27,8 +28,8 @@ impl<'a, R: FolderHost> ReadFolder<'a, R> {
     ///
     /// # Errors
     ///
-    /// `Locked` if an engine that writes has the folder open; `Misnamed` if a name ends like that of a log
-    /// file and is none; `System`, also if there is no folder; `Memory`.
+    /// `Locked` if an engine that writes has the folder open; `Misnamed` if a name ends like that of a log file but isn't
+    /// one; `System`, also if there is no folder; `Memory`.
     pub fn open(rt: &'a R, path: &'a str) -> FolderResult<ReadFolder<'a, R>> {
         let folder = Folder::open_to_read(rt, path)?;
         Ok(ReadFolder { folder })

@@ -1,4 +1,9 @@
-//! Laws of contexts, which hold what was read of a history.
+//! Laws of contexts, which hold what was read of a history: tables, region marks, waiting atomic groups,
+//! cleaned regions and files.
+//!
+//! A context *stands for* a history if its files, waiting groups and cleaned regions are those of the history
+//! and, in the append queue, its tables and region marks stand for the history's steps; it stands for it
+//! *exactly* if they do so in the rewrite queue too.
 #![tactic(auto, using(crate::proofs::Laws::context_laws))]
 
 ghost use Rattle.std.specs.Prelude.{◌≡◌, ◌⊎◌, ◌↔◌, ◌+◌, ◌≤◌, ℕ, List, [], ◌∷◌, ◌++◌, Some, None, true, false};
@@ -6,15 +11,15 @@ ghost use Rattle.raft_history.specs.Common.{AllByRecursion, LogQueue, Rewrite, R
 ghost use Rattle.raft_history.specs.Common.{whole_groups, waiting_records, records_in_wholes, MarkedRegions, region_steps_of_wholes, Context, StandsFor, IsExactFor, Suits, files_of, follows, new_context, merged_context, taken_in};
 ghost use Rattle.raft_history.specs.Common.{merged_with, AreMerged, AreRegionsRefused, kept_of, kept_by, IsAtMost};
 
-/// States that a new context stands exactly for the empty history.
+/// States that a new context stands exactly for the empty history. This is a law: it computes nothing.
 pub fn new_contexts_stand_exactly()
     ensures { IsExactFor new_context [] }
 {}
 
-/// States what a context stands for after one more batch. If it stood for a history, it then stands for that
-/// history and the batch; exactly, if it did so before. The batch is refused only if no sound history goes on
-/// with it, and a batch with which a sound history goes on is of the context's queue, of a file that may
-/// follow, and may be in that file.
+/// States what a context stands for after one more batch. If it stood for a history, it then stands for the
+/// history with the batch at its end; exactly, if it did so before. The batch is refused only if the history
+/// with it isn't sound. If the history with it is sound, then the batch is of the context's queue, its file
+/// may follow the last one, and its items are allowed in that file. This is a law: it computes nothing.
 pub fn batches_are_taken_in()
     ensures stands { (c d : Context) (h : List Event) (e : Event) → Suits e.file.queue c.files
         → follows c.files (files_of (e ∷ [])) ≡ true → AreInFile e.file e.items
@@ -33,9 +38,10 @@ pub fn batches_are_taken_in()
         × AreInFile e.file e.items × HaveStatus e.file.queue e.items }
 {}
 
-/// States what two merged contexts stand for: if they stood for two neighboring histories, for both, one
-/// after the other; exactly, if both did and the effects of that history are apart. The merge is refused only
-/// if that history isn't sound; in the rewrite queue, only for its files.
+/// States what two merged contexts stand for. If they stood for two neighboring histories, the result stands
+/// for both, one after the other; exactly, if both did and the effects of the whole are apart. The merge is
+/// refused only if the whole history isn't sound; in the rewrite queue, only because of its files. This is a
+/// law: it computes nothing.
 pub fn merges_stand_for_both()
     ensures stands { (q : LogQueue) (c d e : Context) (h k : List Event) → Suits q c.files
         → Suits q d.files → StandsFor c h → StandsFor d k → merged_context q c d ≡ Some e
@@ -50,8 +56,9 @@ pub fn merges_stand_for_both()
         → merged_context Rewrite c d ≡ None → ⊥ }
 {}
 
-/// States what [`merges_stand_for_both`] states, of contexts whose regions are merged one by one, in any
-/// order: they may be joined into the older context or into the newer one.
+/// States what two contexts stand for whose regions are merged one by one, in any order, into the older or
+/// into the newer context. It is what [`merges_stand_for_both`] says of a merge at once. This is a law: it
+/// computes nothing.
 pub fn regions_merge_one_by_one()
     ensures stands { (q : LogQueue) (c d : Context) (h k : List Event) (regions : MarkedRegions)
         → Suits q c.files → Suits q d.files → StandsFor c h → StandsFor d k
@@ -70,8 +77,8 @@ pub fn regions_merge_one_by_one()
     ensures rewrite { (c d : Context) → AreRegionsRefused Rewrite c d → ⊥ }
 {}
 
-/// States that the merge that takes one region after another gives what merging them one by one, in any
-/// order, gives, and is refused exactly when that is: so what is said of either holds of both.
+/// States that a merge at once gives what merging the regions one by one gives, in any order, and is refused
+/// exactly if that is. So what is said of either holds of both. This is a law: it computes nothing.
 pub fn merges_go_region_by_region()
     ensures same { (q : LogQueue) (c d e : Context) → (merged_context q c d ≡ Some e)
         ↔ ((follows c.files d.files ≡ true) × AreMerged q c d e.regions
@@ -81,29 +88,31 @@ pub fn merges_go_region_by_region()
 {}
 
 /// States that a context that stands exactly for a history has the tables and cleaned regions that one
-/// reading of it gives.
+/// reading of the history gives. This is a law: it computes nothing.
 pub fn exact_contexts_are_one_reading()
     ensures { (q : LogQueue) (c : Context) (h : List Event) → IsExactFor c h → Suits q c.files
         → IsOneReading q h c.regions.tables c.cleaned }
 {}
 
-/// States that a context that stands exactly for a history holds at most what the history may hold, number by
-/// number.
+/// States that a context that stands exactly for a history holds no more than the history may hold, in each
+/// of its counts. This is a law: it computes nothing.
 pub fn exact_contexts_keep_little()
     ensures { (q : LogQueue) (c : Context) (h : List Event) (tables : Tables) (cleaned : List ℕ)
         → IsExactFor c h → Suits q c.files → IsOneReading q h tables cleaned
         → IsAtMost (kept_of c) (kept_by q h tables) }
 {}
 
-/// States that contexts that stand exactly for one history hold the same, whatever merges made them.
+/// States that contexts that stand exactly for the same history hold the same, whatever merges made them.
+/// This is a law: it computes nothing.
 pub fn exact_contexts_agree()
     ensures { (c d : Context) (h : List Event) → IsExactFor c h → IsExactFor d h
         → (c.regions.tables ≡ d.regions.tables) × (c.groups ≡ d.groups) × (c.cleaned ≡ d.cleaned)
         × (c.files ≡ d.files) }
 {}
 
-/// States that a join of two neighbors makes no records: those that wait after it, and those of the groups
-/// that became whole by it, are together no more than waited in both.
+/// States that joining the waiting groups of two neighbors makes no records: those that wait after it, and
+/// those of the groups that it made whole, are together no more than waited in both. This is a law: it
+/// computes nothing.
 pub fn waiting_records_stay_few()
     ensures { (older newer : WaitingGroups)
         → waiting_records (joined_groups older newer) + records_in_wholes (whole_groups older newer)
@@ -111,7 +120,7 @@ pub fn waiting_records_stay_few()
 {}
 
 /// States that the steps of groups that become whole between two histories of a queue are steps that a replay
-/// of that queue accepts.
+/// of that queue accepts. This is a law: it computes nothing.
 pub fn wholes_are_of_the_queue()
     ensures { (q : LogQueue) (h k : List Event)
         → FilesFrom q 0 h → AllByRecursion (λ (e : Event). AreInFile e.file e.items) h

@@ -1,4 +1,4 @@
-//! Steps on regions, and the step of an item.
+//! [`RegionStep`]: what an item of a batch does to the table of its region.
 
 ghost use Rattle.std.specs.Prelude.{◌≡◌, option_map};
 ghost use Rattle.raft_history.specs.Common.{pair, item_of, content_of, pair_of, step_shown, content_step, command_step, region_step_shown, item_step};
@@ -6,16 +6,18 @@ ghost use Rattle.raft_history.specs.Common.{pair, item_of, content_of, pair_of, 
 use raft_records::{Command, KeyValue, LogItem, LogItemContent, OpType, is_reserved};
 use raft_table::Step;
 
-/// A step, and the region whose table it changes.
+/// A step on the table of a region.
 #[derive(Debug, Drop)]
 pub struct RegionStep {
+    /// The id of the region.
     pub region: u64,
+    /// What is done to its table.
     pub step: Step,
 }
 
 impl RegionStep {
-    /// Returns the step of `item`, or `None` if it has none: a change of the key that is kept for group
-    /// markers, or a put without a value or a file.
+    /// Returns the step that `item` makes. Returns `None` if it makes none: it changes the key that is
+    /// reserved for group markers, or it is a put without a value or a file.
     pub fn of_item(item: LogItem) -> Option<RegionStep>
         ensures { option_map region_step_shown result ≡ item_step (item_of item) }
     {
@@ -27,7 +29,8 @@ impl RegionStep {
     }
 }
 
-/// Returns the step that `content`, that of an item, is for its region, or `None` if it is none.
+/// Returns the step that `content`, that of an item, makes on the table of its region, or `None` if it makes
+/// none.
 fn content_step(content: LogItemContent) -> Option<Step>
     ensures { option_map step_shown result ≡ content_step (content_of content) }
 {
@@ -38,7 +41,7 @@ fn content_step(content: LogItemContent) -> Option<Step>
     }
 }
 
-/// Returns the step of `command`: a clean, a compaction or a truncation.
+/// Returns the step that `command` makes: a clean, a compaction or a truncation.
 fn command_step(command: Command) -> Step
     ensures { step_shown result ≡ command_step command }
 {
@@ -49,8 +52,8 @@ fn command_step(command: Command) -> Step
     }
 }
 
-/// Returns the step of `kv`, a change of a key, or `None` for a change of the key that is kept for group
-/// markers, and for a put without a value or a file.
+/// Returns the step that `kv`, a change of a key, makes: a put or a deletion. Returns `None` if it changes
+/// the key that is reserved for group markers, or is a put without a value or a file.
 fn pair_step(kv: KeyValue) -> Option<Step>
     ensures { option_map step_shown result ≡ content_step (pair (pair_of kv)) }
 {

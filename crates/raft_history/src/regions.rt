@@ -1,12 +1,14 @@
-//! Laws of the region marks and tables of all regions.
+//! Laws of the tables and region marks of all regions. The *region mark* of steps says what they do to any
+//! older table of their region.
 
 ghost use Rattle.std.specs.Prelude.{◌≡◌, ℕ, List, Option, Some, if◌then◌else◌};
 ghost use Rattle.raft_history.specs.Common.{AllByRecursion, FileId, LogQueue, Append, Item, overlaid_table, Table, Event, BatchSteps, batches, AreExact, steps_of, is_named, AreInFile, IsStepOfQueue, StandForSteps, AreJoined};
 ghost use Rattle.raft_history.specs.Common.{overlaid_region, MarkedRegions, no_regions, regions_after, region_steps_of_whole, RegionStep, steps_of_items, WholeGroup};
 ghost use Rattle.std.specs.FinMap as finite;
 
-/// States that region marks and tables still stand for steps after further steps, items, whole groups or
-/// joins, if they did before. Those of no region do, and so do those that are exact for a history.
+/// States that tables and region marks that stand for steps still do so after further steps, items, whole
+/// groups or joins. Those of no region stand for steps, and so do those that are exact for a history. This is
+/// a law: it computes nothing.
 pub fn regions_stand_for_steps()
     ensures none { (q : LogQueue) → StandForSteps q no_regions }
     ensures steps { (q : LogQueue) (rs new : MarkedRegions) (steps : List RegionStep)

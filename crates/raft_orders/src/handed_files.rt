@@ -1,4 +1,4 @@
-//! The files of an engine that others keep.
+//! [`HandedFiles`]: the files of an engine that its caller keeps.
 
 ghost use Rattle.std.specs.Prelude.{◌≡◌, ◌+◌, [], ◌∷◌, length, option_map, IfErr, IfNone, IfOk, IfSome, None, OnErr, OnOk};
 ghost use Rattle.raft_files.specs.Asks.{Begin, Cut, Delete, Put, Read, Sync, ask};
@@ -13,19 +13,23 @@ use raft_files::{Asked, EngineFiles};
 use std::alloc::Global;
 use std::marker::Model;
 
-/// The files of both queues, which others keep: what is asked of them waits as orders, and a read returns bytes that were lent
-/// before.
+/// The files of both queues, which the caller keeps. What is asked of them waits as *orders*, and a read returns bytes that the
+/// caller has *lent* before.
 ///
-/// Whoever keeps the files takes the orders in turn and carries each of them out, as [`EngineFiles`] says of the call of its
-/// name, before the next one. So what was carried out is at any time a prefix of what was asked, and what is left of it when the machine
-/// stops is what may be left of that prefix. What is said of an engine's asks for every moment, in the midst of a call too, holds
-/// of it: at no other moment a machine crashes. A call of the engine that must last has lasted only once its orders were carried out.
-/// Where one fails, neither it nor any later one may be carried out, until the files are found again.
+/// The caller takes the orders in turn, and carries out each of them, as [`EngineFiles`] says of the call of its name, before
+/// the next one. So at any time a prefix of what was asked is carried out, and what a crash leaves is what it may leave of that
+/// prefix. What is promised of an engine at every moment, also in the midst of a call, therefore holds. A call of the engine is
+/// durable only once its orders are carried out. If an order fails, neither it nor any later one may be carried out until the
+/// files are found again.
 #[derive(Drop)]
 pub struct HandedFiles {
+    /// The allocator of orders and lent bytes.
     alloc: Global,
+    /// The orders that weren't taken yet.
     waiting: WaitingOrders,
+    /// The bytes for reads.
     lent: LentBlocks,
+    /// What was asked, for contracts alone.
     asked: Asked,
 }
 
@@ -45,8 +49,8 @@ impl Model for HandedFiles {
 }
 
 impl HandedFiles {
-    /// Returns files that were found when the machine started, with what was noted of them in `found`: all of
-    /// their bytes are on the disk, and no order waits.
+    /// Returns files that were found when the machine started, without orders that wait. `found` notes the files and nothing
+    /// that is still to be done; all of their bytes must be on the disk.
     pub fn found(alloc: Global, found: Asked) -> HandedFiles
         requires { all_to_do found.asks ≡ [] }
         ensures asks { result.asks ≡ found.asks }
@@ -60,22 +64,22 @@ impl HandedFiles {
         }
     }
 
-    /// Returns the oldest order that waits, or `None` if there is none.
+    /// Returns the oldest order that waits, or `None` if none waits.
     pub fn first_order(&self) -> Option<&Order>
         ensures { option_map (λ o. ask_of o.now) result ≡ next_to_do self.now.asks self.now.taken }
     {
         self.waiting.first()
     }
 
-    /// Returns how many orders were taken: that is the number of the oldest one that waits.
+    /// Returns how many orders were taken. That is also the number of the oldest order that waits.
     pub fn taken(&self) -> u64
         ensures { result ≡ self.now.taken }
     {
         self.waiting.taken()
     }
 
-    /// Removes the oldest order that waits and returns it with its number, the number of orders that were
-    /// taken before. Returns `None` if there is none.
+    /// Removes the oldest order that waits, and returns it with its number: how many orders were taken before it. Returns
+    /// `None` if none waits.
     pub fn take_order(&mut self) -> Option<NumberedOrder>
         ensures some { IfSome result (IsOrder self.old.asks self.old.taken) }
         ensures none { IfNone result (next_to_do self.old.asks self.old.taken ≡ None) }
@@ -86,7 +90,8 @@ impl HandedFiles {
         self.waiting.take()
     }
 
-    /// Keeps a copy of `bytes`, which are in `file` at `offset`, for reads.
+    /// Keeps a copy of `bytes`, which are in `file` from `offset` on, for reads. It replaces what was lent for the same file
+    /// and offset.
     ///
     /// # Errors
     ///
@@ -111,7 +116,7 @@ impl EngineFiles for HandedFiles {
 
     ghost may_fail = { HandedFails };
 
-    /// Orders that `bytes` are put behind those of the last file of `queue`. The order has a copy of them.
+    /// Adds the order to put a copy of `bytes` at the end of the last file of `queue`.
     ///
     /// # Errors
     ///
@@ -128,7 +133,7 @@ impl EngineFiles for HandedFiles {
         Ok(())
     }
 
-    /// Orders that a file numbered `seq` is begun behind the last one of `queue`.
+    /// Adds the order to sync the last file of `queue` and to begin a new one with the number `seq` after it.
     ///
     /// # Errors
     ///
@@ -145,7 +150,7 @@ impl EngineFiles for HandedFiles {
         Ok(())
     }
 
-    /// Orders a sync of `queue`.
+    /// Adds the order to sync `queue`. It is synced once the order is carried out.
     ///
     /// # Errors
     ///
@@ -162,7 +167,7 @@ impl EngineFiles for HandedFiles {
         Ok(())
     }
 
-    /// Orders that the oldest file of `queue` is deleted.
+    /// Adds the order to delete the oldest file of `queue`.
     ///
     /// # Errors
     ///
@@ -179,7 +184,7 @@ impl EngineFiles for HandedFiles {
         Ok(())
     }
 
-    /// Orders that the last file of `queue` is cut to `len` bytes.
+    /// Adds the order to cut the last file of `queue` to its first `len` bytes, if it has more.
     ///
     /// # Errors
     ///
@@ -196,11 +201,12 @@ impl EngineFiles for HandedFiles {
         Ok(())
     }
 
-    /// Returns a copy of the bytes that were lent for `place`. The read is noted.
+    /// Returns a copy of the bytes that were lent for `place`, and notes the read. No order is made.
     ///
     /// # Errors
     ///
-    /// `TryAgain` if none were lent, or another number of them; `Memory`. Nothing is noted then.
+    /// `TryAgain` if no bytes were lent for the file and offset of `place`, or a different number of them; `Memory`. Nothing is
+    /// noted then.
     fn read(&mut self, place: FileBlockHandle) -> Result<Vec<u8>>
         ensures ok { IfOk result (λ bytes. self.new.asks ≡ ask place.id.queue (Read place bytes.items) ∷ self.old.asks) }
         ensures len { IfOk result (λ bytes. length bytes.items ≡ place.len) }

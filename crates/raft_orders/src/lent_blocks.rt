@@ -1,4 +1,4 @@
-//! Bytes that were lent before they are read.
+//! [`LentBlocks`]: bytes of files that the caller has lent before they are read.
 
 ghost use Rattle.std.specs.Prelude.{◌≡◌, IfErr, IfOk, length};
 ghost use Rattle.std.specs.BTreeMap.{IsEmpty};
@@ -8,14 +8,15 @@ use raft_base::{Error, FileBlockHandle, FileId, Result};
 use std::alloc::Global;
 use std::collections::BTreeMap;
 
-/// The bytes at places of files, as far as they were lent.
+/// Bytes that were lent, by their file and their offset in it.
 #[derive(Drop)]
 pub struct LentBlocks {
+    /// The lent bytes of each file and offset.
     blocks: BTreeMap<(FileId, u64), Vec<u8>>,
 }
 
 impl LentBlocks {
-    /// Returns a store to which no bytes were lent yet.
+    /// Returns a store without bytes, which will allocate from `alloc`.
     pub fn new(alloc: Global) -> LentBlocks
         ensures { IsEmpty result.blocks }
     {
@@ -24,8 +25,8 @@ impl LentBlocks {
         }
     }
 
-    /// Keeps a copy of `bytes`, which are in `file` at `offset`, in place of those that were lent for that
-    /// offset before.
+    /// Keeps a copy of `bytes`, which are in `file` from `offset` on, in place of those that were lent for
+    /// the same file and offset.
     ///
     /// # Errors
     ///
@@ -42,7 +43,8 @@ impl LentBlocks {
     ///
     /// # Errors
     ///
-    /// `TryAgain` if none were lent for it, or another number of them; `Memory`.
+    /// `TryAgain` if no bytes were lent for the file and offset of `place`, or a different number of them;
+    /// `Memory`.
     pub fn read(&self, alloc: Global, place: FileBlockHandle) -> Result<Vec<u8>>
         ensures len { IfOk result (λ bytes. length bytes.items ≡ place.len) }
         ensures fault { IfErr result IsUnread }

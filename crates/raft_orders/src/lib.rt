@@ -1,4 +1,5 @@
-//! Files that others keep: what an engine asks of them waits as orders, and bytes are read that were lent before.
+//! The files of an engine that are kept by its caller: what the engine asks of them waits as orders, which the
+//! caller carries out, and a read returns bytes that the caller has lent before.
 #![tactic(auto)]
 
 pub mod handed_files;

@@ -1,4 +1,7 @@
-//! Atomic groups of log batches, which take effect together or not at all.
+//! Atomic groups: log batches of the rewrite queue that take effect together or not at all.
+//!
+//! Each batch of a group has a *group marker*, an item that says of which group it is and whether the group
+//! begins, goes on or ends with it.
 
 ghost use Rattle.std.specs.Prelude.{◌≡◌, ℕ, Option, Some, None, IfErr, OnOk, OnErr, ◌↔◌, List, IsTrue, IfOk};
 ghost use Rattle.raft_records.specs.Common.{Begin, Middle, End, IsRunning, group_marker_item, status_byte, marker_byte, IsGroupMarkerRead, IsGroupMarkerFault, reserved_key, is_reserved, marker_of, Item, item_of, pair, pair_of, is_open};
@@ -11,27 +14,28 @@ use raft_base::{Error, Result};
 use std::alloc::Global;
 use std::marker::Model;
 
-/// The key of the group markers. No value is put under it but theirs.
+/// The key of group markers. It is reserved for them: no other value is put under it.
 pub const ATOMIC_GROUP_KEY: [u8; 3] = [b'_', b'_', 1];
 
 /// Whether a batch begins, continues or ends its atomic group.
 #[derive(Clone, Copy, PartialEq, Debug)]
 pub enum AtomicGroupStatus {
-    /// It is the first batch of the group.
+    /// The batch is the first one of the group.
     Begin = 0,
-    /// The group goes on.
+    /// The batch is neither the first nor the last one of the group.
     Middle = 1,
-    /// It is the last batch of the group, with which the group takes effect.
+    /// The batch is the last one of the group, which takes effect with it.
     End = 2,
 }
 
 impl AtomicGroupStatus {
-    /// Returns the group whose marker `item` is, and its status, or `None` if it isn't a group marker. The
-    /// region id of a marker is the number of its group.
+    /// Returns the number of the group and the status that `item` marks, or `None` if `item` isn't a group
+    /// marker. The number is the region id of the marker. `alloc` is for the text of an error.
     ///
     /// # Errors
     ///
-    /// `Corruption` if the byte of a marker stands for no status; `Memory` if there is none for its text.
+    /// `Corruption` if `item` is a marker whose value stands for no status; `Memory` if there is none for its
+    /// text.
     pub fn parse(alloc: Global, item: &LogItem) -> Result<Option<(u64, AtomicGroupStatus)>>
         ensures ok { IfOk result (IsGroupMarkerRead (item_of item.now)) }
         ensures fault { IfErr result (IsGroupMarkerFault (item_of item.now)) }
@@ -46,7 +50,8 @@ impl AtomicGroupStatus {
         Ok(Some((item.raft_group_id, status)))
     }
 
-    /// Returns the status that `byte` stands for: 0 for `Begin`, 1 for `Middle`, 2 for `End`.
+    /// Returns the status that `byte` stands for: 0 for `Begin`, 1 for `Middle`, 2 for `End`. `alloc` is for
+    /// the text of an error.
     ///
     /// # Errors
     ///
@@ -66,8 +71,8 @@ impl AtomicGroupStatus {
     }
 }
 
-/// Tests whether `key` is the one that is kept for group markers, `5f 5f 01`. Key values under it never reach
-/// a table.
+/// Tests whether `key` is the one that is reserved for group markers, the bytes `5f 5f 01`. A value under it
+/// never gets into a table.
 #[tactic(auto, using(crate::proofs::GroupLemmas::reserved_by))]
 pub fn is_reserved(key: &[u8]) -> bool
     ensures meaning { IsTrue result ↔ (key.now ≡ reserved_key) }
@@ -76,8 +81,8 @@ pub fn is_reserved(key: &[u8]) -> bool
     key == ATOMIC_GROUP_KEY.as_slice()
 }
 
-/// Returns the byte of a group marker, if `kv` is one: a put under the reserved key whose value is one byte
-/// long. Returns `None` for any other change.
+/// Returns the value of `kv`, if it is a group marker: a put of one byte under the reserved key. Returns
+/// `None` for any other change.
 fn marker_byte(kv: &KeyValue) -> Option<u8>
     ensures { result ≡ marker_byte (pair (pair_of kv.now)) }
 {
@@ -90,12 +95,14 @@ fn marker_byte(kv: &KeyValue) -> Option<u8>
     }
 }
 
-/// A builder of one atomic group, which marks its batches: the first with `Begin`, the last with `End`, those
-/// between them with `Middle`. Each call takes a batch of its own: of two group markers in one batch only the
-/// first is read, so a group has two batches at least.
+/// A builder of one atomic group, which adds a group marker to each of its batches: `Begin` to the first,
+/// `End` to the last, and `Middle` to those between. Each call needs a batch of its own, since only the first
+/// group marker of a batch is read. So a group has at least two batches.
 #[derive(Debug, Drop)]
 pub struct AtomicGroupBuilder {
+    /// The number of the group.
     id: u64,
+    /// The status of the group marker that was added last, if any was.
     status: Option<AtomicGroupStatus>,
 }
 
@@ -108,21 +115,22 @@ impl Model for AtomicGroupBuilder {
 }
 
 impl AtomicGroupBuilder {
-    /// Returns a builder of the group numbered `id`, which hasn't begun.
+    /// Returns a builder of the group with the number `id`, which has no batches yet.
     pub fn with_id(id: u64) -> AtomicGroupBuilder
         ensures { result ≡ record { id = id; state = None } }
     {
         AtomicGroupBuilder { id, status: None }
     }
 
-    /// Returns the status of the group marker that was added last, or `None` if none was.
+    /// Returns the status of the group marker that was added last, or `None` if none was added.
     pub fn state(&self) -> Option<AtomicGroupStatus>
         ensures { result ≡ self.now.state }
     {
         self.status
     }
 
-    /// Begins the group with `log_batch`: adds a marker to it, which is open. It must be the first call.
+    /// Begins the group with `log_batch`, which must be open: adds a `Begin` marker to it. It must be the
+    /// first call on the builder.
     ///
     /// # Errors
     ///
@@ -140,8 +148,8 @@ impl AtomicGroupBuilder {
         self.add_marker(AtomicGroupStatus::Begin, log_batch)
     }
 
-    /// Continues the group with `log_batch`: adds a marker to it, which is open. The group must have begun,
-    /// and not ended.
+    /// Continues the group with `log_batch`, which must be open: adds a `Middle` marker to it. The group must
+    /// have begun and not ended.
     ///
     /// # Errors
     ///
@@ -159,8 +167,8 @@ impl AtomicGroupBuilder {
         self.add_marker(AtomicGroupStatus::Middle, log_batch)
     }
 
-    /// Ends the group with `log_batch`: adds a marker to it, which is open. The group must have begun, and
-    /// not ended. The builder can't be used any more.
+    /// Ends the group with `log_batch`, which must be open: adds an `End` marker to it. The group must have
+    /// begun and not ended. No batch can be added after it.
     ///
     /// # Errors
     ///
@@ -202,9 +210,9 @@ impl AtomicGroupBuilder {
     }
 }
 
-/// States that what is added as a group marker is read as the marker of its group with its status, and never
-/// refused. What is read of an item depends on the item alone. `is_reserved` is true of the reserved key
-/// alone.
+/// States that a group marker that was added is read as the marker of its group with its status, and is never
+/// refused. What is read of an item depends on the item alone. [`is_reserved`] is true of the reserved key
+/// alone. This is a law: it computes nothing.
 #[tactic(auto, using(crate::proofs::GroupLemmas::marker_written, crate::proofs::GroupLemmas::marker_read, crate::proofs::GroupLemmas::marker_accepted, crate::proofs::GroupLemmas::marker_is, crate::proofs::GroupLemmas::reserved_test))]
 pub fn group_markers_are_read_again()
     ensures is_marker { (id : ℕ) (status : Status) →

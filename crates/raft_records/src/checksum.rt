@@ -1,4 +1,4 @@
-//! Checksums that follow their bytes.
+//! Checksums at the end of the bytes that they are of, signed or not.
 
 ghost use Rattle.std.specs.Prelude.{◌≡◌, List, ℕ, length, IfOk, IfErr};
 ghost use Rattle.raft_records.specs.Common.{little_bytes, signed_crc, HasSeal, IsSealFault};
@@ -11,13 +11,14 @@ use std::alloc::Global;
 /// The length of a checksum in bytes.
 pub(crate) const LOG_BATCH_CHECKSUM_LEN: usize = 4;
 
-/// Checks the checksum in the last four bytes of `bytes`, CRC-32 with the lowest byte first, and returns the
-/// bytes before it. With a `signature`, the checksum that is stored was combined with it by exclusive or.
+/// Returns `bytes` without their last four, which are checked to be the CRC-32 of the bytes before them,
+/// little-endian. With a `signature`, the stored checksum is the CRC-32 combined with the signature by
+/// exclusive or.
 ///
 /// # Errors
 ///
-/// `Corruption` if there are four bytes or fewer, or the checksum is another; `Memory` if there is none for
-/// its text.
+/// `Corruption` if there are four bytes or fewer, or the checksum is a different one; `Memory` if there is
+/// none for its text.
 #[tactic(auto, using(crate::proofs::SealLemmas::not_sealed, crate::proofs::SealLemmas::sealed_by, crate::proofs::SealLemmas::checksum_fault))]
 pub(crate) fn verify_checksum(alloc: Global, bytes: &[u8], signature: Option<u32>) -> Result<&[u8]>
     ensures ok { IfOk result (λ content. HasSeal signature bytes.now content.now) }
@@ -41,7 +42,7 @@ pub(crate) fn verify_checksum(alloc: Global, bytes: &[u8], signature: Option<u32
     Ok(content)
 }
 
-/// Returns the number that `seal`, the four bytes of a checksum, stands for, the lowest byte first.
+/// Returns the checksum that is stored in `seal`, four little-endian bytes.
 #[tactic(auto, using(crate::proofs::SealLemmas::all_four))]
 fn checksum_of(seal: &[u8]) -> u32
     requires { length seal.now ≡ LOG_BATCH_CHECKSUM_LEN }
@@ -54,8 +55,8 @@ fn checksum_of(seal: &[u8]) -> u32
     }
 }
 
-/// Signs `checksum` by an exclusive or with `signature`, or takes that signature off again: both are the
-/// same. Without a signature it returns `checksum`.
+/// Returns `checksum` combined with `signature` by exclusive or, or `checksum` itself without a signature.
+/// Applied to a signed checksum, it gives the unsigned one back.
 pub(crate) fn sign(checksum: u32, signature: Option<u32>) -> u32
     ensures { result ≡ signed_crc signature checksum }
 {

@@ -1,4 +1,4 @@
-//! Commands on a region's log.
+//! Commands, which change a region's log as a whole, and their bytes.
 
 ghost use Rattle.std.specs.Prelude.{◌≡◌, ◌∷◌, ◌++◌, IfOk, IfErr, OnOk, OnErr};
 ghost use Rattle.raft_records.specs.Common.{Reads, HasNoFront, varint, IsCommand, IsCommandFault, command_size, command_bytes};
@@ -8,27 +8,31 @@ use raft_base::{AllocResult, Error, Result};
 use raft_codec::codec::{self, BytesSlice};
 use std::alloc::Global;
 
+/// The type byte of a Clean.
 const CMD_CLEAN: u8 = 1;
 
+/// The type byte of a Compact.
 const CMD_COMPACT: u8 = 2;
 
+/// The type byte of a Truncate.
 const CMD_TRUNCATE: u8 = 3;
 
-/// What is done to a region's log.
+/// A change of a region's log as a whole.
 #[derive(Clone, PartialEq, Eq, Debug, Drop)]
 pub enum Command {
-    /// Removes the region's records.
+    /// Removes all entries and key values of the region.
     Clean,
     /// Removes the entries below `index`.
     Compact { index: u64 },
-    /// Removes the entries at or above `index`. Older files may still hold them. So where some stand in the
-    /// rewrite queue, that queue is to hold the command too, before the append file with the command is purged.
+    /// Removes the entries at or above `index`. The removed entries may still be in older files. If some are
+    /// in the rewrite queue, write the command to that queue too before the append file with the command is
+    /// deleted; otherwise recovery could bring them back.
     Truncate { index: u64 },
 }
 
 impl Command {
-    /// Returns the approximate length of the command in bytes: one, and eight for an index. That is an upper
-    /// bound for indexes below 2^56.
+    /// Returns the approximate length of the encoded command in bytes: one, and eight more for an index. The
+    /// exact length is at most that if the index is below 2^56.
     pub(crate) fn approximate_size(&self) -> usize
         ensures { result ≡ command_size self.now }
     {
@@ -38,8 +42,8 @@ impl Command {
         }
     }
 
-    /// Appends the bytes of the command: `01` for a Clean, `02` or `03` and the index in base 128 for a
-    /// Compact or a Truncate.
+    /// Appends the bytes of the command to `buf`: `01` for a Clean, and `02` or `03` with the index in base
+    /// 128 for a Compact or a Truncate.
     ///
     /// # Errors
     ///
@@ -52,11 +56,12 @@ impl Command {
         Ok(self.write(buf)?)
     }
 
-    /// Does what [`Command::encode`] does.
+    /// Appends the bytes of the command to `buf`, as [`Command::encode`] does, with an error that is only
+    /// about memory.
     ///
     /// # Errors
     ///
-    /// `AllocError` if there is no memory for the bytes. `buf` is unchanged then.
+    /// `AllocError` if there is no memory to grow `buf`, which is unchanged then.
     pub(crate) fn write(&self, buf: &mut Vec<u8>) -> AllocResult<()>
         ensures ok { OnOk result (buf.new.items ≡ buf.old.items ++ command_bytes self.now) }
         ensures err { OnErr result (buf.new.items ≡ buf.old.items) }
@@ -68,11 +73,12 @@ impl Command {
         }
     }
 
-    /// Reads a command from the start of `buf`, which is moved behind it. It allocates nothing for a command.
+    /// Reads a command from the start of `buf`, and moves `buf` past it. `alloc` is only for the text of an
+    /// error.
     ///
     /// # Errors
     ///
-    /// `Codec` if the bytes end early or a number is malformed; `Corruption` for an unknown command; `Memory`
+    /// `Codec` if the bytes end early or the index is malformed; `Corruption` for an unknown type; `Memory`
     /// if there is none for its text. `buf` is unchanged then.
     pub fn decode(alloc: Global, buf: &mut BytesSlice<'_>) -> Result<Command>
         ensures ok { IfOk result (Reads IsCommand buf.old.now buf.new.now) }
@@ -85,11 +91,13 @@ impl Command {
         Ok(command)
     }
 
-    /// Reads a command from the start of `bytes`, and returns it with the bytes behind it.
+    /// Reads a command from the start of `bytes`, and returns it with the bytes after it. `alloc` is only for
+    /// the text of an error.
     ///
     /// # Errors
     ///
-    /// Those of [`Command::decode`].
+    /// `Codec` if the bytes end early or the index is malformed; `Corruption` for an unknown type; `Memory`
+    /// if there is none for its text.
     #[tactic(auto, using(crate::proofs::ItemLemmas::compact_read, crate::proofs::ItemLemmas::truncate_read))]
     pub(crate) fn parse(alloc: Global, bytes: &[u8]) -> Result<(Command, &[u8])>
         ensures ok { IfOk result (λ read. Reads IsCommand bytes.now read.1.now read.0) }
@@ -115,11 +123,11 @@ impl Command {
     }
 }
 
-/// Appends `kind`, the type byte of a command, and `index` in base 128.
+/// Appends `kind`, the type byte of a command, and `index` in base 128 to `buf`.
 ///
 /// # Errors
 ///
-/// `AllocError` if there is no memory for them. `buf` is unchanged then.
+/// `AllocError` if there is no memory to grow `buf`, which is unchanged then.
 fn append_indexed(buf: &mut Vec<u8>, kind: u8, index: u64) -> AllocResult<()>
     ensures ok { OnOk result (buf.new.items ≡ buf.old.items ++ kind ∷ varint index) }
     ensures err { OnErr result (buf.new.items ≡ buf.old.items) }

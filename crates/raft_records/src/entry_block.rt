@@ -1,4 +1,4 @@
-//! Entry blocks in parts of files, and the bytes of single entries.
+//! Entry blocks in parts of files, and the bytes of single entries in them.
 
 ghost use Rattle.std.specs.Prelude.{◌≡◌, ◌+◌, ◌-◌, ◌<◌, ◌≤◌, ℕ, List, length, take, drop, IfOk, IfErr, OnOk, OnErr, MatchOption};
 ghost use Rattle.raft_records.specs.Common.{IsAnyCorruption, IsPlaceIn, HasEntryBlock, IsBlockFault};
@@ -9,13 +9,13 @@ use raft_base::{EntryIndex, Error, FileBlockHandle, Result};
 use std::alloc::Global;
 
 /// Returns the entry bytes of the entry block at `place` in the part: those of all entries of a batch,
-/// without their checksum, which is checked. [`entry_bytes`] finds those of one entry in them. There are none
-/// if the length of the place is 0. No byte is copied.
+/// without their checksum, which is checked. [`entry_bytes`] finds the bytes of one entry among them. The
+/// result is empty if the length of `place` is 0. Nothing is copied.
 ///
 /// # Errors
 ///
-/// `Corruption` if the place isn't in the part, or the checksum is another; `Memory` if there is none for its
-/// text.
+/// `Corruption` if `place` doesn't lie in the part, or the checksum is wrong; `Memory` if there is none for
+/// its text.
 pub fn entries_block_in(part: &FilePart, place: FileBlockHandle) -> Result<&[u8]>
     ensures ok { IfOk result (λ entries. HasEntryBlock part.now place entries.now) }
     ensures refused { OnErr result ((entries : List ℕ) → HasEntryBlock part.now place entries → ⊥) }
@@ -31,8 +31,8 @@ pub fn entries_block_in(part: &FilePart, place: FileBlockHandle) -> Result<&[u8]
     }
 }
 
-/// Returns the bytes of the part from the start of `place` to the end of the part, or `None` if the place
-/// doesn't lie in the part.
+/// Returns the bytes of the part from the start of `place` to the end of the part. Returns `None` if `place`
+/// is in another file, or doesn't lie in the part.
 fn bytes_from(part: &FilePart, place: FileBlockHandle) -> Option<&[u8]>
     ensures { MatchOption result (IsPlaceIn part.now place → ⊥)
         (λ bytes. IsPlaceIn part.now place
@@ -50,13 +50,13 @@ fn bytes_from(part: &FilePart, place: FileBlockHandle) -> Option<&[u8]>
     (place.len <= rest.len()).then_some(rest)
 }
 
-/// Returns the bytes of `entry` out of `entries`, the entry bytes of its block, as [`entries_block_in`] lends
-/// them or [`LogBatch::decode_entries_block`](crate::LogBatch::decode_entries_block) reads them. No byte is
-/// copied.
+/// Returns the bytes of `entry` among `entries`, the entry bytes of its block, which [`entries_block_in`] or
+/// [`LogBatch::decode_entries_block`](crate::LogBatch::decode_entries_block) returned. Nothing is copied;
+/// `alloc` is for the text of an error.
 ///
 /// # Errors
 ///
-/// `Corruption` if the entry would end behind the entry bytes; `Memory` if there is none for its text.
+/// `Corruption` if the entry would end after the end of `entries`; `Memory` if there is none for its text.
 pub fn entry_bytes<'a>(alloc: Global, entries: &'a [u8], entry: &EntryIndex) -> Result<&'a [u8]>
     ensures ok { IfOk result (λ bytes. bytes.now
         ≡ take entry.now.entry_len (drop entry.now.entry_offset entries.now)) }

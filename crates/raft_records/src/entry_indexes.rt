@@ -1,4 +1,4 @@
-//! Where the entries of a region's log stand.
+//! [`EntryIndexes`]: the entries of one item, without their own bytes, and how they are encoded.
 
 ghost use Rattle.std.specs.Prelude.{◌≡◌, ◌≢◌, ◌↔◌, ◌-◌, ◌^◌, ◌<◌, ◌≤◌, ◌++◌, map, length, Some, IsTrue, IfOk, IfErr, IfSome, OnOk, OnErr, OnSome, ℕ};
 ghost use Rattle.raft_records.specs.Common.{Reads, HasNoFront, IsEntries, IsTail, end_behind, tail_of, IsEntriesFault, IsTailFault, IsEntriesRefusal, RunOn, AreWritable, entry_between, varint, raised_entry, CanRaise, entries_size};
@@ -12,8 +12,8 @@ use raft_base::{
 use raft_codec::codec::{self, BytesSlice};
 use std::alloc::Global;
 
-/// Tests whether the bytes of each of `entries` begin where those of the one before it end, and all end below
-/// 2^32: only such entries can be written.
+/// Tests whether each of `entries` begins where the one before it ends, and all end at offset 2^32 - 1 at
+/// most. Other entries can't be written. Returns true if there are no entries.
 fn runs_on(entries: &[EntryIndex]) -> bool
     ensures { IsTrue result ↔ RunOn entries.now }
 {
@@ -30,7 +30,8 @@ fn runs_on(entries: &[EntryIndex]) -> bool
     true
 }
 
-/// The entries of one item: consecutive ones of one region.
+/// The entries of one item. Their indexes should be consecutive, and each entry should begin where the one
+/// before it ends; both are tested only when the item is written.
 #[derive(Clone, PartialEq, Eq, Debug, Drop)]
 pub struct EntryIndexes(pub Vec<EntryIndex>);
 
@@ -48,8 +49,8 @@ impl EntryIndexes {
         Ok(<EntryIndexes as Clone>::clone(self)?)
     }
 
-    /// Returns the approximate length of the entries in bytes: eight for their count, for the first index,
-    /// and for where each entry ends. Capped at `usize::MAX`.
+    /// Returns the approximate length of the encoded entries in bytes, at most `usize::MAX`: eight each for
+    /// their count, for the first index if there are entries, and for the end of each entry.
     pub(crate) fn approximate_size(&self) -> usize
         ensures { result ≡ at_most_usize (entries_size self.now.0.items) }
     {
@@ -58,7 +59,7 @@ impl EntryIndexes {
         tails.saturating_add(8 + first)
     }
 
-    /// Gives each entry the place `handle` and this compression type.
+    /// Sets the place of each entry to `handle`, and its compression type to `compression_type`.
     pub(crate) fn place(&mut self, handle: FileBlockHandle, compression_type: CompressionType)
         ensures { self.new.0.items ≡
             map (λ (e : EntryIndex). record e {
@@ -72,7 +73,7 @@ impl EntryIndexes {
         }
     }
 
-    /// Adds `by` to the offset of each entry's bytes.
+    /// Adds `by` to the offset of each entry.
     pub(crate) fn raise_offsets(&mut self, by: u32)
         requires { CanRaise by self.old.0.items }
         ensures { self.new.0.items ≡ map (raised_entry by) self.old.0.items }
@@ -82,16 +83,17 @@ impl EntryIndexes {
         }
     }
 
-    /// Tests whether the entries can be written: their indexes are consecutive, and their bytes run on.
+    /// Tests whether the entries can be written: their indexes are consecutive, and each begins where the one
+    /// before it ends.
     pub(crate) fn is_writable(&self) -> bool
         ensures { IsTrue result ↔ AreWritable self.now.0.items }
     {
         is_consecutive(self.0.as_slice()) && runs_on(self.0.as_slice())
     }
 
-    /// Appends the bytes of the entries: their count, the first index, and for each entry its *tail offset*,
-    /// that is where it ends in the entry bytes of the batch; all in base 128. For no entries it is the count
-    /// 0 alone.
+    /// Appends the bytes of the entries to `buf`: their count, the first index, and for each entry its *tail
+    /// offset*, which is the offset of its end in the entry bytes of the batch; all in base 128. Without
+    /// entries it is only the count 0.
     ///
     /// # Errors
     ///
@@ -112,12 +114,13 @@ impl EntryIndexes {
         append_whole!(buf, self.write(buf))
     }
 
-    /// Does what [`EntryIndexes::encode`] does for entries that can be written.
+    /// Appends the bytes of the entries to `buf`, as [`EntryIndexes::encode`] does, without testing whether
+    /// they can be written.
     ///
     /// # Errors
     ///
-    /// `AllocError` if there is no memory for the bytes. Some may have been appended then; the caller takes
-    /// them off.
+    /// `AllocError` if there is no memory for the bytes. `buf` may have more bytes at its end then, which the
+    /// caller cuts off.
     pub(crate) fn write(&self, buf: &mut Vec<u8>) -> AllocResult<()>
         ensures ok { OnOk result (buf.new.items ≡ buf.old.items ++ entries_bytes self.now.0.items) }
         ensures err { OnErr result (Keeps buf.old.items buf.new.items) }
@@ -129,15 +132,15 @@ impl EntryIndexes {
         }
     }
 
-    /// Reads the entries of an item from the start of `buf`, which is moved behind them. They have no place.
-    /// The entries of the items before this one have `entries_size` bytes together; it is raised by the bytes
-    /// of these.
+    /// Reads the entries of an item from the start of `buf`, and moves `buf` past them. They have no place.
+    /// `entries_size` is the number of bytes that the entries of the items before have together; the bytes of
+    /// these entries are added to it.
     ///
     /// # Errors
     ///
-    /// `Codec` if the bytes end early or a number is malformed; `Corruption` if an index would be 2^64 - 1,
-    /// or a tail offset is below the one before it or above 2^32 - 1; `Memory`. `buf` and `entries_size` are
-    /// unchanged then.
+    /// `Codec` if the bytes end early or a number is malformed; `Corruption` if an entry would have the index
+    /// 2^64 - 1, or a tail offset is below the one before it or above 2^32 - 1; `Memory`. `buf` and
+    /// `entries_size` are unchanged then.
     pub fn decode(
         alloc: Global,
         buf: &mut BytesSlice<'_>,
@@ -161,12 +164,12 @@ impl EntryIndexes {
     }
 }
 
-/// Appends `first`, the first index, and the tail offset of each of `entries`, in base 128.
+/// Appends the index `first` and the tail offset of each of `entries` to `buf`, in base 128.
 ///
 /// # Errors
 ///
-/// `AllocError` if there is no memory for them. Some bytes may have been appended then; the caller takes them
-/// off.
+/// `AllocError` if there is no memory for them. `buf` may have more bytes at its end then, which the caller
+/// cuts off.
 fn append_run(buf: &mut Vec<u8>, first: u64, entries: &[EntryIndex]) -> AllocResult<()>
     ensures ok { OnOk result (buf.new.items
         ≡ buf.old.items ++ (varint first ++ tails_bytes entries.now)) }
@@ -179,16 +182,17 @@ fn append_run(buf: &mut Vec<u8>, first: u64, entries: &[EntryIndex]) -> AllocRes
     Ok(())
 }
 
-/// Returns where the bytes of `entry` end, counted from the start of the entry bytes of its batch.
+/// Returns the offset at which `entry` ends in the entry bytes of its batch.
 pub(crate) fn tail_offset(entry: &EntryIndex) -> u64
     ensures { result ≡ tail_of entry.now }
 {
     u64::from(entry.entry_offset) + u64::from(entry.entry_len)
 }
 
-/// Reads a tail offset of at most four bytes from the start of `bytes`, and returns it with the bytes behind
-/// it. Returns `None` if there is no such number, if it is below `offset`, where the entry's bytes begin, or
-/// if `bounded` is false: an index may be 2^64 - 1. Then [`parse_tail`] reads it, or makes the error.
+/// Reads a tail offset of at most four bytes from the start of `bytes`, and returns it with the bytes after
+/// it. `offset` is where the entry begins, and `bounded` says that its index isn't 2^64 - 1. Returns `None`
+/// if there is no such number, it is below `offset`, or `bounded` is false; [`parse_tail`] then reads it or
+/// makes the error.
 #[inline(always)]
 #[tactic(auto, using(crate::proofs::EntryLemmas::tail_read, raft_codec::proofs::VarintLemmas::short_below, raft_codec::proofs::VarintLemmas::short_is_read))]
 pub(crate) fn short_tail(bytes: &[u8], offset: u32, bounded: bool) -> Option<(u32, &[u8])>
@@ -204,12 +208,12 @@ pub(crate) fn short_tail(bytes: &[u8], offset: u32, bounded: bool) -> Option<(u3
     }
 }
 
-/// Reads the tail offset of the entry `index`, whose bytes begin at `offset`, from the start of `bytes`.
-/// Returns it with the bytes behind it.
+/// Reads the tail offset of the entry `index`, which begins at `offset` in the entry bytes, from the start of
+/// `bytes`. Returns it with the bytes after it.
 ///
 /// # Errors
 ///
-/// `Codec` if the bytes end early or the number is malformed; `Corruption` if the index is 2^64 - 1, or the
+/// `Codec` if the bytes end early or the number is malformed; `Corruption` if `index` is 2^64 - 1, or the
 /// tail offset is below `offset` or above 2^32 - 1; `Memory` if there is none for its text.
 #[inline(never)]
 #[tactic(auto, using(crate::proofs::EntryLemmas::tail_read))]

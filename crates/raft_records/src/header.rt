@@ -1,4 +1,4 @@
-//! What stands around the items of a log batch: its header, and its entry block.
+//! The header and the entry block of a log batch, and how its bytes are made and signed.
 
 ghost use Rattle.std.specs.Prelude.{◌≡◌, ◌≢◌, ℕ, ◌+◌, ◌≤◌, ◌<◌, ◌^◌, List, ◌++◌, [], length, take, drop, IfOk, IfErr, OnOk, OnErr};
 ghost use Rattle.raft_records.specs.Common.{Reads, HasNoFront, IsBig, IsHeader, IsHeaderFault, IsEntryBlockOf, IsLentBlockFault, header_bytes, entry_block, item_offset, encoded, encoded_length, log_batch_bytes, IsUnsealed, IsHeld};
@@ -15,11 +15,12 @@ use std::alloc::Global;
 /// The length of the header of a log batch, in bytes.
 pub(crate) const LOG_BATCH_HEADER_LEN: usize = 16;
 
-/// The length of a batch is below this, in bytes: a header has 56 bits for it.
+/// The length of a batch in bytes must be below this, since a header has 56 bits for it.
 const LENGTH_LIMIT: u64 = 1 << 56;
 
-/// Reads the header of a log batch from the start of `bytes`. Returns the offset of the item batch in the
-/// batch, the compression type and the length of the batch in bytes, and the bytes behind the header.
+/// Reads the header of a log batch from the start of `bytes`. Returns the offset of the item batch from the
+/// start of the batch, the compression type, and the length of the batch in bytes; and the bytes after the
+/// header.
 ///
 /// # Errors
 ///
@@ -54,8 +55,8 @@ pub(crate) fn parse_header(
     Ok(((offset as usize, compression_type, len as usize), rest))
 }
 
-/// Reads a number of eight bytes, the highest first, from the start of `bytes`, and returns it with the bytes
-/// behind it. There are at least eight.
+/// Reads a big-endian number of eight bytes from the start of `bytes`, which has at least eight, and returns
+/// it with the bytes after it.
 fn parse_u64(bytes: &[u8]) -> (u64, &[u8])
     requires { 8 ≤ length bytes.now }
     ensures read { Reads (IsBig 8) bytes.now result.1.now result.0 }
@@ -68,8 +69,8 @@ fn parse_u64(bytes: &[u8]) -> (u64, &[u8])
     }
 }
 
-/// Writes a header over the first 16 bytes of `buf`: of a batch of `len` bytes, without compression, whose
-/// item batch begins at `offset`.
+/// Writes a header over the first 16 bytes of `buf`: that of an uncompressed batch of `len` bytes, whose item
+/// batch begins at `offset`.
 fn write_header(buf: &mut [u8], offset: usize, len: usize)
     requires room { 16 ≤ length buf.old }
     requires fits { len < 2 ^ 56 }
@@ -80,13 +81,12 @@ fn write_header(buf: &mut [u8], offset: usize, len: usize)
     BigEndian::write_u64(&mut buf[8..], offset as u64);
 }
 
-/// Makes sure that `buf` begins with the 16 bytes of a header, which are filled in later. What is behind them
-/// stays.
+/// Makes sure that `buf` has room for a header, 16 bytes, at its start. If it has fewer bytes, they are
+/// replaced by 16 zeros; else it stays as it is.
 ///
 /// # Errors
 ///
-/// `AllocError` if there is no memory for them. What was behind the first 16 bytes stays then; a shorter
-/// vector is empty.
+/// `AllocError` if there is no memory for the 16 bytes. `buf` is empty then.
 pub(crate) fn reserve_header(buf: &mut Vec<u8>) -> AllocResult<()>
     ensures ok { OnOk result (16 ≤ length buf.new.items) }
     ensures same { drop 16 buf.new.items ≡ drop 16 buf.old.items }
@@ -98,12 +98,12 @@ pub(crate) fn reserve_header(buf: &mut Vec<u8>) -> AllocResult<()>
     Ok(())
 }
 
-/// Appends the checksum of the entry bytes, which begin behind the 16 bytes of the header. Without entry
-/// bytes there is no checksum.
+/// Appends the checksum of the entry bytes, which are all bytes of `buf` after the 16 of the header. Without
+/// entry bytes nothing is appended.
 ///
 /// # Errors
 ///
-/// `AllocError` if there is no memory for it. `buf` is unchanged then.
+/// `AllocError` if there is no memory to grow `buf`, which is unchanged then.
 fn close_entry_block(buf: &mut Vec<u8>) -> AllocResult<()>
     requires { 16 ≤ length buf.old.items }
     ensures ok { OnOk result
@@ -118,8 +118,8 @@ fn close_entry_block(buf: &mut Vec<u8>) -> AllocResult<()>
     buf.extend_from_slice(&seal)
 }
 
-/// Returns where the item batch begins in a batch with `entries_size` entry bytes: behind the header and, if
-/// there are entry bytes, behind their checksum.
+/// Returns the offset of the item batch in a log batch with `entries_size` entry bytes: it is after the
+/// header and, if there are entry bytes, after their checksum.
 pub(crate) fn offset_behind(entries_size: u32) -> usize
     ensures { (entry_bytes : List ℕ) → length entry_bytes ≡ entries_size →
         result ≡ item_offset entry_bytes }
@@ -131,13 +131,13 @@ pub(crate) fn offset_behind(entries_size: u32) -> usize
     }
 }
 
-/// Returns the entry bytes of the entry block of `len` bytes at the start of `bytes`, without their checksum,
-/// which it checks. There are none if `len` is 0.
+/// Returns the entry bytes of the entry block at the start of `bytes`, without their checksum, which is
+/// checked. The block with its checksum has `len` bytes; the result is empty if that is 0. Nothing is copied.
 ///
 /// # Errors
 ///
-/// `Corruption` if there are fewer than `len` bytes, `len` is from 1 to 4, or the checksum is another;
-/// `Memory` if there is none for its text.
+/// `Corruption` if `bytes` is shorter than `len`, `len` is from 1 to 4, or the checksum is wrong; `Memory` if
+/// there is none for its text.
 pub fn lent_entry_block(alloc: Global, bytes: &[u8], len: usize) -> Result<&[u8]>
     ensures ok { IfOk result (λ entries. IsEntryBlockOf len bytes.now entries.now) }
     ensures refused { OnErr result ((entries : List ℕ) → IsEntryBlockOf len bytes.now entries → ⊥) }
@@ -155,13 +155,14 @@ pub fn lent_entry_block(alloc: Global, bytes: &[u8], len: usize) -> Result<&[u8]
     verify_checksum(alloc, block, None)
 }
 
-/// Makes the bytes of a batch in `buf`, around the entry bytes that are there behind the 16 bytes of the
-/// header: the header, the checksum of the entry bytes, and the item batch, whose own checksum is left 0.
+/// Completes the bytes of a batch in `buf`, which has 16 bytes of room for the header and then the entry
+/// bytes: appends the checksum of the entry bytes and the item batch, and fills in the header. The checksum
+/// of the item batch is left 0. `item_batch` has items.
 ///
 /// # Errors
 ///
-/// `Full` if they would be 2^56 bytes or more; `Memory`. `buf` may have more bytes at its end then; the
-/// others are unchanged.
+/// `Full` if the batch would have 2^56 bytes or more; `Memory`. `buf` may have more bytes at its end then;
+/// the bytes before are unchanged.
 #[tactic(auto, using(crate::proofs::BufferLemmas::closed_keeps, crate::proofs::BufferLemmas::behind_keeps))]
 pub(crate) fn encode_behind(buf: &mut Vec<u8>, item_batch: &mut LogItemBatch) -> Result<()>
     requires room { 16 ≤ length buf.old.items }
@@ -185,8 +186,8 @@ pub(crate) fn encode_behind(buf: &mut Vec<u8>, item_batch: &mut LogItemBatch) ->
     Ok(())
 }
 
-/// Signs the bytes of a batch in `buf` for the file of `context`: sets the checksum of the item batch. A
-/// batch without items has no bytes.
+/// Sets the checksum of the item batch in `buf`, which has the bytes of a whole batch, signed for the file of
+/// `context`. `buf` is empty, and stays so, if the batch has no items.
 pub(crate) fn seal(item_batch: &LogItemBatch, buf: &mut Vec<u8>, context: &LogFileContext)
     requires { IsHeld encoded item_batch.now (entry_bytes_in item_batch.now buf.old.items)
         buf.old.items }

@@ -1,4 +1,4 @@
-//! Key values of a region.
+//! Key values, which change one key of a region, and their bytes.
 
 ghost use Rattle.std.specs.Prelude.{◌≡◌, ◌≢◌, ◌↔◌, ◌<◌, ◌++◌, length, None, IsTrue, IfOk, IfErr, OnOk, OnErr};
 ghost use Rattle.raft_records.specs.Common.{option_map, Reads, HasNoFront, IsByteString, IsKeyValue, pair_of, IsByteStringFault, IsKeyValueFault, IsOpTypeFault, IsPairRefusal, change_of, pair_size, at_most_usize, Keeps, byte_string};
@@ -12,14 +12,15 @@ use std::alloc::Global;
 /// What is done to a key.
 #[derive(Clone, Copy, PartialEq, Eq, Debug)]
 pub enum OpType {
-    /// The key gets a value.
+    /// The key gets a value, in place of one that it may have.
     Put = 1,
-    /// The key is removed.
+    /// The key is removed with its value.
     Del = 2,
 }
 
 impl OpType {
-    /// Returns the op type that `byte` stands for: 1 for a put, 2 for a deletion.
+    /// Returns the operation that `byte` stands for: 1 for a put, 2 for a deletion. `alloc` is for the text
+    /// of an error.
     ///
     /// # Errors
     ///
@@ -35,7 +36,7 @@ impl OpType {
         }
     }
 
-    /// Returns the byte that stands for the op type: 1 for a put, 2 for a deletion.
+    /// Returns the byte that stands for the operation: 1 for a put, 2 for a deletion.
     pub fn to_u8(self) -> u8
         ensures { result ≡ op_type_byte self }
     {
@@ -43,19 +44,22 @@ impl OpType {
     }
 }
 
-/// A change of one key.
+/// A change of one key of a region.
 #[derive(Clone, PartialEq, Eq, Debug, Drop)]
 pub struct KeyValue {
+    /// Whether the key gets a value or is removed.
     pub op_type: OpType,
+    /// The key, which may be any bytes.
     pub key: Vec<u8>,
-    /// The new value of a `Put`.
+    /// The new value, of a `Put`.
     pub value: Option<Vec<u8>>,
-    /// The file that holds this change, once it has been written to one.
+    /// The file that the change is in; `None` until it is written to one.
     pub file_id: Option<FileId>,
 }
 
 impl KeyValue {
-    /// Returns a change of `key` that has not been written to a file.
+    /// Returns a change of `key` that isn't in a file yet. A put needs a `value`, and a deletion none; this
+    /// isn't tested before the change is written.
     pub fn new(op_type: OpType, key: Vec<u8>, value: Option<Vec<u8>>) -> KeyValue
         ensures { result
             ≡ record { op_type = op_type; key = key; value = value; file_id = None } }
@@ -81,8 +85,8 @@ impl KeyValue {
         Ok(<KeyValue as Clone>::clone(self)?)
     }
 
-    /// Returns the approximate length of the change in bytes: those of key and value, and 17 for its numbers.
-    /// Capped at `usize::MAX`.
+    /// Returns the approximate length of the encoded change in bytes, at most `usize::MAX`: the lengths of
+    /// key and value, and 17 for the operation and the two lengths.
     pub(crate) fn approximate_size(&self) -> usize
         ensures { result ≡ at_most_usize (pair_size (pair_of self.now)) }
     {
@@ -94,7 +98,7 @@ impl KeyValue {
         key.saturating_add(value).saturating_add(1 + 8 + 8)
     }
 
-    /// Tests whether the change can be written: all can but a put without a value.
+    /// Tests whether the change can be written: it isn't a put without a value.
     pub(crate) fn is_writable(&self) -> bool
         ensures { IsTrue result ↔ IsWritablePair (pair_of self.now) }
     {
@@ -104,8 +108,8 @@ impl KeyValue {
         }
     }
 
-    /// Appends the bytes of the change: the op type, the length of the key in base 128, the key and, for a
-    /// put, the length of the value and the value. A value of a deletion isn't written.
+    /// Appends the bytes of the change to `buf`: the operation, the length of the key in base 128, the key
+    /// and, for a put, the length of the value and the value. A value of a deletion isn't written.
     ///
     /// # Errors
     ///
@@ -122,12 +126,13 @@ impl KeyValue {
         append_whole!(buf, self.write(buf))
     }
 
-    /// Does what [`KeyValue::encode`] does for a change that can be written.
+    /// Appends the bytes of the change to `buf`, as [`KeyValue::encode`] does, without testing whether it can
+    /// be written. Of a put without a value, only the operation and the key are appended.
     ///
     /// # Errors
     ///
-    /// `AllocError` if there is no memory for the bytes. Some may have been appended then; the caller takes
-    /// them off.
+    /// `AllocError` if there is no memory for the bytes. `buf` may have more bytes at its end then, which the
+    /// caller cuts off.
     pub(crate) fn write(&self, buf: &mut Vec<u8>) -> AllocResult<()>
         ensures ok { OnOk result (buf.new.items ≡ buf.old.items ++ pair_bytes (pair_of self.now)) }
         ensures err { OnErr result (Keeps buf.old.items buf.new.items) }
@@ -140,12 +145,12 @@ impl KeyValue {
         }
     }
 
-    /// Reads a change from the start of `buf`, which is moved behind it. The change has no file.
+    /// Reads a change from the start of `buf`, and moves `buf` past it. The change is in no file.
     ///
     /// # Errors
     ///
-    /// `Codec` if the bytes end early or a number is malformed; `Corruption` for an unknown op type, and if a
-    /// key or a value is longer than what is left; `Memory`. `buf` is unchanged then.
+    /// `Codec` if the bytes end early or a length is malformed; `Corruption` for an unknown operation, or a
+    /// key or a value that is longer than the bytes that are left; `Memory`. `buf` is unchanged then.
     #[tactic(auto, using(crate::proofs::ItemLemmas::no_room_for_pair))]
     pub fn decode(alloc: Global, buf: &mut BytesSlice<'_>) -> Result<KeyValue>
         ensures ok { IfOk result (λ kv. Reads IsKeyValue buf.old.now buf.new.now (pair_of kv)) }
@@ -159,7 +164,8 @@ impl KeyValue {
         Ok(kv)
     }
 
-    /// Returns a change with copies of `key` and `value`: a put, or a deletion if there is no value.
+    /// Returns a change in the file `file_id` with copies of `key` and `value`: a put, or a deletion if
+    /// `value` is `None`.
     ///
     /// # Errors
     ///
@@ -187,12 +193,13 @@ impl KeyValue {
     }
 }
 
-/// Reads a change from the start of `bytes`. Returns its key, its value if it is a put, and the bytes behind
-/// it. Nothing is copied.
+/// Reads a change from the start of `bytes`. Returns its key, its value, which is `None` for a deletion, and
+/// the bytes after the change. Nothing is copied.
 ///
 /// # Errors
 ///
-/// Those of [`KeyValue::decode`]; `Memory` only for the text of an error.
+/// `Codec` if the bytes end early or a length is malformed; `Corruption` for an unknown operation, or a key
+/// or a value that is longer than the bytes that are left; `Memory` if there is none for its text.
 #[tactic(auto, using(crate::proofs::ItemLemmas::put_read, crate::proofs::ItemLemmas::del_read))]
 pub(crate) fn parse_pair(alloc: Global, bytes: &[u8]) -> Result<(&[u8], Option<&[u8]>, &[u8])>
     ensures ok { IfOk result (λ read. Reads IsKeyValue bytes.now read.2.now
@@ -216,12 +223,12 @@ pub(crate) fn parse_pair(alloc: Global, bytes: &[u8]) -> Result<(&[u8], Option<&
     }
 }
 
-/// Appends the length of `text` in base 128, and `text`.
+/// Appends the length of `text` in base 128, and then `text`, to `buf`.
 ///
 /// # Errors
 ///
-/// `AllocError` if there is no memory for them. Some bytes may have been appended then; the caller takes them
-/// off.
+/// `AllocError` if there is no memory for them. `buf` may have more bytes at its end then, which the caller
+/// cuts off.
 fn append_byte_string(buf: &mut Vec<u8>, text: &[u8]) -> AllocResult<()>
     ensures ok { OnOk result (buf.new.items ≡ buf.old.items ++ byte_string text.now) }
     ensures err { OnErr result (Keeps buf.old.items buf.new.items) }
@@ -230,8 +237,8 @@ fn append_byte_string(buf: &mut Vec<u8>, text: &[u8]) -> AllocResult<()>
     buf.extend_from_slice(text)
 }
 
-/// Reads a length in base 128 and as many bytes from the start of `bytes`. Returns those, and the bytes
-/// behind them.
+/// Reads a length in base 128 and as many bytes from the start of `bytes`. Returns those bytes, and the bytes
+/// after them.
 ///
 /// # Errors
 ///

@@ -1,4 +1,5 @@
-//! Laws of log batches: what their bytes are read as. Each is a function with an empty body.
+//! Laws of log batches: how what was written is read. Each is a function with an empty body, whose contract
+//! is the law.
 
 ghost use Rattle.std.specs.Prelude.{◌≡◌, ◌≢◌, ◌↔◌, ℕ, ◌+◌, ◌%◌, ◌^◌, ◌<◌, List, [], ◌++◌, map, drop, Option, Some};
 ghost use Rattle.raft_records.specs.Common.{V2, HasNoFront, HasOneFront, signature_in, FileBlockHandle, CompressionType, EntryIndex, IsConsecutive, Command, Part, IsNext, WrittenBatchStands, Item, bare, Pair, bare_entry, bare_pair};
@@ -6,10 +7,10 @@ ghost use Rattle.raft_records.specs.Common.{entries, command, pair, AreInBytes, 
 ghost use Rattle.raft_records.specs.Common.{IsContentInRange, IsFramed, IsFramedWith, LogBatchIsSpelled, IsCommand, IsEntries, IsItem, IsKeyValue, Tile, IsWritablePair, command_bytes, entries_bytes, pair_bytes, ItemIsSpelled};
 ghost use Rattle.raft_records.specs.Common.{ItemBatchIsSpelled, uncompressed};
 
-/// States that items are read as they were written. What is written of an item is a spelling of it, and no
-/// spelling of an item is the start of another, so it is read back whatever follows. What is written and
-/// signed of a batch of items is an item batch of them. Bytes are an item batch of one list of items only,
-/// with one rest.
+/// States that items are read as they were written. The bytes of an item stand for it, and no item's bytes
+/// are a prefix of those of another item, so an item is read back whatever bytes follow it. The bytes of some
+/// items with a signed checksum are an item batch of these items. No bytes are an item batch in two ways:
+/// with other items, or with other bytes left between the last item and the checksum.
 #[tactic(auto, using(crate::proofs::WrittenLemmas::item_spelled, crate::proofs::WrittenLemmas::batch_spelled))]
 pub fn items_are_read_again()
     ensures item { ItemIsSpelled }
@@ -21,9 +22,9 @@ pub fn items_are_read_again()
         (items ≡ items') × (rest ≡ rest') }
 {}
 
-/// States that the content of an item is read as it was written, by itself: commands; key values, without
-/// what bytes don't hold; and entries, after any number of entry bytes. What is written of it is a spelling
-/// of it, and no spelling is the start of another.
+/// States that each kind of an item's content is read as it was written: commands; key values, except for
+/// their file; and entries, except for their place, whatever entry bytes come before them. The bytes of a
+/// content stand for it, and are no prefix of those of another content of its kind.
 #[tactic(auto, using(crate::proofs::WrittenLemmas::command_spelled, crate::proofs::WrittenLemmas::entries_spelled))]
 pub fn contents_are_read_again()
     ensures command { (c : Command) → IsContentInRange (command c) → IsCommand (command_bytes c) c }
@@ -36,8 +37,9 @@ pub fn contents_are_read_again()
     ensures one_entries { (s : ℕ) → HasOneFront (IsEntries s) }
 {}
 
-/// States that bytes that are an item batch in one file of version 2 are none in another file of version 2,
-/// unless the low 32 bits of the file numbers agree; then they are the same one.
+/// States that an item batch of one file of version 2 isn't an item batch of another file of version 2,
+/// unless the low 32 bits of the file numbers are the same. If they are the same, it is an item batch of the
+/// other file too, with the same items.
 pub fn batches_belong_to_one_file()
     ensures other_file { (bytes rest rest' : List ℕ) (seq seq' : ℕ) (items items' : List Item) →
         IsItemBatch bytes (signature_in V2 seq) items rest →
@@ -47,11 +49,11 @@ pub fn batches_belong_to_one_file()
         IsItemBatch bytes (signature_in V2 seq') items rest }
 {}
 
-/// States that log batches are read as they were written. What is written and signed of a batch is a log
-/// batch of its items and entry bytes. Bytes are a log batch exactly if they have a header, an entry block
-/// and an item batch, each of which can be read in one way only; so they are a log batch of one list of items
-/// and of one string of entry bytes. They are a readable batch exactly if they have a header, and an item
-/// batch from the offset in it to their end.
+/// States that log batches are read as they were written. The bytes of a log batch with a signed checksum are
+/// a log batch of its items and entry bytes. Bytes are a log batch exactly if they consist of a header, an
+/// entry block and an item batch. Each of these can be read in one way only, so the bytes have one list of
+/// items and one string of entry bytes. Bytes are a readable batch exactly if they have a header, and an item
+/// batch from the offset that the header names to their end: the entry block isn't looked at.
 #[tactic(auto, using(crate::proofs::FrameLemmas::log_batch_spelled, crate::proofs::FrameLemmas::one_entry_block))]
 pub fn log_batches_are_read_again()
     ensures written { LogBatchIsSpelled }
@@ -72,8 +74,9 @@ pub fn log_batches_are_read_again()
         → (items ≡ items') × (entry_bytes ≡ entry_bytes') }
 {}
 
-/// States that a batch that was signed for one file of version 2 is refused for another file of version 2
-/// exactly if the low 32 bits of the file numbers differ; if they agree it is the same batch.
+/// States that a log batch that was signed for one file of version 2 is refused in another file of version 2
+/// exactly if the low 32 bits of the file numbers differ. If they are the same, it is read there with the
+/// same items.
 pub fn log_batches_belong_to_one_file()
     ensures other_file { (bytes : List ℕ) (seq seq' : ℕ) (items items' : List Item) →
         IsReadable bytes (signature_in V2 seq) items
@@ -84,11 +87,11 @@ pub fn log_batches_belong_to_one_file()
         IsLogBatch bytes (signature_in V2 seq') items entry_bytes }
 {}
 
-/// States that [`next_batch`](crate::next_batch) reads a written batch back. If a part of a file has the
-/// bytes of a batch with items that was signed for that file, at the offset of the place that it was written
-/// to, the batch isn't refused there: its items are exactly those that `finish_write` leaves, and the next
-/// batch is said to begin where its bytes end. What else is asked holds of every batch whose bytes were made,
-/// as [`LogBatch::is_read_again`](crate::LogBatch::is_read_again) states.
+/// States that [`next_batch`](crate::next_batch) reads a written batch back. Let a part of a file have, at
+/// the offset to which a batch with items was written, the bytes of the batch, signed for that file. Then
+/// `next_batch` doesn't refuse them, returns exactly the items that `finish_write` leaves in the batch, and
+/// says that the next batch begins where the bytes end. The other premises hold for every batch that was
+/// encoded, as [`LogBatch::is_read_again`](crate::LogBatch::is_read_again) states.
 #[tactic(auto, using(crate::proofs::PartLemmas::written_stands, crate::proofs::PartLemmas::written_next, crate::proofs::PartLemmas::written_accepted))]
 pub fn written_batches_are_next()
     ensures stands { WrittenBatchStands }
@@ -113,8 +116,8 @@ pub fn written_batches_are_next()
         (drop at part.bytes) → ⊥ }
 {}
 
-/// States that what is read of a written batch is what the batch itself has once the write has given its
-/// items their places.
+/// States that the items that are read of a written batch are those of the batch itself, once `finish_write`
+/// has set their places.
 #[tactic(auto, using(crate::proofs::RangeLemmas::items_read))]
 pub fn placed_items_are_read()
     ensures { (handle : FileBlockHandle) (compression : CompressionType) (items : List Item) →

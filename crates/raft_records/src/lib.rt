@@ -1,4 +1,8 @@
-//! Items, batches of items, and their bytes.
+//! What stands in a log file, and how it is written and read.
+//!
+//! An *item* says what changes in one region: new entries, a command, or a key value. An *item batch* is
+//! items with a checksum. A *log batch* is what is written at once: a header, the bytes of its entries (the
+//! *entry block*), and an item batch. `docs/FORMAT.md` has the bytes.
 #![tactic(auto)]
 
 pub mod atomic_group;

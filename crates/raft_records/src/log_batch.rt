@@ -1,4 +1,4 @@
-//! Batches of log items with the bytes of their entries.
+//! [`LogBatch`]: items with the bytes of their entries, as they are written at once.
 
 ghost use Rattle.std.specs.Prelude.{◌≡◌, ◌≢◌, ℕ, ◌+◌, ◌-◌, ◌^◌, ◌<◌, ◌≤◌, ◌↔◌, List, [], length, map, IfOk, IfErr, OnOk, OnErr, IsTrue, Option, Some, None};
 ghost use Rattle.raft_records.specs.Common.{Reads, HasNoFront, signature_of, into_iter_items, into_iter_len, bare, command_item, item_of, pair_item, AreInBytes, is_open, encoded, sealed, IsSealedStage, empty_batch, with_item, IsBatchOf};
@@ -23,27 +23,29 @@ use std::vec;
 
 mod entries;
 
-/// The most bytes that the entries of a batch have together.
+/// The most bytes that the entries of a batch may have together.
 const MAX_LOG_ENTRIES_SIZE_PER_BATCH: u64 = (1 << 31) - 1;
 
-/// The room in bytes that an emptied batch keeps at most for the bytes of later items.
+/// The most bytes that the buffer of an emptied batch keeps allocated.
 const MAX_LOG_BATCH_BUFFER_CAP: usize = 8 * 1024 * 1024;
 
-/// What the buffer of a batch holds.
+/// The stage of a batch, which says what its buffer holds.
 #[derive(Clone, Copy, PartialEq, Eq, Debug)]
 enum BufState {
-    /// Room for the header, and the entry bytes.
+    /// 16 bytes of room for the header, and the entry bytes after them; the buffer may be empty if there are
+    /// none.
     Open,
-    /// The batch's bytes, any four in the place of the checksum; nothing without items.
+    /// The bytes of the batch, in which the checksum of the items isn't set yet. The buffer is empty if there
+    /// are no items.
     Encoded,
-    /// The batch's bytes, with this signature.
+    /// The bytes of the batch, with a checksum that is combined with this signature, or not signed.
     Sealed(Option<u32>),
 }
 
 impl BufState {
     ghost use Rattle.raft_records.specs.LogBatchModel.{stage_of};
 
-    /// Tests whether this stage and `other` are both open, both encoded or both sealed, for whichever files.
+    /// Tests whether both stages are open, both encoded, or both sealed. Signatures aren't compared.
     fn is_same_stage(self, other: BufState) -> bool
         ensures { IsTrue result ↔ (stage_number (stage_of self) ≡ stage_number (stage_of other)) }
     {
@@ -56,12 +58,18 @@ impl BufState {
     }
 }
 
-/// Log items and the bytes of their entries. Items are added while it is open; then its bytes are made, signed
-/// for a file and written there.
+/// Items with the bytes of their entries, to be written at once.
+///
+/// A batch has three stages. It is *open* at first: items are added. `finish_populate` makes its bytes: it is
+/// *encoded*, and takes no more items. `prepare_write` signs the bytes for a file: it is *sealed*, and can be
+/// written. `drain` takes the items out, and opens it again.
 #[derive(Debug, Drop)]
 pub struct LogBatch {
+    /// The items.
     item_batch: LogItemBatch,
+    /// The stage of the batch.
     state: BufState,
+    /// What the stage says: the entry bytes, or the bytes of the whole batch.
     buf: Vec<u8>,
 }
 
@@ -89,7 +97,7 @@ impl LogBatch {
         }
     }
 
-    /// Returns an open batch without items, with room for `cap` of them.
+    /// Returns an open batch without items, with room for `cap` items.
     ///
     /// # Errors
     ///
@@ -118,25 +126,24 @@ impl LogBatch {
         self.item_batch.iter().as_slice().is_empty()
     }
 
-    /// Tests whether items may still be added: until `finish_populate` makes the bytes, and again after
-    /// `drain`.
+    /// Tests whether items may be added: until `finish_populate` makes the bytes, and again after `drain`.
     pub fn is_open(&self) -> bool
         ensures { IsTrue result ↔ (self.now.stage ≡ is_open) }
     {
         matches!(self.state, BufState::Open)
     }
 
-    /// Tests whether the bytes of the batch are signed for a file, or finished for one without signatures, so
-    /// that they can be written.
+    /// Tests whether the bytes of the batch can be written: they are signed for a file, or finished for a
+    /// file of version 1, which has no signatures.
     pub fn is_sealed(&self) -> bool
         ensures { IsTrue result ↔ IsSealedStage self.now.stage }
     {
         matches!(self.state, BufState::Sealed(_))
     }
 
-    /// Returns the approximate length of the batch in bytes, capped at `usize::MAX`: 0 without items, and
-    /// their exact length once they are made. It is at least their length if all region ids and indexes are
-    /// below 2^56, unless the batch is too long to be encoded.
+    /// Returns the approximate length of the batch in bytes, at most `usize::MAX`. It is 0 without items, and
+    /// exact once the bytes are made. In an open batch it is at least the exact length, if all region ids and
+    /// indexes are below 2^56 and the batch can be encoded.
     pub fn approximate_size(&self) -> usize
         ensures size { result
             ≡ approximate_length self.now.stage self.now.items self.now.entry_bytes }
@@ -164,8 +171,8 @@ impl LogBatch {
         self.item_batch.as_slice()
     }
 
-    /// Returns the items in order, and leaves the batch open and empty. It keeps at most 8 MiB for the bytes
-    /// of later items.
+    /// Returns all items, in the order in which they were added, and leaves the batch open and empty. Up to 8
+    /// MiB of its buffer stay allocated for later items.
     pub fn drain(&mut self) -> vec::IntoIter<LogItem>
         ensures items { map item_of (into_iter_items result) ≡ self.old.items }
         ensures len { into_iter_len result ≡ length self.old.items }
@@ -177,7 +184,7 @@ impl LogBatch {
         self.item_batch.drain()
     }
 
-    /// Adds a command on the log of `region` to an open batch.
+    /// Adds a command on the log of `region`. The batch must be open.
     ///
     /// # Errors
     ///
@@ -191,12 +198,12 @@ impl LogBatch {
         self.item_batch.add_command(region, command)
     }
 
-    /// Makes the bytes of an open batch, to which nothing can be added from then on, and returns their
+    /// Makes the bytes of an open batch, which is encoded then and takes no more items, and returns their
     /// number: 0 without items.
     ///
     /// # Errors
     ///
-    /// `Full` if they would be 2^56 or more; `Memory`. The batch is unchanged then.
+    /// `Full` if there would be 2^56 bytes or more; `Memory`. The batch is unchanged then, and still open.
     pub fn finish_populate(&mut self) -> Result<usize>
         requires { self.old.stage ≡ is_open }
         ensures ok { OnOk result (self.new ≡ record self.old { stage = encoded }) }
@@ -224,8 +231,8 @@ impl LogBatch {
         Ok(self.buf.len())
     }
 
-    /// Signs the bytes of a batch that is no longer open for the file of `context`. It may be repeated for
-    /// other files, and allocates nothing.
+    /// Signs the bytes of the batch for the file of `context`; the batch is sealed then. It must not be open.
+    /// A sealed batch may be signed again for another file. It allocates nothing.
     #[tactic(auto, using(crate::proofs::StageLemmas::held_unsigned, crate::proofs::StageLemmas::made_of))]
     pub fn prepare_write(&mut self, context: &LogFileContext)
         requires { self.old.stage ≢ is_open }
@@ -235,7 +242,8 @@ impl LogBatch {
         self.state = BufState::Sealed(context.get_signature());
     }
 
-    /// Returns the bytes of a sealed batch, as they are to be written. A batch without items has none.
+    /// Returns the bytes of a sealed batch, as they are to be written to the file that it was sealed for. A
+    /// batch without items has none.
     pub fn encoded_bytes(&self) -> &[u8]
         requires { IsSealedStage self.now.stage }
         ensures bytes { (signature : Option ℕ) → self.now.stage ≡ sealed signature →
@@ -248,11 +256,10 @@ impl LogBatch {
         self.buf.as_slice()
     }
 
-    /// States that what is written and signed of a batch is read again. The bytes of its entries lie one
-    /// after the other in its entry bytes, of which there are 2^31 - 1 at most. The numbers of its items are
-    /// in the ranges of their types. Its bytes hold everything of its items but places and files. They are
-    /// fewer than 2^56 once they are made and, if the batch has items, they are a log batch of these items
-    /// and entry bytes. This is a law: it computes nothing.
+    /// States that a written batch can be read back. The bytes of its entries lie one after the other in its
+    /// entry bytes, of which there are at most 2^31 - 1. The numbers of its items fit their types. Its bytes
+    /// hold everything of its items but places and files. Once made, they are fewer than 2^56, and those of a
+    /// batch with items are a log batch of these items and entry bytes. This is a law: it computes nothing.
     #[tactic(auto, using(crate::proofs::StageLemmas::encoded_short))]
     pub fn is_read_again(&self)
         ensures tiled { IsBatchOf self.now.items self.now.entry_bytes }
@@ -269,13 +276,14 @@ impl LogBatch {
         log_batches_are_read_again();
     }
 
-    /// Reads the header of a log batch from the start of `buf`, which is moved behind it. Returns the offset
-    /// of the item batch, the compression of the entry bytes, and the length of the batch in bytes. It
-    /// allocates nothing for this.
+    /// Reads the header of a log batch from the start of `buf`, and moves `buf` past it. Returns the offset
+    /// of the item batch from the start of the batch, the compression type of the entry bytes, and the length
+    /// of the whole batch in bytes. `alloc` is only for the text of an error.
     ///
     /// # Errors
     ///
-    /// `Corruption` if there is no header; `Memory` if there is none for its text. `buf` is unchanged then.
+    /// `Corruption` if `buf` doesn't begin with a header; `Memory` if there is none for its text. `buf` is
+    /// unchanged then.
     pub fn decode_header(
         alloc: Global,
         buf: &mut BytesSlice<'_>,
@@ -290,12 +298,13 @@ impl LogBatch {
         Ok(header)
     }
 
-    /// Returns a copy of the entry bytes of the entry block at the start of `buf`, whose length, with its
-    /// checksum, is that of `place`. There are none if that is 0.
+    /// Returns a copy of the entry bytes of the entry block at the start of `buf`, without their checksum,
+    /// which is checked. `place.len` is the length of the block with its checksum; the rest of `place` isn't
+    /// used. The result is empty if that length is 0.
     ///
     /// # Errors
     ///
-    /// `Corruption` if the buffer is too short or the checksum is another; `Memory`.
+    /// `Corruption` if `buf` is shorter than the block, or the checksum is wrong; `Memory`.
     pub fn decode_entries_block(
         alloc: Global,
         buf: &[u8],
@@ -317,11 +326,11 @@ impl LogBatch {
         }
     }
 
-    /// Adds the deletion of `key` of `region` to an open batch.
+    /// Adds the deletion of `key` in `region`. The batch must be open.
     ///
     /// # Errors
     ///
-    /// `Memory` alone. The batch is unchanged then.
+    /// `Memory` alone. The batch is unchanged then, and `key` is dropped.
     pub fn delete(&mut self, region: u64, key: Vec<u8>) -> Result<()>
         requires { self.old.stage ≡ is_open }
         ensures ok { OnOk result (self.new
@@ -332,11 +341,12 @@ impl LogBatch {
         self.item_batch.delete(region, key)
     }
 
-    /// Adds a put of `value` under `key` of `region` to an open batch.
+    /// Adds a put of `value` under `key` in `region`. The batch must be open.
     ///
     /// # Errors
     ///
-    /// `InvalidArgument` for the key of group markers; `Memory`. The batch is unchanged then.
+    /// `InvalidArgument` for the key that is reserved for group markers ([`is_reserved`]); `Memory`. The
+    /// batch is unchanged then, and `key` and `value` are dropped.
     pub fn put(&mut self, region: u64, key: Vec<u8>, value: Vec<u8>) -> Result<()>
         requires { self.old.stage ≡ is_open }
         ensures ok { OnOk result (self.new
@@ -349,12 +359,12 @@ impl LogBatch {
         self.put_unchecked(region, key, value)
     }
 
-    /// Adds a put of the bytes of `message` under `key` of `region` to an open batch.
+    /// Adds a put of the bytes of `message` under `key` in `region`. The batch must be open.
     ///
     /// # Errors
     ///
-    /// `InvalidArgument` for the key of group markers; `Message` if the message refuses to be written;
-    /// `Memory`. The batch is unchanged then.
+    /// `InvalidArgument` for the key that is reserved for group markers ([`is_reserved`]); `Message` if the
+    /// message refuses to be written; `Memory`. The batch is unchanged then, and `key` is dropped.
     pub fn put_message<S: Message>(&mut self, region: u64, key: Vec<u8>, message: &S) -> Result<()>
         requires { self.old.stage ≡ is_open }
         ensures ok { OnOk result (self.new ≡ with_item self.old
@@ -367,11 +377,12 @@ impl LogBatch {
         self.item_batch.put_message(region, key, message)
     }
 
-    /// Does what [`LogBatch::put`] does, also under the key of group markers.
+    /// Adds a put of `value` under `key` in `region`, which may be the reserved key of group markers. The
+    /// batch must be open.
     ///
     /// # Errors
     ///
-    /// `Memory` alone. The batch is unchanged then.
+    /// `Memory` alone. The batch is unchanged then, and `key` and `value` are dropped.
     pub(crate) fn put_unchecked(&mut self, region: u64, key: Vec<u8>, value: Vec<u8>) -> Result<()>
         requires { self.old.stage ≡ is_open }
         ensures ok { OnOk result (self.new
@@ -382,10 +393,10 @@ impl LogBatch {
         self.item_batch.put(region, key, value)
     }
 
-    /// Gives the items of a sealed batch their places, once its bytes were written to `handle`. Each entry
-    /// gets the place of the entry bytes with their checksum, which begins 16 bytes behind that of the batch,
-    /// and has the length 0 if there are no entry bytes. Each key value gets the file. The place of the batch
-    /// must begin at 2^64 - 17 at most. The bytes of the batch stay as they are, and it allocates nothing.
+    /// Sets the places of the items of a sealed batch, once its bytes were written to `handle`. Each entry
+    /// gets the place of the entry block, which begins 16 bytes after the start of the batch, and has length
+    /// 0 if there are no entry bytes. Each key value gets the file of `handle`, whose offset must be at most
+    /// 2^64 - 17. The bytes of the batch stay the same, and it allocates nothing.
     pub fn finish_write(&mut self, handle: FileBlockHandle)
         requires sealed { IsSealedStage self.old.stage }
         requires offset { handle.offset ≤ 2 ^ 64 - 17 }
@@ -405,7 +416,7 @@ impl LogBatch {
         self.item_batch.place(entry_place, CompressionType::None);
     }
 
-    /// Returns a copy of the batch, with the same items and entry bytes, at the same stage.
+    /// Returns a copy of the batch: the same items and entry bytes, at the same stage.
     ///
     /// # Errors
     ///
@@ -417,7 +428,7 @@ impl LogBatch {
         Ok(<LogBatch as Clone>::clone(self)?)
     }
 
-    /// Returns the entry bytes, without their checksum.
+    /// Returns the entry bytes of the batch, without their checksum, at any stage.
     fn entry_bytes(&self) -> &[u8]
         ensures { result.now ≡ self.now.entry_bytes }
     {
@@ -430,7 +441,7 @@ impl LogBatch {
     }
 }
 
-/// Checks that `key` isn't the one of group markers.
+/// Checks that `key` isn't the one that is reserved for group markers.
 ///
 /// # Errors
 ///
@@ -447,8 +458,8 @@ fn refuse_reserved(key: &Vec<u8>) -> Result<()>
     Ok(())
 }
 
-/// A batch is ready once it is no longer open. Its bytes are signed for the file that they are asked
-/// for.
+/// Lets a [`PipeLog`](raft_base::PipeLog) write a batch: it is ready once it is no longer open, and its bytes
+/// are signed for the file that they are written to.
 impl ReactiveBytes for LogBatch {
     ghost is_ready = { λ batch. batch.stage ≢ is_open };
 
@@ -460,7 +471,8 @@ impl ReactiveBytes for LogBatch {
         !self.is_open()
     }
 
-    /// Signs the bytes of the batch for the file of `ctx`, and returns them.
+    /// Signs the bytes of the batch for the file of `ctx`, and returns them. The batch must not be open, and
+    /// is sealed then.
     fn as_bytes(&mut self, ctx: &LogFileContext) -> &[u8] {
         self.prepare_write(ctx);
         self.encoded_bytes()
@@ -475,8 +487,8 @@ impl PartialEq for LogBatch {
 
     ghost laws = { partial_equiv_from_equiv same_batch_is_equivalence };
 
-    /// Tests whether this batch and `other` have the same items and entry bytes and are both open, both
-    /// encoded or both sealed, for whichever files.
+    /// Tests whether both batches have the same items and entry bytes and are at the same stage: both open,
+    /// both encoded, or both sealed, though perhaps for different files.
     fn eq(&self, other: &LogBatch) -> bool
         ensures tested { result ≡ same_batch self.now other.now }
         ensures exact { IsTrue result ↔ AreEqual self.now other.now }
@@ -496,7 +508,7 @@ impl Eq for LogBatch {
 impl Clone for LogBatch {
     ghost is_clone = { λ batch copy. copy ≡ batch };
 
-    /// Returns a copy of the batch, with the same items and entry bytes, at the same stage.
+    /// Returns a copy of the batch: the same items and entry bytes, at the same stage.
     ///
     /// # Errors
     ///

@@ -1,4 +1,4 @@
-//! Items: what is said of one region.
+//! [`LogItem`]: what changes in one region, and its bytes.
 
 ghost use Rattle.std.specs.Prelude.{◌≡◌, ◌≢◌, ◌↔◌, ◌++◌, IsTrue, IfOk, IfErr, OnOk, OnErr};
 ghost use Rattle.raft_records.specs.Common.{option_map, Reads, HasNoFront, IsItem, end_of_content, item_of, content_of, entries_item, command_item, pair_item, IsItemFault, IsItemRefusal, placed_item, raised_item, CanRaiseContent};
@@ -11,23 +11,28 @@ use raft_base::{AllocResult, CompressionType, EntryIndex, Error, FileBlockHandle
 use raft_codec::codec::{self, BytesSlice};
 use std::alloc::Global;
 
+/// The type byte of an item with entries.
 pub(crate) const TYPE_ENTRIES: u8 = 1;
 
+/// The type byte of an item with a command.
 pub(crate) const TYPE_COMMAND: u8 = 2;
 
+/// The type byte of an item with a key value.
 pub(crate) const TYPE_KV: u8 = 3;
 
-/// What is said of the region `raft_group_id`.
+/// A change of one region.
 #[derive(Clone, PartialEq, Eq, Debug, Drop)]
 pub struct LogItem {
+    /// The id of the region. A group marker has the number of its atomic group here.
     pub raft_group_id: u64,
+    /// What changes in the region.
     pub content: LogItemContent,
 }
 
-/// What an item says of its region.
+/// What an item changes in its region.
 #[derive(Clone, PartialEq, Eq, Debug, Drop)]
 pub enum LogItemContent {
-    /// New entries.
+    /// New entries of the region's log.
     EntryIndexes(EntryIndexes),
     /// A change of the region's log as a whole.
     Command(Command),
@@ -56,8 +61,8 @@ impl LogItem {
         }
     }
 
-    /// Returns an item that changes `key` of the region `raft_group_id`, as `op_type` says: a put of `value`,
-    /// or a deletion. It has not been written to a file.
+    /// Returns an item that changes `key` of the region `raft_group_id`: `op_type` says whether it puts
+    /// `value` or deletes the key. The change isn't in a file yet.
     pub fn new_kv(
         raft_group_id: u64,
         op_type: OpType,
@@ -86,8 +91,8 @@ impl LogItem {
         Ok(<LogItem as Clone>::clone(self)?)
     }
 
-    /// Returns the approximate length of the item in bytes, capped at `usize::MAX`: that of its content, and
-    /// nine.
+    /// Returns the approximate length of the encoded item in bytes, at most `usize::MAX`: that of its
+    /// content, and nine for the region id and the type.
     pub(crate) fn approximate_size(&self) -> usize
         ensures { result ≡ at_most_usize (item_size (item_of self.now)) }
     {
@@ -99,8 +104,8 @@ impl LogItem {
         content.saturating_add(8 + 1)
     }
 
-    /// Gives the entries of the item the place `handle` and this compression type, or its key value the file
-    /// of that place. A command has neither.
+    /// Sets the place of the item's entries to `handle` and their compression type to `compression_type`, or
+    /// the file of its key value to that of `handle`. A command isn't changed.
     pub(crate) fn place(&mut self, handle: FileBlockHandle, compression_type: CompressionType)
         ensures { item_of self.new ≡ placed_item handle compression_type (item_of self.old) }
     {
@@ -111,7 +116,7 @@ impl LogItem {
         }
     }
 
-    /// Adds `by` to the offset of each entry's bytes, if the item has entries.
+    /// Adds `by` to the offset of each entry, if the item has entries.
     pub(crate) fn raise_offsets(&mut self, by: u32)
         requires { CanRaiseContent by (content_of self.old.content) }
         ensures { item_of self.new ≡ raised_item by (item_of self.old) }
@@ -122,7 +127,8 @@ impl LogItem {
         }
     }
 
-    /// States that the item's numbers are in the ranges of their types. This is a law: it computes nothing.
+    /// States that the item's numbers fit their types. This is a law: what its body reads serves the prover
+    /// alone.
     pub(crate) fn numbers_fit(&self)
         ensures { IsInRange (item_of self.now) }
     {
@@ -144,8 +150,8 @@ impl LogItem {
         }
     }
 
-    /// Tests whether the item can be written: the indexes of entries are consecutive and their bytes run on,
-    /// and a put has a value.
+    /// Tests whether the item can be written: the indexes of its entries are consecutive and their bytes lie
+    /// one after the other, and a put has a value.
     fn is_writable(&self) -> bool
         ensures { IsTrue result ↔ IsWritable (item_of self.now) }
     {
@@ -156,13 +162,13 @@ impl LogItem {
         }
     }
 
-    /// Appends the bytes of the item: the region id in base 128, a byte for the type of its content, and the
-    /// content.
+    /// Appends the bytes of the item to `buf`: the region id in base 128, a byte for the type of the content,
+    /// and the content.
     ///
     /// # Errors
     ///
-    /// `InvalidArgument` if its content can't be written (as [`EntryIndexes::encode`] and
-    /// [`KeyValue::encode`] say); `Memory`. `buf` is unchanged then.
+    /// `InvalidArgument` if the content can't be written, as [`EntryIndexes::encode`] and
+    /// [`KeyValue::encode`] say; `Memory`. `buf` is unchanged then.
     pub fn encode(&self, buf: &mut Vec<u8>) -> Result<()>
         ensures ok { OnOk result (buf.new.items ≡ buf.old.items ++ item_bytes (item_of self.now)) }
         ensures accepted { OnOk result (IsWritable (item_of self.now)) }
@@ -178,12 +184,13 @@ impl LogItem {
         append_whole!(buf, self.write(buf))
     }
 
-    /// Does what [`LogItem::encode`] does for an item that can be written.
+    /// Appends the bytes of the item to `buf`, as [`LogItem::encode`] does, without testing whether it can be
+    /// written.
     ///
     /// # Errors
     ///
-    /// `AllocError` if there is no memory for the bytes. Some may have been appended then; the caller takes
-    /// them off.
+    /// `AllocError` if there is no memory for the bytes. `buf` may have more bytes at its end then, which the
+    /// caller cuts off.
     pub(crate) fn write(&self, buf: &mut Vec<u8>) -> AllocResult<()>
         ensures ok { OnOk result (buf.new.items ≡ buf.old.items ++ item_bytes (item_of self.now)) }
         ensures err { OnErr result (Keeps buf.old.items buf.new.items) }
@@ -192,15 +199,16 @@ impl LogItem {
         self.content.write(buf)
     }
 
-    /// Reads an item from the start of `buf`, which is moved behind it. Its entries have no place, and its
-    /// key value no file. The entries of the items before this one have `entries_size` bytes together; it is
-    /// raised by the bytes of these.
+    /// Reads an item from the start of `buf`, and moves `buf` past it. Its entries have no place, and its key
+    /// value is in no file. `entries_size` is the number of bytes that the entries of the items before it
+    /// have together; the bytes of its own entries are added to it.
     ///
     /// # Errors
     ///
-    /// `Codec` if the bytes end early or a number is malformed; `Io` if they end before the byte for the
-    /// type; `Corruption` for an unknown type, and for what the `decode` of its content refuses so; `Memory`.
-    /// `buf` and `entries_size` are unchanged then.
+    /// `Codec` if the bytes end early or a number is malformed; `Io` of the kind `UnexpectedEof` if they end
+    /// before the type; `Corruption` for an unknown type, or for content that [`EntryIndexes::decode`],
+    /// [`Command::decode`] or [`KeyValue::decode`] refuses so; `Memory`. `buf` and `entries_size` are
+    /// unchanged then.
     pub fn decode(
         alloc: Global,
         buf: &mut BytesSlice<'_>,
@@ -243,12 +251,13 @@ impl LogItemContent {
         Ok(<LogItemContent as Clone>::clone(self)?)
     }
 
-    /// Appends the byte for the type of the content, and the bytes of the content, which can be written.
+    /// Appends the byte for the type of the content, and the content, to `buf`, without testing whether it
+    /// can be written.
     ///
     /// # Errors
     ///
-    /// `AllocError` if there is no memory for the bytes. Some may have been appended then; the caller takes
-    /// them off.
+    /// `AllocError` if there is no memory for the bytes. `buf` may have more bytes at its end then, which the
+    /// caller cuts off.
     fn write(&self, buf: &mut Vec<u8>) -> AllocResult<()>
         ensures ok { OnOk result (buf.new.items
             ≡ buf.old.items ++ content_bytes (content_of self.now)) }
@@ -271,8 +280,8 @@ impl LogItemContent {
     }
 }
 
-/// Returns what was read as the content of an item, with copies of its key and value. A run has `entries`,
-/// which were read with it.
+/// Returns the content of an item of which `content` was read, with copies of its key and value. If it is
+/// entries, they are `entries`, which were read with it.
 ///
 /// # Errors
 ///

@@ -1,4 +1,4 @@
-//! Batches of log items, without entry bytes.
+//! [`LogItemBatch`]: items without the bytes of their entries.
 
 ghost use Rattle.std.specs.Prelude.{◌≡◌, ◌≢◌, ℕ, ◌+◌, ◌^◌, ◌<◌, ◌≤◌, length, Option, List, [], ◌∷◌, ◌++◌, map, Some, None, IfOk, IfErr, IfSome, OnOk, OnErr, ◌↔◌, IsTrue};
 ghost use Rattle.raft_records.specs.Common.{into_iter_items, into_iter_len, iter_rest, signature_of, IsConsecutive, end_of_content, AreDecodedIn, Item, bare, entries, command, content_of, item_of, entries_item, command_item, pair_item};
@@ -19,18 +19,20 @@ use std::alloc::Global;
 use std::marker::Model;
 use std::{mem, slice, vec};
 
-/// Items in order, without the entries' bytes. The bytes of the entries of its items run on from the
-/// first item to the last.
+/// Items in order, without the bytes of their entries. The entries of the first item begin at offset 0 of the
+/// entry bytes, and those of each later item where those before it end.
 #[derive(Debug, Drop)]
 pub struct LogItemBatch {
+    /// The items, in the order in which they were added.
     items: Vec<LogItem>,
-    /// The approximate size of the items, capped at `usize::MAX`.
+    /// The approximate length of the items in bytes, at most `usize::MAX`.
     item_size: usize,
-    /// How many bytes the entries have together.
+    /// The number of bytes that the entries of all items have together.
     entries_size: u32,
-    /// The CRC of the encoded items, where it is known.
+    /// The CRC-32 of the encoded items; `None` if they have changed since they were encoded, or never were.
     checksum: Option<u32>,
-    /// The file in which `decode` gave the items their places, where nothing has changed since.
+    /// The file in which `decode` gave the items their places; `None` if the items have changed since, or
+    /// weren't decoded.
     decoded_in: Option<FileId>,
 }
 
@@ -61,7 +63,7 @@ impl LogItemBatch {
         }
     }
 
-    /// Returns a batch without items, with room for `cap` of them.
+    /// Returns a batch without items, with room for `cap` items.
     ///
     /// # Errors
     ///
@@ -77,7 +79,7 @@ impl LogItemBatch {
         })
     }
 
-    /// Takes the items out of the batch, in the order in which they were added.
+    /// Returns the items in the order in which they were added, without a copy.
     pub fn into_items(self) -> Vec<LogItem>
         ensures { map item_of result.items ≡ self }
     {
@@ -85,7 +87,7 @@ impl LogItemBatch {
         items
     }
 
-    /// Returns an iterator over the items, in order.
+    /// Returns an iterator over the items, in the order in which they were added.
     pub fn iter(&self) -> slice::Iter<'_, LogItem>
         ensures { map item_of (iter_rest result) ≡ self.now }
     {
@@ -99,9 +101,10 @@ impl LogItemBatch {
         self.items.as_slice()
     }
 
-    /// States that what is written and signed of a batch is read again. The bytes of its entries run on from
-    /// item to item, the numbers of its items are in the ranges of their types, and its bytes hold everything
-    /// of its items but places and files. This is a law: it computes nothing.
+    /// States that a written batch can be read back. The bytes of its entries lie one after the other, from
+    /// item to item. The numbers of its items fit their types. Its bytes hold everything of its items but
+    /// places and files, and with their checksum they are an item batch of these items. This is a law: it
+    /// computes nothing.
     pub fn is_read_again(&self)
         ensures fit { FitTogether 0 self.now }
         ensures in_range { AreInRange self.now }
@@ -113,9 +116,10 @@ impl LogItemBatch {
         let _count = self.items.len();
     }
 
-    /// Returns the file in which `decode` gave the items their places, as long as none was added, moved or
-    /// placed since: they may be in a batch of that file, so nobody needs to test them again. `None` says
-    /// nothing of the items. (No clause says when it comes, nor that a clone returns the same.)
+    /// Returns the file in which [`LogItemBatch::decode`] gave the items their places, if no item was added,
+    /// moved or placed since. Then the entries of an item are consecutive, all places are in that file, and a
+    /// put has a value: nobody needs to test it again. `None` says nothing of the items. (No clause says when
+    /// it comes, nor that a clone returns the same.)
     pub fn decoded_in(&self) -> Option<FileId>
         ensures { IfSome result (λ file. AreDecodedIn file self.now) }
     {
@@ -129,8 +133,8 @@ impl LogItemBatch {
         self.entries_size
     }
 
-    /// Returns the approximate length of the batch in bytes, capped at `usize::MAX`. It is at least their
-    /// exact length if all region ids and indexes are below 2^56, and a log batch can hold them.
+    /// Returns the approximate length of the encoded batch in bytes, at most `usize::MAX`. It is at least the
+    /// exact length if all region ids and indexes are below 2^56, and the exact length is too.
     pub fn approximate_size(&self) -> usize
         ensures size { result ≡ at_most_usize (item_batch_size self.now) }
         ensures covers { HaveSmallNumbers self.now → length (item_batch_bytes self.now) < 2 ^ 56 →
@@ -139,8 +143,8 @@ impl LogItemBatch {
         self.item_size.saturating_add(8 + LOG_BATCH_CHECKSUM_LEN)
     }
 
-    /// Returns the first entry of the first item of entries, or `None` if there is no such item, or it is
-    /// empty.
+    /// Returns the first entry of the first item with [`LogItemContent::EntryIndexes`], or `None` if there is
+    /// no such item or it has no entries.
     pub fn entry_index(&self) -> Option<EntryIndex>
         ensures { result ≡ first_entry self.now }
     {
@@ -152,13 +156,13 @@ impl LogItemBatch {
         None
     }
 
-    /// Adds entries of `region`, whose indexes are consecutive. Their bytes follow those of the batch, and
-    /// their offsets are set so. All entries must have fewer than 2^32 bytes together
-    /// ([`LogItemBatch::entries_size`] tells those of the batch).
+    /// Adds entries of `region`, whose indexes must be consecutive, as one item. Their offsets are set so
+    /// that their bytes follow those of the batch. With them, the entries of the batch must have fewer than
+    /// 2^32 bytes ([`LogItemBatch::entries_size`] says how many it has).
     ///
     /// # Errors
     ///
-    /// `Memory` alone. The batch is unchanged then.
+    /// `Memory` alone. The batch is unchanged then, and `entry_indexes` is dropped.
     pub fn add_entry_indexes(
         &mut self,
         region: u64,
@@ -177,11 +181,13 @@ impl LogItemBatch {
         Ok(self.add(LogItem::new_entry_indexes(region, entry_indexes), end)?)
     }
 
-    /// Adds entries of `region` whose offsets are set already. `end` is where their bytes end.
+    /// Adds entries of `region`, whose offsets are set already, as one item. `end` is the offset at which
+    /// their bytes end in the entry bytes of the batch.
     ///
     /// # Errors
     ///
-    /// `AllocError` if there is no memory for them. The batch is unchanged then.
+    /// `AllocError` if there is no memory for the item. The batch is unchanged then, and `entry_indexes` is
+    /// dropped.
     pub(crate) fn add_laid_entries(
         &mut self,
         region: u64,
@@ -210,11 +216,11 @@ impl LogItemBatch {
         Ok(self.add(LogItem::new_command(region, command), entries_size)?)
     }
 
-    /// Adds the deletion of `key` of `region`.
+    /// Adds the deletion of `key` in `region`.
     ///
     /// # Errors
     ///
-    /// `Memory` alone. The batch is unchanged then.
+    /// `Memory` alone. The batch is unchanged then, and `key` is dropped.
     pub fn delete(&mut self, region: u64, key: Vec<u8>) -> Result<()>
         ensures ok { OnOk result (self.new
             ≡ self.old ++ pair_item region Del key.items None ∷ []) }
@@ -226,11 +232,11 @@ impl LogItemBatch {
         Ok(self.add(item, entries_size)?)
     }
 
-    /// Adds a put of `value` under `key` of `region`.
+    /// Adds a put of `value` under `key` in `region`.
     ///
     /// # Errors
     ///
-    /// `Memory` alone. The batch is unchanged then.
+    /// `Memory` alone. The batch is unchanged then, and `key` and `value` are dropped.
     pub fn put(&mut self, region: u64, key: Vec<u8>, value: Vec<u8>) -> Result<()>
         ensures ok { OnOk result (self.new ≡ self.old
             ++ pair_item region Put key.items (Some value.items) ∷ []) }
@@ -242,11 +248,12 @@ impl LogItemBatch {
         Ok(self.add(item, entries_size)?)
     }
 
-    /// Adds a put of the bytes of `message` under `key` of `region`.
+    /// Adds a put of the bytes of `message` under `key` in `region`.
     ///
     /// # Errors
     ///
-    /// `Message` if the message refuses to be written; `Memory`. The batch is unchanged then.
+    /// `Message` if the message refuses to be written; `Memory`. The batch is unchanged then, and `key` is
+    /// dropped.
     pub fn put_message<S: Message>(&mut self, region: u64, key: Vec<u8>, message: &S) -> Result<()>
         ensures ok { OnOk result (self.new ≡ self.old
             ++ pair_item region Put key.items (Some (S.bytes_of message.now)) ∷ []) }
@@ -258,9 +265,9 @@ impl LogItemBatch {
         self.put(region, key, value)
     }
 
-    /// Moves the items of `rhs` behind those of this batch, and leaves `rhs` empty. The bytes of their
-    /// entries follow those of the batch, so their offsets rise. All entries must have fewer than 2^32 bytes
-    /// together.
+    /// Moves the items of `rhs` to the end of this batch, and leaves `rhs` empty. The offsets of their
+    /// entries are raised, so that their bytes follow those of this batch. Together the entries must have
+    /// fewer than 2^32 bytes.
     ///
     /// # Errors
     ///
@@ -294,7 +301,7 @@ impl LogItemBatch {
         Ok(())
     }
 
-    /// Returns the items in order, and leaves the batch empty.
+    /// Returns all items, in the order in which they were added, and leaves the batch empty.
     pub fn drain(&mut self) -> vec::IntoIter<LogItem>
         ensures items { map item_of (into_iter_items result) ≡ self.old }
         ensures len { into_iter_len result ≡ length self.old }
@@ -305,8 +312,8 @@ impl LogItemBatch {
         drained.into_items().into_iter()
     }
 
-    /// Gives all entries the place `handle` and this compression type, and all key values the file of that
-    /// place.
+    /// Sets the place of all entries to `handle` and their compression type to `compression_type`, and the
+    /// file of all key values to that of `handle`.
     pub(crate) fn place(&mut self, handle: FileBlockHandle, compression_type: CompressionType)
         ensures { self.new ≡ map (placed_item handle compression_type) self.old }
     {
@@ -314,7 +321,7 @@ impl LogItemBatch {
         place_items(&mut self.items, handle, compression_type);
     }
 
-    /// Appends the bytes of the batch to `buf`, with four zero bytes for the checksum, which
+    /// Appends the bytes of the batch to `buf`, with four zero bytes in place of the checksum, which
     /// [`LogItemBatch::prepare_write`] sets.
     ///
     /// # Errors
@@ -337,8 +344,8 @@ impl LogItemBatch {
         Ok(())
     }
 
-    /// Writes the checksum, signed for the file of `context`, over the last four of the bytes that
-    /// [`LogItemBatch::encode`] appended. It may be repeated for other files.
+    /// Writes the checksum, signed for the file of `context`, over the last four bytes of `buf`, which are
+    /// all bytes that [`LogItemBatch::encode`] appended for this batch. It may be repeated for other files.
     pub fn prepare_write(&self, buf: &mut [u8], context: &LogFileContext)
         requires { IsEncoded self.now buf.old }
         ensures { buf.new ≡ item_batch_bytes self.now
@@ -352,17 +359,16 @@ impl LogItemBatch {
         LittleEndian::write_u32(&mut buf[end..], sign(checksum, context.get_signature()));
     }
 
-    /// Reads the item batch that all of `buf` is, in the file of `context`. Each entry gets the place
-    /// `entries` and the compression type, and each key value the file of that place. `buf` then is the bytes
-    /// between the last item and the checksum, which are free. Entries are consecutive, and a put has a
-    /// value: nobody needs to test it again. The batch keeps the file of `entries`
+    /// Reads an item batch, which all of `buf` must be, in the file of `context`. Each entry gets the place
+    /// `entries` and the compression type, and each key value the file of `entries`. `buf` is set to the
+    /// bytes between the last item and the checksum, which may be any. The entries of an item are
+    /// consecutive, and a put has a value, so that nobody needs to test it again
     /// ([`LogItemBatch::decoded_in`]).
     ///
     /// # Errors
     ///
-    /// `Corruption` if there are four bytes or fewer, or their checksum is another; the errors of
-    /// [`LogItem::decode`] for an item; `Codec` if the count of items is malformed; `Memory`. `buf` is
-    /// unchanged then.
+    /// `Corruption` if there are four bytes or fewer, or the checksum is wrong; `Codec` if the count of items
+    /// is malformed; the errors of [`LogItem::decode`] for an item; `Memory`. `buf` is unchanged then.
     pub fn decode(
         alloc: Global,
         buf: &mut BytesSlice<'_>,
@@ -389,7 +395,8 @@ impl LogItemBatch {
         Ok(batch)
     }
 
-    /// Notes that the items were decoded in `file`, for [`LogItemBatch::decoded_in`].
+    /// Returns the batch with the note that its items were decoded in `file`, which
+    /// [`LogItemBatch::decoded_in`] returns.
     #[inline(always)]
     pub(crate) fn with_file(mut self, file: FileId) -> LogItemBatch
         requires { AreDecodedIn file self }
@@ -399,11 +406,11 @@ impl LogItemBatch {
         self
     }
 
-    /// Adds `item`. With it, the entries of all items have `entries_size` bytes together.
+    /// Adds `item`. `entries_size` is the number of bytes that all entries have together once it is added.
     ///
     /// # Errors
     ///
-    /// `AllocError` if there is no memory for it. The batch is unchanged then.
+    /// `AllocError` if there is no memory for the item. The batch is unchanged then, and `item` is dropped.
     #[inline(always)]
     pub(crate) fn add(&mut self, item: LogItem, entries_size: u32) -> AllocResult<()>
         requires fits { FitsBehind (entry_bytes_of self.old) (content_of item.content) }
@@ -444,7 +451,7 @@ impl PartialEq for LogItemBatch {
 
     ghost laws = { partial_equiv_from_equiv same_items_is_equivalence };
 
-    /// Tests whether this batch and `other` have the same items, in the same order.
+    /// Tests whether both batches have the same items, in the same order.
     fn eq(&self, other: &LogItemBatch) -> bool
         ensures tested { result ≡ same_items self.now other.now }
         ensures exact { IsTrue result ↔ (self.now ≡ other.now) }
@@ -473,12 +480,13 @@ impl Clone for LogItemBatch {
     }
 }
 
-/// Appends the bytes of an item batch: the count of `items` in base 128, the items, and four zero bytes for
-/// the checksum.
+/// Appends the bytes of an item batch to `buf`: the number of `items` in base 128, the items, and four zero
+/// bytes in place of the checksum.
 ///
 /// # Errors
 ///
-/// `AllocError` if there is no memory for them. Some may have been appended then; the caller takes them off.
+/// `AllocError` if there is no memory for them. `buf` may have more bytes at its end then, which the caller
+/// cuts off.
 fn write_items(buf: &mut Vec<u8>, items: &[LogItem]) -> AllocResult<()>
     ensures ok { OnOk result
         (buf.new.items
@@ -493,7 +501,8 @@ fn write_items(buf: &mut Vec<u8>, items: &[LogItem]) -> AllocResult<()>
     Ok(())
 }
 
-/// Gives all entries the place `handle` and this compression type, and all key values the file of that place.
+/// Sets the place of all entries of `items` to `handle` and their compression type to `compression_type`, and
+/// the file of all key values to that of `handle`.
 fn place_items(items: &mut Vec<LogItem>, handle: FileBlockHandle, compression_type: CompressionType)
     ensures { map item_of items.new.items
         ≡ map (placed_item handle compression_type) (map item_of items.old.items) }
@@ -503,8 +512,8 @@ fn place_items(items: &mut Vec<LogItem>, handle: FileBlockHandle, compression_ty
     }
 }
 
-/// Sets the offsets of entries so that their bytes lie one after the other from `start` on, and returns where
-/// they end.
+/// Sets the offsets of `entries` so that their bytes lie one after the other from offset `start` on, and
+/// returns the offset at which they end.
 fn set_offsets(entries: &mut Vec<EntryIndex>, start: u32) -> u32
     requires { start + entry_lengths entries.old.items < 2 ^ 32 }
     ensures offsets { entries.new.items ≡ with_offsets_from start entries.old.items }
@@ -518,7 +527,7 @@ fn set_offsets(entries: &mut Vec<EntryIndex>, start: u32) -> u32
     offset
 }
 
-/// Adds `by` to the offset of the bytes of each entry of all items.
+/// Adds `by` to the offset of each entry of all `items`.
 fn raise_item_offsets(items: &mut Vec<LogItem>, by: u32)
     requires fit { FitTogether 0 (map item_of items.old.items) }
     requires room { by + entry_bytes_of (map item_of items.old.items) < 2 ^ 32 }

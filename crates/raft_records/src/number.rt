@@ -1,4 +1,4 @@
-//! What items' bytes are written with.
+//! How numbers in base 128 are appended, and how a failed append is undone.
 
 ghost use Rattle.std.specs.Prelude.{◌≡◌, ◌<◌, ◌++◌, OnOk, OnErr};
 ghost use Rattle.raft_records.specs.Common.{varint};
@@ -6,12 +6,12 @@ ghost use Rattle.raft_records.specs.Common.{varint};
 use raft_base::AllocResult;
 use raft_codec::codec;
 
-/// Appends `number` in base 128, in its shortest form (300 is `ac 02`), as [`codec::append_var_u64`] does,
-/// but without a call if it takes at most two bytes, as most numbers do.
+/// Appends `number` in base 128 to `buf`, in its shortest form: 300 is `ac 02`. Numbers of at most two bytes,
+/// as most are, take no further call; longer ones are appended by [`codec::append_var_u64`].
 ///
 /// # Errors
 ///
-/// `AllocError` if there is no memory for it. `buf` is unchanged then.
+/// `AllocError` if there is no memory to grow `buf`, which is unchanged then.
 #[inline(always)]
 #[tactic(auto, using(raft_codec::proofs::VarintLemmas::two_septets))]
 pub(crate) fn append_number(buf: &mut Vec<u8>, number: u64) -> AllocResult<()>
@@ -27,7 +27,8 @@ pub(crate) fn append_number(buf: &mut Vec<u8>, number: u64) -> AllocResult<()>
     codec::append_var_u64(buf, number)
 }
 
-/// Appends by a call that may leave a part of it, which is taken back where memory runs out.
+/// Evaluates `$write`, a call that appends to `$buf`, and gives `Ok(())`. If the call fails, it cuts `$buf`
+/// back to its old length and returns the error from the enclosing function.
 macro_rules! append_whole {
     ($buf:ident, $write:expr) => {{
         let len = $buf.len();

@@ -1,4 +1,4 @@
-//! Item batches as text.
+//! Item batches as lines of text.
 
 ghost use Rattle.std.specs.Prelude.{◌≡◌, ◌≢◌, ◌≤◌, ◌++◌, ◌⊎◌, length, take, IfOk, IfErr, IfSome, OnOk, OnErr, map, string_bytes};
 ghost use Rattle.raft_records.specs.Common.{flat_map, signature_of, item_of, content_of, pair_of, bytes_text, entries_text, pair_text, content_text, line_of, last_line, IsTextOf, Prints, IsNoItemBatch, IsPrintFault, IsWriteFailure};
@@ -13,13 +13,13 @@ use raft_base::{
 use std::alloc::Global;
 use std::io::{self, ErrorKind, Read, Write};
 
-/// Prints the item batch that the whole of `reader` is, in the file of `context`, as [`batch_text`] does.
+/// Reads all bytes of `reader`, which must be an item batch in the file of `context`, and writes its text to
+/// `writer`, as [`batch_text`] has it.
 ///
 /// # Errors
 ///
-/// Those of [`LogItemBatch::decode`], and `Memory`; nothing has been written then. `Io` if the reader or the
-/// writer fails; after a failure of the writer a part of the lines, from the first byte on, may have been
-/// written.
+/// Those of [`LogItemBatch::decode`], and `Memory`; nothing is written then. `Io` if the reader or the writer
+/// fails; if it is the writer, a prefix of the text may have been written.
 pub fn print_batch<R: Read, W: Write>(
     alloc: Global,
     reader: &mut R,
@@ -45,12 +45,12 @@ pub fn print_batch<R: Read, W: Write>(
     write_whole(writer, text.as_bytes())
 }
 
-/// Writes all of `bytes`, and goes on after a write that took only a part of them or was interrupted.
+/// Writes all of `bytes` to `writer`, in as many writes as it takes. An interrupted write is made again.
 ///
 /// # Errors
 ///
-/// `Io` if the writer fails or takes no more. A part of the bytes, from the first one on, but not all, has
-/// been written then.
+/// `Io` if the writer fails or takes no more bytes. A prefix of `bytes`, but not all of them, has been
+/// written then.
 #[doc(hidden)]
 #[tactic(auto, using(crate::proofs::PrintLemmas::written_on))]
 pub fn write_whole<W: Write>(writer: &mut W, bytes: &[u8]) -> Result<()>
@@ -75,12 +75,12 @@ pub fn write_whole<W: Write>(writer: &mut W, bytes: &[u8]) -> Result<()>
     }
 }
 
-/// Writes as many of `bytes`, from the first one on, as the writer takes at once, and returns their number: 0
+/// Writes a prefix of `bytes` with one write, as many bytes as the writer takes, and returns their number: 0
 /// if the write was interrupted.
 ///
 /// # Errors
 ///
-/// `Io` if the writer fails or takes nothing. Nothing was written then.
+/// `Io` if the writer fails or takes no bytes. Nothing was written then.
 fn write_some<W: Write>(writer: &mut W, bytes: &[u8]) -> Result<usize>
     ensures bound { IfOk result (λ count. count ≤ length bytes.now) }
     ensures ok { IfOk result
@@ -103,10 +103,11 @@ fn unwritten() -> Error
     Error::Io(io::Error::new(ErrorKind::WriteZero, "the writer takes no more"))
 }
 
-/// Returns the text of the item batch that all of `bytes` are, in the file of `context`: a line for each
-/// item, and a last one with the number of items and of the bytes that are left unread behind them. Keys and
-/// values are in hexadecimal digits, or `-` if empty. Such lines are `7 entries 2 first 10 tail 3`, `7 put
-/// 707574 7075745f76`, `7 del 707574`, `7 compact 7` and `items 4 rest 0`.
+/// Returns the text of `bytes`, all of which must be an item batch in the file of `context`: a line for each
+/// item, and a last line with the number of items and the number of bytes between the last item and the
+/// checksum. Keys and values are in hexadecimal digits, or `-` if empty. Such lines are
+/// `7 entries 2 first 10 tail 3`, `7 put 707574 7075745f76`, `7 del 707574`, `7 compact 7` and
+/// `items 4 rest 0`.
 ///
 /// # Errors
 ///
@@ -133,11 +134,11 @@ pub fn batch_text(alloc: Global, bytes: &[u8], context: &LogFileContext) -> Resu
     Ok(text)
 }
 
-/// Appends a line for each of `items`, in order, as [`append_line`] has it.
+/// Appends the line of each of `items` to `text`, in order ([`append_line`]).
 ///
 /// # Errors
 ///
-/// `AllocError` if there is no memory for them. Some of the text may have been appended then.
+/// `AllocError` if there is no memory for them. A part of the lines may have been appended then.
 fn append_lines(alloc: Global, items: &[LogItem], text: &mut String) -> AllocResult<()>
     ensures { OnOk result (string_bytes text.new
         ≡ string_bytes text.old ++ flat_map line_of (map item_of items.now)) }
@@ -148,11 +149,11 @@ fn append_lines(alloc: Global, items: &[LogItem], text: &mut String) -> AllocRes
     Ok(())
 }
 
-/// Appends the line of `item`: its region and its content, as in `7 compact 10`.
+/// Appends the line of `item` to `text`: its region and its content, such as `7 compact 10`.
 ///
 /// # Errors
 ///
-/// `AllocError` if there is no memory for it. Some of the text may have been appended then.
+/// `AllocError` if there is no memory for it. A part of the line may have been appended then.
 fn append_line(alloc: Global, item: &LogItem, text: &mut String) -> AllocResult<()>
     ensures { OnOk result
         (string_bytes text.new ≡ string_bytes text.old ++ line_of (item_of item.now)) }
@@ -162,12 +163,12 @@ fn append_line(alloc: Global, item: &LogItem, text: &mut String) -> AllocResult<
     text.push('\n')
 }
 
-/// Appends what an item says, its `content`: `entries ..`, `clean`, `compact INDEX`, `truncate INDEX`, `put
-/// KEY VALUE` or `del KEY`.
+/// Appends the content of an item to `text`: `entries ..`, `clean`, `compact INDEX`, `truncate INDEX`,
+/// `put KEY VALUE` or `del KEY`.
 ///
 /// # Errors
 ///
-/// `AllocError` if there is no memory for it. Some of the text may have been appended then.
+/// `AllocError` if there is no memory for it. A part of it may have been appended then.
 fn append_content(alloc: Global, content: &LogItemContent, text: &mut String) -> AllocResult<()>
     ensures { OnOk result
         (string_bytes text.new ≡ string_bytes text.old ++ content_text (content_of content.now)) }
@@ -181,12 +182,12 @@ fn append_content(alloc: Global, content: &LogItemContent, text: &mut String) ->
     }
 }
 
-/// Appends the number of entries, the first index, and where the bytes of the last one end, as in `entries 2
-/// first 10 tail 3`; of none `entries 0`.
+/// Appends the number of entries, the first index, and the tail offset of the last entry to `text`, such as
+/// `entries 2 first 10 tail 3`; or `entries 0` if there are none.
 ///
 /// # Errors
 ///
-/// `AllocError` if there is no memory for it. Some of the text may have been appended then.
+/// `AllocError` if there is no memory for it. A part of it may have been appended then.
 #[tactic(auto, using(crate::proofs::PrintLemmas::text_by_ends))]
 fn append_entries(entries: &[EntryIndex], text: &mut String) -> AllocResult<()>
     ensures { OnOk result (string_bytes text.new
@@ -201,11 +202,12 @@ fn append_entries(entries: &[EntryIndex], text: &mut String) -> AllocResult<()>
     write!(text, "entries {count} first {index} tail {tail}")
 }
 
-/// Appends `kv`, a change of a key: `put KEY VALUE` or `del KEY`, in hexadecimal digits.
+/// Appends `kv`, a change of a key, to `text`: `put KEY VALUE` or `del KEY`, with key and value in
+/// hexadecimal digits, or `-` if empty.
 ///
 /// # Errors
 ///
-/// `AllocError` if there is no memory for it. Some of the text may have been appended then.
+/// `AllocError` if there is no memory for it. A part of it may have been appended then.
 fn append_key_value(alloc: Global, kv: &KeyValue, text: &mut String) -> AllocResult<()>
     ensures { OnOk result (string_bytes text.new
         ≡ string_bytes text.old
@@ -228,11 +230,11 @@ fn append_key_value(alloc: Global, kv: &KeyValue, text: &mut String) -> AllocRes
     }
 }
 
-/// Appends `bytes` as hexadecimal digits, or `-` if there are none.
+/// Appends `bytes` in hexadecimal digits to `text`, or `-` if there are none.
 ///
 /// # Errors
 ///
-/// `AllocError` if there is no memory for them. Some of the text may have been appended then.
+/// `AllocError` if there is no memory for them.
 fn append_bytes(alloc: Global, bytes: &[u8], text: &mut String) -> AllocResult<()>
     ensures { OnOk result (string_bytes text.new ≡ string_bytes text.old ++ bytes_text bytes.now) }
 {
@@ -243,12 +245,12 @@ fn append_bytes(alloc: Global, bytes: &[u8], text: &mut String) -> AllocResult<(
     text.push_str(digits.as_str())
 }
 
-/// Appends the last line: `items ITEMS rest REST`, with the number of items, and of the bytes that are left
-/// unread behind them.
+/// Appends the last line to `text`: `items ITEMS rest REST`, with the number of items and the number of bytes
+/// between the last item and the checksum.
 ///
 /// # Errors
 ///
-/// `AllocError` if there is no memory for it. Some of the text may have been appended then.
+/// `AllocError` if there is no memory for it. A part of the line may have been appended then.
 fn append_counts(items: usize, rest: usize, text: &mut String) -> AllocResult<()>
     ensures { OnOk result (string_bytes text.new
         ≡ string_bytes text.old ++ last_line items rest) }

@@ -1,4 +1,7 @@
-//! Batches as they are read: items over the bytes that they were read of.
+//! [`ReadBatch`]: the items of a batch that was read, with keys and values left in the bytes of the file.
+//!
+//! The offset and the length of an entry in the entry bytes of its batch are its *span*. Entries of
+//! consecutive indexes are a *run*.
 
 ghost use Rattle.std.specs.Prelude.{◌≡◌, ◌≢◌, ℕ, ◌+◌, ◌^◌, ◌<◌, ◌≤◌, List, [], length, drop, IfOk, IfErr, IfNone, OnErr, ◌-◌};
 ghost use Rattle.raft_records.specs.Common.{option_map, HasNoFront, signature_of, AreDecodedIn, part_of, IsNext, IsNextFault, Tile, end_behind, Item, entries_of_block, FileBlockHandle, IsDecoded, IsItemBatch, IsItemBatchFault, IsReadable};
@@ -17,35 +20,41 @@ use raft_codec::codec;
 use std::alloc::Global;
 use std::marker::Model;
 
-/// What an item says of its region.
+/// What an item changes in its region.
 #[derive(Drop)]
 pub enum ReadContent<'a> {
-    /// `count` new entries, from the index `first` on. Their spans are the next ones of the batch.
+    /// `count` new entries with consecutive indexes, of which `first` is the lowest. Their spans are the next
+    /// `count` ones of the batch, after those of the items before.
     Run { first: u64, count: usize },
     /// A change of the region's log as a whole.
     Command(Command),
-    /// A key gets a value.
+    /// The key gets a value.
     Put { key: &'a [u8], value: &'a [u8] },
-    /// A key goes.
+    /// The key is removed.
     Delete { key: &'a [u8] },
 }
 
-/// What is said of one region.
+/// A change of one region, read in place.
 #[derive(Drop)]
 pub struct ReadItem<'a> {
+    /// The id of the region. A group marker has the number of its atomic group here.
     pub region: u64,
+    /// What changes in the region.
     pub content: ReadContent<'a>,
 }
 
-/// The items of a batch, whose keys and values stand in the bytes that they were read of. Each entry is a
-/// span of the one place that holds the batch's entry bytes. The next batch is read in place of this one, so
-/// a walk over many batches takes memory for the longest alone.
+/// The items of one batch. Keys and values aren't copied: they are borrowed from the bytes that the batch was
+/// read from. All entries of a batch are in one entry block, so each is only a span of it.
+///
+/// A walk over many batches reads each in place of the one before. So it takes no more memory than the
+/// longest of them.
 #[derive(Drop)]
 pub struct ReadBatch<'a> {
+    /// The items, in order.
     items: Vec<ReadItem<'a>>,
-    /// Offset and length of each entry, those of the first run first.
+    /// The span of each entry: its offset and its length. Those of the first run come first.
     spans: Vec<(u32, u32)>,
-    /// Where the entry bytes stand.
+    /// The place of the entry block.
     place: FileBlockHandle,
 }
 
@@ -63,7 +72,7 @@ impl<'a> Model for ReadBatch<'a> {
 }
 
 impl<'a> ReadBatch<'a> {
-    /// Returns a batch without items, whose place is in the file `id`.
+    /// Returns a batch without items, whose place is in the file `id`. It allocates nothing yet.
     pub fn new(alloc: Global, id: FileId) -> ReadBatch<'a>
         ensures { result ≡ [] }
     {
@@ -78,10 +87,10 @@ impl<'a> ReadBatch<'a> {
         }
     }
 
-    /// Reads the log batch at position `at` of `bytes`, in place of the one that was held, and returns the
-    /// position of the next one, or `None` at the end of `bytes`. `bytes` are those of `file` from `offset`
-    /// on. The items are those that [`next_in`](crate::next_in) returns; without a batch there are none.
-    /// `at` must be at most the number of `bytes`, which must end below offset 2^64 of the file.
+    /// Reads the log batch at position `at` of `bytes`, in place of the batch that was held. Returns the
+    /// position after it, where the next one begins, or `None` at the end of `bytes`; there are no items
+    /// then. `bytes` are those of `file` from `offset` on, and must end at offset 2^64 - 1 at most. `at` must
+    /// be at most their number. The items are those that [`next_in`](crate::next_in) returns.
     ///
     /// # Errors
     ///
@@ -128,7 +137,7 @@ impl<'a> ReadBatch<'a> {
         Ok(Some(at + len))
     }
 
-    /// Drops all items, and keeps their memory for the next batch.
+    /// Removes all items, and keeps their memory for the next batch.
     fn clear(&mut self)
         ensures { self.new ≡ [] }
     {
@@ -136,9 +145,9 @@ impl<'a> ReadBatch<'a> {
         self.spans.clear();
     }
 
-    /// Reads `bytes`, one whole item batch with its checksum, in place of the batch that was held. `place`
-    /// is where the entry bytes of its log batch stand, and `context` the file with whose signature the
-    /// checksum is signed. Returns the bytes between the last item and the checksum.
+    /// Reads an item batch, which all of `bytes` must be, in place of the batch that was held. `place` is
+    /// where the entry block of its log batch is, and `context` is the file that its checksum must be signed
+    /// for. Returns the bytes between the last item and the checksum; a batch that was written here has none.
     ///
     /// # Errors
     ///
@@ -173,9 +182,9 @@ impl<'a> ReadBatch<'a> {
         }
     }
 
-    /// Returns the place of the entry bytes, the items, and offset and length of each entry of all runs,
-    /// those of the first run first. Entries are consecutive, and in the file of the place, as changes of
-    /// keys are: nobody needs to test it again.
+    /// Returns the place of the entry block, the items, and the span of each entry, those of the first run
+    /// first. The entries of a run are consecutive, and all entries and changes of keys are in the file of
+    /// the place: nobody needs to test it again.
     #[tactic(auto, using(crate::proofs::ReadBatchLemmas::shown_in_file))]
     pub fn parts(&self) -> (FileBlockHandle, &[ReadItem<'a>], &[(u32, u32)])
         ensures shown { items_shown result.0 result.1.now result.2.now ≡ self.now }
@@ -190,7 +199,7 @@ impl<'a> ReadBatch<'a> {
         *self.items.allocator()
     }
 
-    /// Returns a batch of the same items, with copies of keys and values.
+    /// Returns a batch of the same items, with copies of keys and values, and with the places of the entries.
     ///
     /// # Errors
     ///
@@ -211,7 +220,7 @@ impl<'a> ReadBatch<'a> {
     }
 }
 
-/// Returns where the bytes of the entries with these spans end, or `start` if there are none.
+/// Returns the offset at which the last of `spans` ends in the entry bytes, or `start` if there are none.
 fn end_of_spans(spans: &[(u32, u32)], start: u32) -> u32
     requires { (first : ℕ) × (place : FileBlockHandle) × Tile start
         (entries_of_block first place spans.now) }
@@ -225,8 +234,7 @@ fn end_of_spans(spans: &[(u32, u32)], start: u32) -> u32
 }
 
 impl ReadItem<'_> {
-    /// Returns how many spans belong to the item: as many as it has entries, from the first one of those that
-    /// items before it have left.
+    /// Returns how many spans of the batch belong to the item: one for each of its entries.
     #[doc(hidden)]
     pub fn span_count(&self) -> usize
         ensures { result ≡ spans_taken self.now.content }
@@ -237,8 +245,8 @@ impl ReadItem<'_> {
         }
     }
 
-    /// Returns an item that says the same, with copies of key and value. The entries of a run have `spans` at
-    /// `place`.
+    /// Returns the item with copies of its key and value. If it is a run, its entries have `spans` in the
+    /// entry block at `place`; a key value is in the file of `place`.
     ///
     /// # Errors
     ///
@@ -261,8 +269,8 @@ impl ReadItem<'_> {
     }
 }
 
-/// Returns what was read as the content of an item, with copies of key and value. The entries of a run have
-/// `spans` at `place`.
+/// Returns `content` with copies of its key and value. If it is a run, its entries have `spans` in the entry
+/// block at `place`; a key value is in the file of `place`.
 ///
 /// # Errors
 ///
@@ -294,7 +302,8 @@ fn own_content(
     }
 }
 
-/// Returns the entries with `spans` at `place`, whose indexes rise from `first` on.
+/// Returns an entry for each of `spans` in the entry block at `place`. The first has the index `first`, and
+/// the indexes rise by one.
 ///
 /// # Errors
 ///

@@ -1,5 +1,4 @@
-//! Random changes of a region, made in a batch and in plain maps. Drawing one fails for want of memory alone, and making one as the
-//! batch does.
+//! [`Change`]: a random change of a region, which is made both in a batch and in plain maps.
 
 ghost use Rattle.std.specs.Prelude.{◌≡◌, OnOk};
 ghost use Rattle.raft_records.specs.LogBatch.{is_open};
@@ -14,25 +13,25 @@ use std::alloc::Global;
 /// A change of a region.
 #[derive(Drop)]
 pub enum Change {
-    /// Appends entries, in place of those that are there from the first one's index on.
+    /// Puts entries after those below their first index, and drops all others.
     Append(Vec<Proposal>),
-    /// Appends entries, and compacts the region to its new end.
+    /// Puts entries as `Append` does, and then compacts the region to its new end, so that none are left.
     Replace(Vec<Proposal>),
-    /// Puts a key with a value.
+    /// Gives a key a value: first the key, then the value.
     Put(Vec<u8>, Vec<u8>),
-    /// Deletes a key.
+    /// Removes a key with its value.
     Delete(Vec<u8>),
     /// Drops the entries below an index.
     Compact(u64),
-    /// Drops the entries from an index on.
+    /// Drops the entries at or above an index.
     Truncate(u64),
-    /// Drops all records.
+    /// Drops all entries and key values.
     Clean,
 }
 
 impl Change {
-    /// Draws a change that a region with `records` may have: mostly entries, else key values, compactions,
-    /// truncations and cleans.
+    /// Draws a random change for a region with `records`: mostly entries, and otherwise key values, compactions, truncations
+    /// and cleans.
     ///
     /// # Errors
     ///
@@ -50,8 +49,8 @@ impl Change {
         })
     }
 
-    /// Draws entries in place of all that a region with `records` has, or all but the first, and a compaction
-    /// to their end.
+    /// Draws a `Replace` that begins at the first index of a region with `records`, or one above it. For a
+    /// region without entries that first index is taken to be 1.
     ///
     /// # Errors
     ///
@@ -61,12 +60,11 @@ impl Change {
         Ok(Change::Replace(draw_run(alloc, dice, first)?))
     }
 
-    /// Adds the change to an open batch for `region`, and makes it in `records`, those of that region.
+    /// Adds the change of `region` to `batch`, which must be open, and makes it in `records`, those of that region.
     ///
     /// # Errors
     ///
-    /// Those of the batch's call. The change may then have been made in the batch alone, or in `records`
-    /// alone.
+    /// Those of the batch's calls, and `Memory`. The change may then be made in only one of the two, or in part.
     pub fn make(self, batch: &mut LogBatch, region: u64, records: &mut Records) -> Result<()>
         requires { batch.old.stage ≡ is_open }
         ensures { OnOk result (batch.new.stage ≡ is_open) }
@@ -108,8 +106,8 @@ impl Change {
     }
 }
 
-/// Draws an index from the first one of a region with `records` to the one behind its last, in one of four
-/// cases the latter. For a region without entries it draws one below 20.
+/// Draws an index of a region with `records`, from its first one to its end; in one of four cases it is the end. For a region
+/// without entries it draws one below 20.
 fn draw_index(dice: &mut Dice, records: &Records) -> u64 {
     let (first, end) = match records.first() {
         Some(first) => (first, records.end()),
@@ -124,7 +122,7 @@ fn draw_index(dice: &mut Dice, records: &Records) -> u64 {
     first.saturating_add(dice.below(end.saturating_sub(first).saturating_add(1)))
 }
 
-/// Draws one to five entries, whose indexes rise from `first` on.
+/// Draws one to five entries with consecutive indexes, the first of which is `first`.
 ///
 /// # Errors
 ///
@@ -134,7 +132,7 @@ fn draw_run(alloc: Global, dice: &mut Dice, first: u64) -> Result<Vec<Proposal>>
     draw_entries(alloc, dice, first, end)
 }
 
-/// Draws an entry for each of the indexes `first..end`.
+/// Draws an entry for each of the indexes `first..end`, with a random text.
 ///
 /// # Errors
 ///

@@ -1,24 +1,25 @@
-//! Numbers that look random.
+//! [`Dice`]: random numbers that can be repeated.
 
 ghost use Rattle.std.specs.Prelude.{◌<◌};
 
 use raft_base::hash_u64;
 
-/// The numbers that follow from a seed.
+/// A generator of random numbers that depend only on its seed.
 #[derive(Drop)]
 pub struct Dice {
+    /// The hash of the seed, raised by one for each number that was drawn.
     drawn: u64,
 }
 
 impl Dice {
-    /// Returns dice that throw the same numbers for the same `seed`.
+    /// Returns a generator, which draws the same numbers for the same `seed`.
     pub fn new(seed: u64) -> Dice {
         Dice {
             drawn: hash_u64(seed),
         }
     }
 
-    /// Returns the next number, which is below `end`.
+    /// Draws a number below `end`, which must be above 0.
     pub fn below(&mut self, end: u64) -> u64
         requires { 0 < end }
         ensures { result < end }
@@ -27,14 +28,15 @@ impl Dice {
         hash_u64(self.drawn) % end
     }
 
-    /// Returns `true` once in `times` throws, on average.
+    /// Draws whether something happens that happens once in `times` draws on average. `times` must be above
+    /// 0.
     pub fn hits(&mut self, times: u64) -> bool
         requires { 0 < times }
     {
         self.below(times) == 0
     }
 
-    /// Returns one of the letters `a` to `z`.
+    /// Draws one of the letters `a` to `z`, in ASCII.
     pub fn letter(&mut self) -> u8 {
         b'a' + self.below(26) as u8
     }

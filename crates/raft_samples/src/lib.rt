@@ -1,5 +1,5 @@
-//! What the example and the programs that stop engines write: proposals as entries, numbers that look random, and random changes of
-//! regions, in batches and in plain maps.
+//! What the example, and the programs that crash engines, write: proposals as entries, and random changes of regions, made in a
+//! batch and in plain maps.
 #![tactic(auto)]
 
 pub mod change;

@@ -1,18 +1,18 @@
-//! What the entries of a region's log say: proposals to its replicas.
+//! [`Proposal`]: an entry type to copy. A store's own entry types implement the same traits.
 
 use raft_base::{Message, MessageError, MessageExt, Result};
 use std::alloc::Global;
 
-/// A proposal, which is its text.
+/// An entry of a log: a proposal to the replicas of a region.
 #[derive(Clone, PartialEq, Drop)]
 pub struct Proposal {
-    /// Its index in the log.
+    /// The index of the entry in its log.
     pub index: u64,
-    /// What it says.
+    /// What is proposed. These are the bytes of the entry.
     pub text: Vec<u8>,
 }
 
-/// Returns proposals with these texts, whose indexes rise from `first` on.
+/// Returns proposals with the texts `texts` and consecutive indexes, the first of which is `first`.
 ///
 /// # Errors
 ///
@@ -31,11 +31,11 @@ impl Message for Proposal {
 
     ghost refuses = { λ proposal code. ⊥ };
 
-    /// Appends the text of the proposal.
+    /// Appends the text of the proposal to `buf`.
     ///
     /// # Errors
     ///
-    /// `Memory` alone. `buf` is unchanged then.
+    /// `Memory` alone; a proposal never refuses. `buf` is unchanged then.
     fn write_to_vec(&self, buf: &mut Vec<u8>) -> std::result::Result<(), MessageError> {
         match buf.extend_from_slice(self.text.as_slice()) {
             Ok(()) => Ok(()),
@@ -44,10 +44,11 @@ impl Message for Proposal {
     }
 }
 
-/// The entries of a log of proposals.
+/// The type of logs whose entries are proposals, for calls such as `LogBatch::add_entries`.
 pub struct Proposals;
 
 impl MessageExt for Proposals {
+    /// The type of the entries.
     type Entry = Proposal;
 
     ghost index_of = { λ proposal. proposal.index };

@@ -1,4 +1,4 @@
-//! The records of regions, in plain maps. Its calls fail for want of memory alone.
+//! [`Records`]: the records of regions in plain maps. The calls fail for lack of memory alone.
 
 use crate::proposal::Proposal;
 use raft_base::{EntryIndex, Error, Result, crc32};
@@ -6,23 +6,23 @@ use raft_memtable::MemTable;
 use std::alloc::Global;
 use std::collections::BTreeMap;
 
-/// The records of regions, by their numbers.
+/// The records of regions, by the ids of the regions.
 pub type Contents = BTreeMap<u64, Records>;
 
 /// The entries and the key values of a region.
 #[derive(Drop)]
 pub struct Records {
-    /// The text of each entry, by its index.
+    /// The bytes of each entry, by its index.
     pub entries: BTreeMap<u64, Vec<u8>>,
     /// The value of each key.
     pub pairs: BTreeMap<Vec<u8>, Vec<u8>>,
 }
 
-/// The greatest length of bytes that stand in a line as they are.
+/// The most bytes that are printed as they are.
 const SHORT: usize = 40;
 
 impl Records {
-    /// Returns the records of a region that has none.
+    /// Returns the records of a region that has none. They will allocate from `alloc`.
     pub fn new(alloc: Global) -> Records {
         Records {
             entries: BTreeMap::new(alloc),
@@ -42,12 +42,12 @@ impl Records {
         Ok(())
     }
 
-    /// Puts `proposals` in place of the entries from the first one's index on. If there are none, nothing
-    /// changes.
+    /// Drops the entries at or above the index of the first of `proposals`, and adds `proposals`. If there
+    /// are none, nothing changes.
     ///
     /// # Errors
     ///
-    /// `Memory` alone. Entries may be gone then, and some of the new ones added.
+    /// `Memory` alone. Entries may have been dropped then, and some of the new ones added.
     pub(crate) fn replace_entries(&mut self, proposals: Vec<Proposal>) -> Result<()> {
         if let Some(first) = proposals.first() {
             self.truncate(first.index);
@@ -55,7 +55,7 @@ impl Records {
         self.push_entries(proposals)
     }
 
-    /// Adds copies of the key values of `table`, each in place of the one under its key.
+    /// Adds copies of the key values of `table`, each in place of the one of the same key.
     ///
     /// # Errors
     ///
@@ -70,12 +70,12 @@ impl Records {
         Ok(())
     }
 
-    /// Returns the least index, or `None` without entries.
+    /// Returns the index of the first entry, or `None` if there are no entries.
     pub(crate) fn first(&self) -> Option<u64> {
         Some(*self.entries.first_key_value()?.0)
     }
 
-    /// Returns the greatest index plus one, or 0 without entries.
+    /// Returns the index after that of the last entry, or 0 if there are no entries.
     pub fn end(&self) -> u64 {
         match self.entries.last_key_value() {
             Some((last, _)) => last.saturating_add(1),
@@ -101,12 +101,12 @@ impl Records {
         self.pairs.clear();
     }
 
-    /// Appends a line to `text`: `  region R:`, the region's entries, each as ` INDEX BYTES`, and its key
-    /// values, each as ` KEY=VALUE`. Appends nothing if it has neither.
+    /// Appends a line to `text`: `  region R:`, then each entry as ` INDEX BYTES`, and each key value as
+    /// ` KEY=VALUE`. Appends nothing if there are neither.
     ///
     /// # Errors
     ///
-    /// `Memory` alone. Some of the text may have been appended then.
+    /// `Memory` alone. A part of the line may have been appended then.
     fn push_line(&self, region: u64, text: &mut String) -> Result<()> {
         if self.entries.is_empty() && self.pairs.is_empty() {
             return Ok(());
@@ -126,7 +126,8 @@ impl Records {
     }
 }
 
-/// Returns the records of `region`, to be changed. A region that isn't there is added, without records.
+/// Returns the records of `region` in `contents`, to be changed. If the region isn't there, it is added
+/// without records.
 ///
 /// # Errors
 ///
@@ -150,8 +151,8 @@ pub fn entries_of(alloc: Global, table: &MemTable) -> Result<Vec<EntryIndex>> {
     Ok(entries)
 }
 
-/// Returns a line for each region of `contents` that has records. Only the same records give the same text,
-/// but for bytes that are told by a checksum.
+/// Returns a line for each region of `contents` that has records. Different records give different texts,
+/// except where long bytes are told only by their number and checksum.
 ///
 /// # Errors
 ///
@@ -164,12 +165,12 @@ pub fn text_of(alloc: Global, contents: &Contents) -> Result<String> {
     Ok(text)
 }
 
-/// Appends `bytes` to `text`: as they are if they are at most 40 letters and digits, else their number and
-/// checksum, as `(300 bytes, 3421780262)`.
+/// Appends `bytes` to `text`: as they are if they are at most 40 letters and digits; else their number and
+/// checksum, such as `(300 bytes, 3421780262)`.
 ///
 /// # Errors
 ///
-/// `Memory` alone. Some of the text may have been appended then.
+/// `Memory` alone. A part of the text may have been appended then.
 fn push_bytes(bytes: &[u8], text: &mut String) -> Result<()> {
     if bytes.len() <= SHORT && bytes.iter().all(|byte| byte.is_ascii_alphanumeric()) {
         for byte in bytes {

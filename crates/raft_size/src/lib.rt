@@ -1,4 +1,4 @@
-//! Sizes that people write and read, as `64MiB`.
+//! Sizes in bytes as people write them in settings, such as `64MiB`.
 #![tactic(auto)]
 
 mod readable_size;

@@ -1,4 +1,4 @@
-//! Sizes with units, as settings give them.
+//! [`ReadableSize`], a size in bytes that is printed and read with a unit.
 
 ghost use Rattle.std.specs.Prelude.{◌≡◌, ◌<◌, ◌≤◌, ◌*◌, ◌/◌, ◌^◌, ◌++◌, ℕ, List, length, Result, Ok, Some, IfOk};
 ghost use Rattle.raft_size.specs.Common.{Logs, text, decimal, size_text, IsSizeText, IsReadAs, IsValueReadAs, ReadsSize, view};
@@ -16,17 +16,19 @@ use std::ops::{Div, Mul};
 use std::str::FromStr;
 use toml::Value;
 
+/// The most decimal digits that a `u64` has.
 const DIGITS: usize = 20;
 
+/// The most characters that a unit has, as `KiB`.
 const UNIT_LEN: usize = 3;
 
-/// Room for digits and a unit.
+/// Room in bytes for the digits and the unit of a printed size.
 const TEXT_ROOM: usize = 24;
 
-/// Room for the text of a `SizeError`.
+/// Room in bytes for the longest text of a [`SizeError`].
 const ERROR_ROOM: usize = 80;
 
-/// A size in bytes. It is printed and read with a unit, as `2KiB` or `0.5 MB`.
+/// A size in bytes. It is printed with a unit, as `2KiB`, and read with or without one, as `0.5 MB` or `512`.
 #[derive(Clone, Copy, Debug, PartialEq, Eq, PartialOrd)]
 pub struct ReadableSize(pub u64);
 
@@ -34,7 +36,7 @@ impl ReadableSize {
     ghost use Rattle.raft_size.specs.declared.readable_size.ReadableSize.{ReadableSize};
     ghost use Rattle.raft_size.specs.declared.size_text.SizeError.{SizeError};
 
-    /// Returns a size of `count` times 2^10 bytes, which must be below 2^64.
+    /// Returns the size of `count` KiB (2^10 bytes each), which must be below 2^64 bytes.
     pub const fn kb(count: u64) -> ReadableSize
         requires { count * 2 ^ 10 < 2 ^ 64 }
         ensures { result.0 ≡ count * 2 ^ 10 }
@@ -42,7 +44,7 @@ impl ReadableSize {
         ReadableSize(count * KIB)
     }
 
-    /// Returns a size of `count` times 2^20 bytes, which must be below 2^64.
+    /// Returns the size of `count` MiB (2^20 bytes each), which must be below 2^64 bytes.
     pub const fn mb(count: u64) -> ReadableSize
         requires { count * 2 ^ 20 < 2 ^ 64 }
         ensures { result.0 ≡ count * 2 ^ 20 }
@@ -50,7 +52,7 @@ impl ReadableSize {
         ReadableSize(count * MIB)
     }
 
-    /// Returns a size of `count` times 2^30 bytes, which must be below 2^64.
+    /// Returns the size of `count` GiB (2^30 bytes each), which must be below 2^64 bytes.
     pub const fn gb(count: u64) -> ReadableSize
         requires { count * 2 ^ 30 < 2 ^ 64 }
         ensures { result.0 ≡ count * 2 ^ 30 }
@@ -58,15 +60,15 @@ impl ReadableSize {
         ReadableSize(count * GIB)
     }
 
-    /// Returns how many times 2^20 bytes the size has, rounded down.
+    /// Returns the size in MiB (2^20 bytes), rounded down.
     pub const fn as_mb(self) -> u64
         ensures { result ≡ self.0 / 2 ^ 20 }
     {
         self.0 / MIB
     }
 
-    /// States the laws of sizes as texts. A text is read in one way only. What is printed of a size stands
-    /// for that size, so it is read back as that size.
+    /// States that a text is read in one way only, and that a printed size is read back as that size. This is
+    /// a law: it computes nothing.
     pub fn text_laws()
         ensures one_way { (text : List ℕ) (r s : Result ReadableSize SizeError) → IsReadAs text r
             → IsReadAs text s → r ≡ s }
@@ -75,8 +77,8 @@ impl ReadableSize {
             → IsReadAs (size_text n) r → r ≡ Ok (record { 0 = n }) }
     {}
 
-    /// Returns the count and the unit that a size is printed with: the largest unit that divides it, or `KiB`
-    /// for 0.
+    /// Returns the number and the unit with which the size is printed. The unit is the largest one that
+    /// divides the size, and `KiB` for the size 0.
     fn printed(self) -> (u64, &'static str)
         ensures text { size_text self.0 ≡ decimal result.0 ++ result.1.now }
         ensures unit { length result.1.now ≤ 3 }
@@ -100,7 +102,7 @@ impl ReadableSize {
     }
 }
 
-/// Divides the size by a number, and rounds down.
+/// Divides a size by a number.
 impl Div<u64> for ReadableSize {
     type Output = ReadableSize;
 
@@ -108,13 +110,13 @@ impl Div<u64> for ReadableSize {
 
     ghost div_gives = { λ size divisor r. r.0 ≡ size.0 / divisor };
 
-    /// Returns the size divided by `rhs`, which isn't 0, rounded down to whole bytes.
+    /// Returns the size divided by `rhs`, rounded down to whole bytes. `rhs` must be above 0.
     fn div(self, rhs: u64) -> ReadableSize {
         ReadableSize(self.0 / rhs)
     }
 }
 
-/// How many times a size fits into another one.
+/// Divides a size by another size.
 impl Div<ReadableSize> for ReadableSize {
     type Output = u64;
 
@@ -122,13 +124,13 @@ impl Div<ReadableSize> for ReadableSize {
 
     ghost div_gives = { λ size divisor r. r ≡ size.0 / divisor.0 };
 
-    /// Returns how many times the size `rhs`, which isn't 0, fits into this one.
+    /// Returns how many whole times the size `rhs` fits into this one. `rhs` must be above 0.
     fn div(self, rhs: ReadableSize) -> u64 {
         self.0 / rhs.0
     }
 }
 
-/// A size times a number.
+/// Multiplies a size by a number.
 impl Mul<u64> for ReadableSize {
     type Output = ReadableSize;
 
@@ -136,29 +138,27 @@ impl Mul<u64> for ReadableSize {
 
     ghost mul_gives = { λ size count r. r.0 ≡ size.0 * count };
 
-    /// Returns the size times `rhs`, which must be below 2^64 bytes.
+    /// Returns the size times `rhs`. The product must be below 2^64 bytes.
     fn mul(self, rhs: u64) -> ReadableSize {
         ReadableSize(self.0 * rhs)
     }
 }
 
-/// Reads a number and a unit, as ` 0.5 PiB` or `1e+1MB`, rounded down to whole bytes and held from 0 to
-/// 2^64 - 1.
+/// Reads a number and a unit, such as `64MiB`, ` 0.5 PiB` or `1e+1MB`. White space may stand around either.
 ///
-/// The units are `B` or none, and `K`, `M`, `G`, `T` and `P`, alone or with `B` or `iB` after them, for 2^10,
-/// 2^20, 2^30, 2^40 and 2^50 bytes.
+/// The unit is `B` or nothing for bytes; or `K`, `M`, `G`, `T` or `P`, alone or followed by `B` or `iB`, for
+/// 2^10, 2^20, 2^30, 2^40 or 2^50 bytes.
 impl FromStr for ReadableSize {
     type Err = SizeError;
 
     ghost from_str_gives = { IsReadAs };
 
-    /// Returns the size that the text `s` stands for, as ` 0.5 PiB` or `1e+1MB`: rounded down to whole bytes,
-    /// at least 0 and at most 2^64 - 1.
+    /// Returns the size that the text `s` stands for, rounded down to whole bytes: 0 if the number is
+    /// negative, and 2^64 - 1 if the size would be larger.
     ///
     /// # Errors
     ///
-    /// `Empty`, `NotAscii`, `Unit`, `Number` or `Digits`: the first of these reasons why the text stands for
-    /// no size.
+    /// The first of `Empty`, `NotAscii`, `Unit`, `Number` and `Digits` that applies.
     fn from_str(s: &str) -> Result<ReadableSize, SizeError> {
         Ok(ReadableSize(parse_size(s)?))
     }
@@ -168,11 +168,11 @@ impl FromStr for ReadableSize {
 impl fmt::Display for ReadableSize {
     ghost output = { λ size. Some (size_text size.0) };
 
-    /// Prints the size in the largest unit that divides it, as `2KiB` or `1025B`.
+    /// Prints the size in the largest unit that divides it, as `2KiB` or `1025B`, and 0 as `0KiB`.
     ///
     /// # Errors
     ///
-    /// That of the writer.
+    /// The writer's error.
     fn fmt<W: fmt::Write>(&self, f: &mut fmt::Formatter<W>) -> fmt::Result {
         let (count, unit) = self.printed();
         write!(f, "{count}{unit}")
@@ -183,9 +183,9 @@ impl Described for ReadableSize {
     ghost writes = { λ size old new. Logs old new (text (size_text size.0)) };
 }
 
-/// Writes the size as its text.
+/// Serializes the size as its text.
 impl Serialize for ReadableSize {
-    /// Writes the size as its text, as `2KiB`.
+    /// Writes the size to `out` as its text, such as `2KiB`.
     ///
     /// # Errors
     ///
@@ -200,13 +200,15 @@ impl Serialize for ReadableSize {
     }
 }
 
-/// Reads the size from a text.
+/// Deserializes the size from a text.
 impl<'de> Deserialize<'de> for ReadableSize {
-    /// Reads the size from a text, as [`from_str`](ReadableSize::from_str) does.
+    /// Reads a text from `from`, and returns the size that it stands for by
+    /// [`from_str`](ReadableSize::from_str).
     ///
     /// # Errors
     ///
-    /// Those of `from`, and the reason why the text stands for no size.
+    /// Those of `from`; an error of its format with the text of the [`SizeError`], if the text stands for no
+    /// size.
     fn deserialize<F: Format>(
         alloc: Global,
         from: &mut Deserializer<'de, '_, F>,
@@ -218,11 +220,13 @@ impl<'de> Deserialize<'de> for ReadableSize {
 }
 
 impl DeserializeOwned for ReadableSize {
-    /// Reads the size from a text, as [`from_str`](ReadableSize::from_str) does.
+    /// Reads a text from `from`, and returns the size that it stands for by
+    /// [`from_str`](ReadableSize::from_str).
     ///
     /// # Errors
     ///
-    /// Those of `from`, and the reason why the text stands for no size.
+    /// Those of `from`; an error of its format with the text of the [`SizeError`], if the text stands for no
+    /// size.
     fn deserialize_owned<F: Format>(
         alloc: Global,
         from: &mut Deserializer<'_, '_, F>,
@@ -237,12 +241,12 @@ impl DeserializeOwned for ReadableSize {
     }
 }
 
-/// Returns the size that `value` of a setting gives: a text, as `64MiB`, or a whole number of bytes.
+/// Returns the size that a TOML value gives: a text with a unit, such as `64MiB`, or a whole number of bytes.
 ///
 /// # Errors
 ///
-/// Those of `from_str` for a text that stands for no size; `Kind` for a number below 0, and for a value of
-/// any other type.
+/// For a text, those of [`from_str`](ReadableSize::from_str). `Kind` for a number below 0, or a value of any
+/// other type.
 pub fn size_from_value(value: &Value) -> Result<ReadableSize, SizeError>
     ensures { IsValueReadAs (view value.now) result }
 {

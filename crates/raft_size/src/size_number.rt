@@ -1,29 +1,37 @@
-//! The number of a size's text.
+//! The number at the start of a size's text, which has digits, a point and an exponent, and its value in
+//! bytes.
 
 ghost use Rattle.std.specs.Prelude.{◌≡◌, ◌≤◌, ◌<◌, ◌-◌, ◌*◌, ◌^◌, ◌++◌, IfSome, IfNone, ℕ, Bool, List, min, length};
 ghost use Rattle.raft_size.specs.Common.{AllDigits, IsNumeral, digits_value, digits_value_after, Number, IsNumber, IsExponent, digits_of, significant, size_of, has_minus, behind_sign, NoDigitFirst, TakesFraction, number_shown};
 ghost use Rattle.raft_size.specs.Common.{HasDigitsAlone, scaled_size};
 
-/// A limit above every number of 20 digits.
+/// 10^20, the least number of more than 20 digits: the digits of a size must be below it.
 const SIGNIFICAND_LIMIT: u128 = 100_000_000_000_000_000_000;
 
-/// A limit above the length of every text, by more than the digits that a size can have.
+/// A limit for exponents. An exponent that reaches it outweighs all digits that a text can have, so that
+/// nothing is lost if a larger one counts as the limit.
 const EXPONENT_LIMIT: u128 = 1 << 65;
 
-/// A number as a text spells it, in parts: the sign, the digits before and behind the point, and the
-/// exponent.
+/// A number as a text spells it, in parts: the sign, the digits before and after the point, and the exponent.
+/// The digits are ASCII.
 #[derive(Clone, Copy)]
 pub(super) struct SizeNumber<'a> {
+    /// Whether the sign is a minus.
     is_negative: bool,
+    /// The digits before the point.
     whole: &'a [u8],
+    /// The digits after the point; none without a point.
     fraction: &'a [u8],
+    /// Whether the sign of the exponent is a minus.
     is_exponent_negative: bool,
+    /// The digits of the exponent; none without an exponent.
     exponent: &'a [u8],
 }
 
 impl<'a> SizeNumber<'a> {
-    /// Returns the number that `text` spells: a sign, digits with a fraction, and an exponent, as `-0.5` or
-    /// `1e+1`. Returns `None` if it spells none.
+    /// Returns the parts of the number that `text` spells, or `None` if it spells none. A number is a sign,
+    /// digits with or without a point, and an exponent, as `-0.5` or `1e+1`; sign and exponent may be
+    /// missing.
     pub(super) fn parse(text: &'a [u8]) -> Option<SizeNumber<'a>>
         ensures number { IfSome result (λ number. IsNumber text.now (number_shown number)) }
         ensures digits { IfSome result (λ number. HasDigitsAlone (number_shown number)) }
@@ -45,8 +53,8 @@ impl<'a> SizeNumber<'a> {
         })
     }
 
-    /// Returns the number that the digits before and behind the point spell together, without the point.
-    /// Returns `None` if it has more than 20 digits behind its leading zeros.
+    /// Returns the number that the digits before and after the point make together, without the point.
+    /// Returns `None` if it has more than 20 digits, leading zeros aside.
     pub(super) fn significand(&self) -> Option<u128>
         requires { HasDigitsAlone (number_shown self.now) }
         ensures value { IfSome result (λ value. value ≡ digits_value 10
@@ -66,9 +74,9 @@ impl<'a> SizeNumber<'a> {
         }
     }
 
-    /// Returns the size in bytes: the number times `factor`, rounded down, 0 if it is negative, and 2^64 -
-    /// 1 if it would be more. `factor` is how many bytes the unit has, at most 2^50; `significand` is what
-    /// [`SizeNumber::significand`] returned for this number.
+    /// Returns the size in bytes: the number times `factor`, rounded down. It is 0 if the number is negative,
+    /// and 2^64 - 1 if it would be larger. `factor` is how many bytes the unit has, at most 2^50;
+    /// `significand` is what [`SizeNumber::significand`] returned for this number.
     pub(super) fn size(&self, significand: u128, factor: u64) -> u64
         requires digits { HasDigitsAlone (number_shown self.now) }
         requires significand { significand ≡ digits_value 10 (digits_of (number_shown self.now)) }
@@ -90,7 +98,7 @@ impl<'a> SizeNumber<'a> {
     }
 }
 
-/// Returns whether `text` begins with a minus, and what is behind its sign, if it has one.
+/// Returns whether `text` begins with a minus, and the text after its sign, if it has one.
 fn split_sign(text: &[u8]) -> (bool, &[u8])
     ensures minus { result.0 ≡ has_minus text.now }
     ensures rest { result.1.now ≡ behind_sign text.now }
@@ -102,7 +110,7 @@ fn split_sign(text: &[u8]) -> (bool, &[u8])
     }
 }
 
-/// Returns the digits at the start of `text`, and what is behind them.
+/// Returns the digits at the start of `text`, and the text after them.
 fn split_digits(text: &[u8]) -> (&[u8], &[u8])
     ensures split { text.now ≡ result.0.now ++ result.1.now }
     ensures digits { AllDigits 10 result.0.now }
@@ -116,8 +124,9 @@ fn split_digits(text: &[u8]) -> (&[u8], &[u8])
     text.split_at(text.len())
 }
 
-/// Returns the digits behind a point at the start of `behind`, what a number's text has behind its whole
-/// digits, and what follows them. Without a point there are none.
+/// Returns the digits of a fraction, and the text after them. `behind` is what a number's text has after its
+/// whole digits: the fraction is a point and digits at its start. Without a point there are no digits, and
+/// the text is all of `behind`.
 fn split_fraction(behind: &[u8]) -> (&[u8], &[u8])
     requires { NoDigitFirst behind.now }
     ensures split { TakesFraction behind.now result.0.now result.1.now }
@@ -130,8 +139,8 @@ fn split_fraction(behind: &[u8]) -> (&[u8], &[u8])
     }
 }
 
-/// Returns whether an exponent, as `e-3`, is negative, and its digits. An empty text has none, and isn't
-/// negative. Returns `None` if the text is no exponent.
+/// Returns whether an exponent such as `e-3` is negative, and its digits. An empty `text` is an exponent
+/// without digits that isn't negative. Returns `None` if `text` isn't an exponent.
 fn parse_exponent(text: &[u8]) -> Option<(bool, &[u8])>
     ensures exponent { IfSome result (λ exponent. IsExponent text.now exponent.0 exponent.1.now) }
     ensures none { IfNone result ((minus : Bool) (digits : List ℕ) →
@@ -145,8 +154,8 @@ fn parse_exponent(text: &[u8]) -> Option<(bool, &[u8])>
     }
 }
 
-/// Returns whether `text`, the part of an exponent behind its `e`, is negative, and its digits. Returns
-/// `None` if there are none, or other characters.
+/// Returns whether `text`, the part of an exponent after its `e`, is negative, and its digits. Returns `None`
+/// if it has no digits, or anything but a sign and digits.
 fn parse_power(text: &[u8]) -> Option<(bool, &[u8])>
     ensures minus { IfSome result (λ power. power.0 ≡ has_minus text.now) }
     ensures digits { IfSome result (λ power. power.1.now ≡ behind_sign text.now) }
@@ -161,7 +170,8 @@ fn parse_power(text: &[u8]) -> Option<(bool, &[u8])>
     Some((is_negative, digits))
 }
 
-/// Returns the number that `digits` spell behind those of `start`, or `limit` if it is above that.
+/// Returns the number whose decimal digits are those of `start` and then `digits`, or `limit` if the number
+/// is larger. `start` is at most `limit`.
 fn value_up_to(limit: u128, start: u128, digits: &[u8]) -> u128
     requires limit { limit < 2 ^ 100 }
     requires start { start ≤ limit }
@@ -175,7 +185,7 @@ fn value_up_to(limit: u128, start: u128, digits: &[u8]) -> u128
     value
 }
 
-/// Returns `value` times 10^`up`, divided by 10^`down`, rounded down, and at most 2^64 - 1.
+/// Returns `value` times 10^`up` divided by 10^`down`, rounded down, or 2^64 - 1 if that is larger.
 fn scaled(value: u128, up: u128, down: u128) -> u64
     requires { value < 2 ^ 120 }
     ensures { result ≡ scaled_size value up down }
@@ -187,7 +197,7 @@ fn scaled(value: u128, up: u128, down: u128) -> u64
     }
 }
 
-/// Returns `value` divided by 10^`power`, rounded down, and at most 2^64 - 1.
+/// Returns `value` divided by 10^`power`, rounded down, or 2^64 - 1 if that is larger.
 fn lowered(value: u128, power: u128) -> u64
     requires { value < 2 ^ 120 }
     ensures { result ≡ scaled_size value 0 power }
@@ -199,7 +209,7 @@ fn lowered(value: u128, power: u128) -> u64
     }
 }
 
-/// Returns `value` times 10^`power`, at most 2^64 - 1.
+/// Returns `value` times 10^`power`, or 2^64 - 1 if that is larger.
 fn raised(value: u128, power: u128) -> u64
     ensures { result ≡ scaled_size value power 0 }
 {
@@ -213,7 +223,7 @@ fn raised(value: u128, power: u128) -> u64
     }
 }
 
-/// Returns `number`, or 2^64 - 1 if it is above that.
+/// Returns `number`, or 2^64 - 1 if it is larger.
 fn held(number: u128) -> u64
     ensures { result ≡ min (2 ^ 64 - 1) number }
 {

@@ -1,4 +1,4 @@
-//! Reading of sizes.
+//! Sizes read from texts, as a number with a unit.
 
 ghost use Rattle.std.specs.Prelude.{◌≡◌, ◌≢◌, ◌≤◌, ◌^◌, [], IfSome, IfNone, IfOk, IfErr, ℕ};
 ghost use Rattle.raft_size.specs.Common.{IsAscii, is_number_character, number_len, SpellsSize, IsSpellingFault, IsSizeText, IsSizeFault, IsUnit};
@@ -7,22 +7,22 @@ use super::size_number::SizeNumber;
 use super::units::{B, GIB, KIB, MIB, PIB, TIB};
 use thiserror::Error;
 
-/// The reason why a text or a value stands for no size.
+/// The reason why a text or a value isn't a size.
 #[derive(Debug, Drop, Error, Clone, Copy, PartialEq, Eq)]
 pub enum SizeError {
-    /// The text is empty, or white space alone.
+    /// The text is empty, or only white space.
     #[error("empty")]
     Empty,
-    /// The text has a character that is not ASCII.
+    /// The text has a character that isn't ASCII.
     #[error("not ASCII")]
     NotAscii,
-    /// What follows the number is no unit.
+    /// What follows the number isn't a unit.
     #[error("only B, KB, KiB, MB, MiB, GB, GiB, TB, TiB, PB and PiB are supported")]
     Unit,
-    /// What stands in front of the unit is no number.
+    /// What stands before the unit isn't a number.
     #[error("not a number")]
     Number,
-    /// The number has more than 20 digits after its leading zeros.
+    /// The number has more than 20 digits, leading zeros aside.
     #[error("more than 20 digits")]
     Digits,
     /// The value is neither a text nor a whole number of at least 0.
@@ -34,7 +34,7 @@ pub enum SizeError {
 ///
 /// # Errors
 ///
-/// `Empty`, `NotAscii`, `Unit`, `Number` or `Digits`: the first of these reasons why it stands for no size.
+/// The first of `Empty`, `NotAscii`, `Unit`, `Number` and `Digits` that applies.
 pub(super) fn parse_size(text: &str) -> Result<u64, SizeError>
     ensures size { IfOk result (IsSizeText text.now) }
     ensures fault { IfErr result (IsSizeFault text.now) }
@@ -49,11 +49,12 @@ pub(super) fn parse_size(text: &str) -> Result<u64, SizeError>
     }
 }
 
-/// Returns the size in bytes that `text`, which is ASCII and not empty, stands for.
+/// Returns the size in bytes that `text` stands for. It is ASCII, isn't empty, and has no white space around
+/// it.
 ///
 /// # Errors
 ///
-/// `Unit`, `Number` or `Digits`, the first of these that holds.
+/// The first of `Unit`, `Number` and `Digits` that applies.
 fn parse_ascii(text: &str) -> Result<u64, SizeError>
     requires some_text { text.now ≢ [] }
     requires ascii { IsAscii text.now }
@@ -73,7 +74,8 @@ fn parse_ascii(text: &str) -> Result<u64, SizeError>
     Ok(number.size(significand, factor))
 }
 
-/// Returns how many bytes at the start of `text` may be of a number ([`is_number_byte`]).
+/// Returns the length of the longest prefix of `text` in which each byte may be of a number
+/// ([`is_number_byte`]).
 fn front_len(text: &[u8]) -> usize
     ensures { result ≡ number_len text.now }
 {
@@ -85,14 +87,15 @@ fn front_len(text: &[u8]) -> usize
     text.len()
 }
 
-/// Tests whether the byte `c` may be in a number: a digit, a point, a sign, or the `e` of an exponent.
+/// Tests whether the byte `c` may be in a number: a digit, a point, a sign, or the `e` or `E` of an exponent.
 fn is_number_byte(c: u8) -> bool
     ensures { result ≡ is_number_character c }
 {
     c.is_ascii_digit() || matches!(c, b'.' | b'e' | b'E' | b'-' | b'+')
 }
 
-/// Returns how many bytes `unit` has, as 1024 for `KiB`, or `None` for a text that is no unit.
+/// Returns how many bytes `unit` has, such as 1024 for `KiB`, or `None` if it isn't a unit. The empty text is
+/// a unit of one byte.
 fn unit_factor(unit: &str) -> Option<u64>
     ensures bound { IfSome result (λ factor. factor ≤ 2 ^ 50) }
     ensures known { IfSome result (IsUnit unit.now) }

@@ -1,4 +1,4 @@
-//! How many records of all regions are live in each queue.
+//! [`GlobalStats`]: how many records of all regions are live in each queue.
 
 ghost use Rattle.std.specs.Prelude.{◌≡◌, ◌+◌, ◌^◌, ◌<◌, ◌≤◌, IsOk, IfOk, OnOk, OnErr, IfErr, MatchBool};
 ghost use Rattle.raft_table.specs.Common.{LogQueue, Rewrite, count_in, live, with_added, with_deleted, without_deleted, after_refusal, live_of, IsCounted, with_table_added, with_table_deleted};
@@ -7,14 +7,18 @@ use crate::memtable::MemTable;
 use raft_base::{Error, LogQueue, Result};
 use std::marker::Model;
 
-/// The live records of all regions, counted by queue. A record is an entry or a key value.
+/// The number of live records of all regions, for each queue. A record is an entry or a key value; it is live
+/// as long as it is in a table.
 ///
-/// Of the append queue one number goes up and down. Of the rewrite queue two numbers go up: how
-/// many records were written, and how many of those were deleted again.
+/// For the append queue one number rises and falls. For the rewrite queue two numbers rise: how many records
+/// were written, and how many of those were deleted again.
 #[derive(Debug, Drop)]
 pub struct GlobalStats {
+    /// The number of live records of the append queue.
     live_append_entries: usize,
+    /// The number of records that were written to the rewrite queue.
     rewrite_entries: usize,
+    /// How many of these were deleted again, so that the others are live.
     deleted_rewrite_entries: usize,
 }
 
@@ -36,7 +40,7 @@ impl Model for GlobalStats {
 impl Default for GlobalStats {
     ghost is_default = { λ s. s ≡ record { append = 0; written = 0; deleted = 0 } };
 
-    /// Returns counts in which no record of either queue is live.
+    /// Returns counts of no records.
     fn default() -> GlobalStats {
         GlobalStats {
             live_append_entries: 0,
@@ -47,15 +51,14 @@ impl Default for GlobalStats {
 }
 
 impl GlobalStats {
-    /// Counts `count` more live records of `queue`.
-    ///
-    /// If the number written to the rewrite queue would pass 2^64 - 1, the deleted records are first
-    /// subtracted from it ([`GlobalStats::reset_rewrite_counters`]).
+    /// Counts `count` more live records of `queue`. If the number of records written to the rewrite queue
+    /// would be more than 2^64 - 1, the deleted ones are subtracted from it first
+    /// ([`GlobalStats::reset_rewrite_counters`]).
     ///
     /// # Errors
     ///
-    /// `Full` if more than 2^64 - 1 records would be live in `queue`. No live count has changed then; the
-    /// numbers of the rewrite queue may have been reset.
+    /// `Full` if more than 2^64 - 1 records would be live in `queue`. No live count has changed then, but the
+    /// deleted records of the rewrite queue may have been subtracted.
     pub fn add(&mut self, queue: LogQueue, count: usize) -> Result<()>
         ensures ok { OnOk result (self.new ≡ with_added queue count self.old) }
         ensures live { OnOk result ((q : LogQueue) →
@@ -80,8 +83,8 @@ impl GlobalStats {
         Ok(())
     }
 
-    /// Tests whether `count` more records of `queue` can be counted as live: no more than 2^64 - 1 are live
-    /// in a queue.
+    /// Tests whether `count` more records of `queue` can be counted: no more than 2^64 - 1 would be live in
+    /// it.
     pub fn can_add(&self, queue: LogQueue, count: usize) -> bool
         ensures { MatchBool result (live queue self.now + count < 2 ^ 64)
             (2 ^ 64 ≤ live queue self.now + count) }
@@ -89,8 +92,8 @@ impl GlobalStats {
         count <= usize::MAX - self.live_entries(queue)
     }
 
-    /// Counts `count` more live records of `queue`. It can't fail: the caller has made sure, as by
-    /// [`GlobalStats::can_add`], that no more than 2^64 - 1 are live then.
+    /// Counts `count` more live records of `queue`. There must be room for them ([`GlobalStats::can_add`]),
+    /// so it can't fail.
     pub(crate) fn add_fitting(&mut self, queue: LogQueue, count: usize)
         requires { live queue self.old + count < 2 ^ 64 }
         ensures after { self.new ≡ with_added queue count self.old }
@@ -101,13 +104,13 @@ impl GlobalStats {
         }
     }
 
-    /// Counts `count` records that were written to the rewrite queue and to which nothing moved: as written
-    /// and, at once, as deleted. No live count changes.
+    /// Counts `count` records that were written to the rewrite queue, but to which no live record moved: as
+    /// written, and as deleted at once. No live count changes.
     ///
     /// # Errors
     ///
-    /// `Full` if `count` and the live records of the rewrite queue together pass 2^64 - 1. The counts are
-    /// unchanged then.
+    /// `Full` if `count` and the live records of the rewrite queue are more than 2^64 - 1 together. The
+    /// counts are unchanged then.
     pub(crate) fn add_unmoved(&mut self, count: usize) -> Result<()>
         ensures ok { OnOk result (self.new
             ≡ with_deleted Rewrite count (with_added Rewrite count self.old)) }
@@ -124,8 +127,8 @@ impl GlobalStats {
         Ok(())
     }
 
-    /// Counts `count` records of `queue`, which are counted as live, as no longer live. In the rewrite queue
-    /// they are counted as deleted.
+    /// Counts `count` live records of `queue` as no longer live. In the rewrite queue they are counted as
+    /// deleted. No more than are live may be deleted.
     pub fn delete(&mut self, queue: LogQueue, count: usize)
         requires { count ≤ live queue self.old }
         ensures after { self.new ≡ with_deleted queue count self.old }
@@ -137,7 +140,7 @@ impl GlobalStats {
         }
     }
 
-    /// Counts all records of `table` as live, each in the queue that it is in.
+    /// Counts all records of `table` as live, each in its queue.
     ///
     /// # Errors
     ///
@@ -160,8 +163,7 @@ impl GlobalStats {
         Ok(())
     }
 
-    /// Counts all records of `table`, which are counted as live, as no longer live, each in the queue that it
-    /// is in.
+    /// Counts all records of `table`, which must be counted as live, as no longer live, each in its queue.
     pub fn delete_table(&mut self, table: &MemTable)
         requires { IsCounted table.now self.old }
         ensures after { self.new ≡ with_table_deleted table.now self.old }
@@ -171,8 +173,8 @@ impl GlobalStats {
         self.delete_records(table, LogQueue::Rewrite);
     }
 
-    /// Tests whether [`GlobalStats::add_table`] can count all records of `table`: in neither queue more than
-    /// 2^64 - 1 records would be live.
+    /// Tests whether [`GlobalStats::add_table`] can count all records of `table`: no more than 2^64 - 1 would
+    /// be live in either queue.
     pub fn has_room(&self, table: &MemTable) -> bool
         ensures { MatchBool result
             ((q : LogQueue) → live q self.now + live_of q table.now < 2 ^ 64)
@@ -181,8 +183,8 @@ impl GlobalStats {
         self.has_room_in(table, LogQueue::Append) && self.has_room_in(table, LogQueue::Rewrite)
     }
 
-    /// Tests whether the records that `table` has in `queue` can be counted as live: no more than 2^64 - 1
-    /// would be live in it.
+    /// Tests whether the records that `table` has in `queue` can be counted: no more than 2^64 - 1 would be
+    /// live in it.
     fn has_room_in(&self, table: &MemTable, queue: LogQueue) -> bool
         ensures { MatchBool result (live queue self.now + live_of queue table.now < 2 ^ 64)
             (2 ^ 64 ≤ live queue self.now + live_of queue table.now) }
@@ -190,7 +192,7 @@ impl GlobalStats {
         table.records(queue) <= (usize::MAX - self.live_entries(queue)) as u128
     }
 
-    /// Counts the records that `table` has in `queue`, which are counted as live, as no longer live.
+    /// Counts the records that `table` has in `queue`, which must be counted as live, as no longer live.
     fn delete_records(&mut self, table: &MemTable, queue: LogQueue)
         requires { live_of queue table.now ≤ live queue self.old }
         ensures after { self.new ≡ with_deleted queue (live_of queue table.now) self.old }
@@ -203,7 +205,7 @@ impl GlobalStats {
         self.delete(queue, count as usize);
     }
 
-    /// Returns how many records, entries and key values, are live in `queue`.
+    /// Returns how many records are live in `queue`: entries and key values.
     pub fn live_entries(&self, queue: LogQueue) -> usize
         ensures { result ≡ live queue self.now }
     {
@@ -214,7 +216,7 @@ impl GlobalStats {
     }
 
     /// Returns how many records were written to the rewrite queue: those that are live, and those that were
-    /// deleted since the deleted ones were last taken off ([`GlobalStats::reset_rewrite_counters`]).
+    /// deleted since the deleted ones were last subtracted ([`GlobalStats::reset_rewrite_counters`]).
     pub fn rewrite_entries(&self) -> usize
         ensures { result ≡ self.now.written }
     {
@@ -243,7 +245,7 @@ impl GlobalStats {
 ///
 /// # Errors
 ///
-/// `Full` if it passes 2^64 - 1.
+/// `Full` if it is more than 2^64 - 1.
 fn sum(a: usize, b: usize) -> Result<usize>
     ensures ok { IfOk result (λ s. s ≡ a + b) }
     ensures accepted { a + b < 2 ^ 64 → IsOk result }

@@ -1,4 +1,5 @@
-//! The records of regions in memory, and how many of them are live.
+//! The table of one region in memory: where its entries are, its key values, and how many of its records are
+//! live.
 #![tactic(auto)]
 
 pub mod global_stats;

@@ -1,4 +1,11 @@
-//! The table of a region: where its entries stand, its key values, and its atomic group.
+//! [`MemTable`], the table of a region: where its entries are, its key values, and the files of its atomic
+//! group.
+//!
+//! A *run* is entries with consecutive indexes; its *end* is the index after that of the last one. A run that
+//! is put into a table replaces the entries from its first index on, so that the entries of a table are
+//! always one run. A run that starts above the end of the entries leaves a *hole*: the append queue refuses
+//! it, and in the rewrite queue it replaces all entries. A record is an entry or a key value; it is *live* as
+//! long as it is in a table.
 
 ghost use Rattle.std.specs.Prelude.{◌≡◌, ◌≢◌, ◌+◌, ◌≤◌, ◌^◌, false, length, MatchOption, OnOk, OnErr, IfErr, Some, [], MatchBool, option_map};
 ghost use Rattle.raft_table.specs.Common.{LogQueue, Append, Rewrite, end_of, IsRunIn, AreTableEntries, start_of, entry_at, entry_count, below, from, blocks_shown, entries_in_blocks, AreDistinctBlocks, Counts, live, with_added, block_count};
@@ -42,13 +49,20 @@ use std::alloc::Global;
 use std::collections::VecDeque;
 use std::marker::Model;
 
-/// The table of a region: where its entries are, its key values, and the files of its atomic group. Calls
-/// that change its records also change the live counts `stats`, in which these records must be counted.
+/// The table of a region: where its entries are, its key values, and the files of its atomic group. Entries
+/// whose place is in the append queue are *appended*, the others *rewritten*; the rewritten ones come first.
+///
+/// Calls that change its records also change the live counts `stats`, in which the records of the table must
+/// be counted.
 #[derive(Drop)]
 pub struct MemTable {
+    /// The id of the region.
     region_id: u64,
+    /// The entries of the region.
     entries: Entries,
+    /// The key values of the region.
     keys: KeyValues,
+    /// The first and the last file of the region's atomic group in the rewrite queue, if one was applied.
     atomic_group: Option<(FileSeq, FileSeq)>,
 }
 
@@ -66,7 +80,8 @@ impl Model for MemTable {
 }
 
 impl MemTable {
-    /// Returns the table of the region `region_id` without records, which will allocate from `alloc`.
+    /// Returns a table of the region `region_id` without records. It will allocate from `alloc`, and
+    /// allocates nothing yet.
     pub fn new(alloc: Global, region_id: u64) -> MemTable
         ensures empty { result ≡ empty_table region_id }
         ensures counted { (counts : Counts) → IsCounted result counts }
@@ -79,15 +94,15 @@ impl MemTable {
         }
     }
 
-    /// States that a table's entries are one run without gaps, each has a place, and the rewritten ones come
-    /// before the appended ones. This is a law: it computes nothing.
+    /// States that the entries of a table are one run, each has a place, and the rewritten ones come before
+    /// the appended ones. This is a law: it computes nothing.
     pub fn holds_one_run(&self)
         ensures { AreTableEntries self.now.entries }
     {
         self.entries.holds_one_run();
     }
 
-    /// Returns the id of the region that the table is of.
+    /// Returns the id of the table's region.
     pub fn region_id(&self) -> u64
         ensures { result ≡ self.now.region_id }
     {
@@ -101,7 +116,7 @@ impl MemTable {
         self.entries.count_in(LogQueue::Rewrite)
     }
 
-    /// Returns the index of the first entry, or `None` without entries.
+    /// Returns the index of the first entry, or `None` if there are no entries.
     pub fn first_index(&self) -> Option<u64>
         ensures { MatchOption result (self.now.entries ≡ [])
             (λ i. (self.now.entries ≢ []) × (i ≡ start_of self.now.entries)) }
@@ -109,7 +124,7 @@ impl MemTable {
         self.entries.first_index()
     }
 
-    /// Returns the index of the last entry, or `None` without entries.
+    /// Returns the index of the last entry, or `None` if there are no entries.
     pub fn last_index(&self) -> Option<u64>
         ensures { MatchOption result (self.now.entries ≡ [])
             (λ i. i + 1 ≡ end_of self.now.entries) }
@@ -117,8 +132,8 @@ impl MemTable {
         self.entries.last_index()
     }
 
-    /// Returns the blocks in which the entries are kept, in order: each has entries, and neighbors
-    /// have different places.
+    /// Returns the blocks of the entries, in order of their indexes. No block is empty, and neighboring
+    /// blocks have different places.
     pub fn blocks(&self) -> &VecDeque<Block>
         ensures entries { entries_in_blocks (start_of self.now.entries)
             (blocks_shown result.now.items) ≡ self.now.entries }
@@ -129,7 +144,7 @@ impl MemTable {
     }
 
     /// Returns the numbers of the first and the last file of the region's atomic group in the rewrite queue,
-    /// or `None` if none was applied.
+    /// or `None` if no group was applied.
     pub fn atomic_group(&self) -> Option<(FileSeq, FileSeq)>
         ensures { result ≡ self.now.atomic_group }
     {
@@ -143,7 +158,7 @@ impl MemTable {
         self.entries.count_in(queue) as u128 + self.keys.count_in(queue) as u128
     }
 
-    /// Returns the entry at `index`, with its place, or `None` if the table has none there.
+    /// Returns the entry at `index`, with its place, or `None` if the table has no entry there.
     pub fn get_entry(&self, index: u64) -> Option<EntryIndex>
         ensures { result ≡ entry_at index self.now.entries }
     {
@@ -157,17 +172,19 @@ impl MemTable {
         self.keys.get(key)
     }
 
-    /// Puts `run`, a new one of the append queue, behind the entries below its start, in place of all others.
-    /// A run without entries changes nothing.
+    /// Puts `run`, which was newly written to the append queue, after the entries below its first index, and
+    /// drops all other entries. A run without entries changes nothing.
     ///
-    /// Rewritten entries that go stay in the files of the rewrite queue. If the append file with the run is
-    /// purged before the rewrite queue has a truncation at the run's start, a recovery may bring them back.
+    /// Rewritten entries that are dropped stay in the files of the rewrite queue. If the append file with the
+    /// run is deleted before the rewrite queue has a truncation at the first index of the run, recovery may
+    /// bring them back.
     ///
     /// # Errors
     ///
-    /// `Corruption` if the run starts below the first entry or leaves a hole after the last one; of a hole
-    /// the text names the region, where the run starts and where the entries end. `Full` if more than 2^64 -
-    /// 1 records would be live in the append queue. `Memory`. The table and the counts are unchanged then.
+    /// `Corruption` if the run starts below the first entry or leaves a hole after the last one; the text for
+    /// a hole names the region, the first index of the run and the end of the entries. `Full` if more than
+    /// 2^64 - 1 records would be live in the append queue. `Memory`. The table and the counts are unchanged
+    /// then.
     pub fn append(&mut self, run: Vec<EntryIndex>, stats: &mut GlobalStats) -> Result<()>
         requires run { IsRunIn Append run.items }
         requires counted { IsCounted self.old stats.old }
@@ -183,8 +200,9 @@ impl MemTable {
         self.entries.append(self.region_id, run, stats)
     }
 
-    /// Puts `run`, which was read from the append queue, behind the entries below its start, in place of all
-    /// others. A run that starts below the first entry replaces all. A run without entries changes nothing.
+    /// Puts `run`, which was read from the append queue, after the entries below its first index, and drops
+    /// all other entries. A run that starts below the first entry replaces all entries. A run without entries
+    /// changes nothing.
     ///
     /// # Errors
     ///
@@ -206,9 +224,10 @@ impl MemTable {
             .replay_run(self.region_id, &run, LogQueue::Append, stats)
     }
 
-    /// Puts `run`, which was read from the rewrite queue, behind the entries below its start, in place of all
-    /// others. A run that starts below the first entry, or leaves a hole after the last one, replaces all. A
-    /// run without entries changes nothing.
+    /// Puts `run`, which was read from the rewrite queue, after the entries below its first index, and drops
+    /// all other entries. A run that starts below the first entry, or leaves a hole after the last one,
+    /// replaces all entries. A run without entries changes nothing. The table must have no records of the
+    /// append queue.
     ///
     /// # Errors
     ///
@@ -232,9 +251,9 @@ impl MemTable {
     }
 
     /// Puts a run of `queue` as [`MemTable::replay_append`] or [`MemTable::replay_rewrite`] does, and returns
-    /// whether it did. It doesn't if that call would be refused, or the table has records of the other queue;
-    /// the table and the counts are unchanged then. Recovery tries this first, and makes the error by the
-    /// slower call.
+    /// whether it did. It returns false if that call would be refused, or the table has records of the other
+    /// queue; the table and the counts are unchanged then. Recovery tries this first, and after false makes
+    /// the slower call, which gives the error.
     #[doc(hidden)]
     #[inline(always)]
     pub fn try_replay(&mut self, queue: LogQueue, run: &Run<'_>, stats: &mut GlobalStats) -> bool
@@ -260,19 +279,19 @@ impl MemTable {
         self.entries.put_run_behind(keep, run, queue, stats).is_ok()
     }
 
-    /// Gives entries the places of a run of the rewrite queue that has their indexes, from the first index
-    /// that both have on, up to the first entry that may not move: with a `gate`, entries in files numbered
-    /// at or below it may; without one, those that are rewritten already. Indexes, and key values, stay. A
-    /// run without entries changes nothing.
+    /// Moves entries to the places of `run`, which was written to the rewrite queue with copies of entries of
+    /// this table. Entries move from the first index that table and run share, up to the first entry that may
+    /// not move: with a `gate`, an entry may move if the number of its file is at most `gate`; without one,
+    /// if it is rewritten already. Indexes and key values stay. A run without entries changes nothing.
     ///
-    /// The whole run is counted as written to the rewrite queue. What of it moved nothing, and the old places
-    /// of what moved, are no longer live.
+    /// The whole run is counted as written to the rewrite queue. Entries of the run to which nothing moved,
+    /// and the old places of those that moved, are counted as no longer live.
     ///
     /// # Errors
     ///
-    /// `Corruption` if more entries are below the first common index than are rewritten or, with a `gate`,
-    /// fewer; `Full` if the live records of the rewrite queue and the run together would pass 2^64 - 1;
-    /// `Memory` if blocks have to be divided or added. The table and the counts are unchanged then.
+    /// `Corruption` if there are appended entries below the first shared index or, with a `gate`, the entry
+    /// at that index is rewritten already; `Full` if the live records of the rewrite queue and the run
+    /// together would be more than 2^64 - 1; `Memory`. The table and the counts are unchanged then.
     pub fn rewrite(
         &mut self,
         run: Vec<EntryIndex>,
@@ -296,7 +315,7 @@ impl MemTable {
         self.entries.rewrite(&run, gate, stats)
     }
 
-    /// Drops the entries below `index`, subtracts them from the live counts, and returns how many they were.
+    /// Drops the entries below `index`, subtracts them from the live counts, and returns how many it dropped.
     pub fn compact_to(&mut self, index: u64, stats: &mut GlobalStats) -> u64
         requires { IsCounted self.old stats.old }
         ensures compacted { self.new ≡ record self.old { entries = from index self.old.entries } }
@@ -308,11 +327,11 @@ impl MemTable {
         self.entries.compact_to(index, stats)
     }
 
-    /// Drops the entries at or above `index`, subtracts them from the live counts, and returns how many they
-    /// were.
+    /// Drops the entries at or above `index`, subtracts them from the live counts, and returns how many it
+    /// dropped.
     ///
-    /// Rewritten entries that go stay in the files of the rewrite queue. If the append file with the
-    /// truncation is purged before the rewrite queue has the same command, a recovery brings them back.
+    /// Rewritten entries that are dropped stay in the files of the rewrite queue. If the append file with the
+    /// truncation is deleted before the rewrite queue has the same command, recovery may bring them back.
     pub fn truncate_from(&mut self, index: u64, stats: &mut GlobalStats) -> u64
         requires { IsCounted self.old stats.old }
         ensures truncated { self.new ≡ record self.old { entries = below index self.old.entries } }
@@ -325,12 +344,12 @@ impl MemTable {
     }
 
     /// Gives `key` the value `value`, which was written to the file `file_id`, in place of the value that it
-    /// had.
+    /// may have, and counts the change.
     ///
     /// # Errors
     ///
     /// `Full` if more than 2^64 - 1 records would be live in the file's queue; `Memory`. The table and the
-    /// counts are unchanged then.
+    /// counts are unchanged then, and `key` and `value` are dropped.
     #[inline(always)]
     pub fn put(
         &mut self,
@@ -379,16 +398,16 @@ impl MemTable {
         }
     }
 
-    /// Moves the value of `key` to the file numbered `seq` of the rewrite queue: from the append queue only
-    /// if there is a `gate` and the value's file is numbered at or below it, within the rewrite queue always.
-    /// One record is counted as written to the rewrite queue even if nothing moves, and the live counts
-    /// follow the value.
+    /// Moves the value of `key` to the file `seq` of the rewrite queue, to which a copy of it was written. A
+    /// value in the append queue moves only if there is a `gate` and the number of its file is at most
+    /// `gate`; a value in the rewrite queue always moves. One record is counted as written to the rewrite
+    /// queue, even if there is no value or it doesn't move, and the live counts follow the value.
     ///
     /// # Errors
     ///
-    /// `Corruption` if the value is in a file of the rewrite queue numbered above `seq`; `Full` if the live
-    /// count of the rewrite queue and one more would pass 2^64 - 1; `Memory` only for want of the text of
-    /// `Corruption`. The table and the counts are unchanged then.
+    /// `Corruption` if the value is in a file of the rewrite queue with a number above `seq`; `Full` if the
+    /// live records of the rewrite queue and one more would be more than 2^64 - 1; `Memory` if there is none
+    /// for the text of `Corruption`. The table and the counts are unchanged then.
     pub fn rewrite_key(
         &mut self,
         key: Vec<u8>,
@@ -440,13 +459,14 @@ impl MemTable {
         }
     }
 
-    /// Sets the first and the last file of the region's atomic group in the rewrite queue to `start` and
-    /// `end`. `start` is at most `end`.
+    /// Sets the numbers of the first and the last file of the region's atomic group in the rewrite queue to
+    /// `start` and `end`. `start` must be at most `end`.
     ///
-    /// A recovery takes a group whole or not at all. So whoever writes one calls this once its End is
-    /// written, for each region that the group names: [`MemTable::min_file_seq`] then keeps the files from
-    /// its Begin on, as long as the table needs one up to its End. The table remembers one group: none may
-    /// begin that leaves records of the region in an older one, whose Begin would no longer be kept.
+    /// Recovery takes a group whole or not at all. So whoever writes a group calls this once the group has
+    /// ended, for each region that it names. [`MemTable::min_file_seq`] then keeps the group's files, from
+    /// the first one on, as long as the table needs one of them. The table remembers one group only: don't
+    /// begin a new one that leaves records of the region in an older group, whose first file would no longer
+    /// be kept.
     pub fn apply_rewrite_atomic_group(&mut self, start: FileSeq, end: FileSeq)
         requires { start ≤ end }
         ensures group { self.new ≡ record self.old { atomic_group = Some (start, end) } }

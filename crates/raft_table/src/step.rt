@@ -1,4 +1,4 @@
-//! Steps: what the items of batches do to the tables of their regions.
+//! [`Step`]: what an item of a batch does to the table of its region.
 
 ghost use Rattle.std.specs.Prelude.{◌≡◌, MatchBool};
 ghost use Rattle.raft_table.specs.Common.{step_shown, Clean, LeavesTable};
@@ -8,37 +8,38 @@ use raft_base::{EntryIndex, FileId, FileSeq};
 /// What an item of a batch does to the table of its region.
 #[derive(Debug, Drop)]
 pub enum Step {
-    /// A run of entries is put. One without entries makes the table, and changes nothing else.
+    /// Puts a run of entries. A run without entries makes the table if there is none, and changes nothing
+    /// else.
     Run(Vec<EntryIndex>),
-    /// The entries below an index go.
+    /// Drops the entries below `index`.
     Compact {
         index: u64,
     },
-    /// The entries at or above an index go.
+    /// Drops the entries at or above `index`.
     Truncate {
         index: u64,
     },
-    /// A key is put, with a value that was written to this file.
+    /// Gives `key` the value `value`, which was written to the file `file_id`.
     Put {
         key: Vec<u8>,
         value: Vec<u8>,
         file_id: FileId,
     },
-    /// A key is deleted.
+    /// Removes `key` with its value.
     Del {
         key: Vec<u8>,
     },
-    /// The region's atomic group has these first and last files.
+    /// Sets the first and the last file of the region's atomic group in the rewrite queue.
     AtomicGroup {
         first_seq: FileSeq,
         last_seq: FileSeq,
     },
-    /// The table goes.
+    /// Drops the whole table.
     Clean,
 }
 
 impl Step {
-    /// Tests whether the step leaves its region without a table, as [`Step::Clean`] alone does.
+    /// Tests whether the step is [`Step::Clean`], the only one that leaves its region without a table.
     pub fn is_clean(&self) -> bool
         ensures { MatchBool result (step_shown self.now ≡ Clean) (LeavesTable (step_shown
             self.now)) }

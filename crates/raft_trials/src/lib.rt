@@ -1,4 +1,5 @@
-//! What the tests of several crates share: calls that are made once more, and waits for other threads.
+//! What the tests of several crates share: calls that are repeated after a lack of memory, and waits for other
+//! threads.
 #![tactic(auto)]
 
 #[doc(hidden)]
@@ -7,7 +8,8 @@ use std::sync::atomic::{AtomicU64, Ordering};
 use std::thread;
 use std::time::{Clock, Duration};
 
-/// Makes a call, once more where it found no memory, which has changed nothing and is refused once in a test at most.
+/// Makes a call, and makes it once more if it returns `Memory`. It is for tests in which one allocation is refused: a
+/// call that returned `Memory` must have changed nothing.
 #[macro_export]
 macro_rules! again {
     ($call:expr) => {{
@@ -19,7 +21,8 @@ macro_rules! again {
     }};
 }
 
-/// Tests whether the number is reached within ten thousand sleeps of a millisecond.
+/// Waits until `number` is at least `goal`, for about ten seconds at most, and returns whether it is. It looks once a
+/// millisecond.
 pub fn is_reached<R: Clock>(rt: &R, number: &AtomicU64, goal: u64) -> bool {
     for _ in 0..10_000 {
         if number.load(Ordering::SeqCst) >= goal {

@@ -1,4 +1,4 @@
-//! Numbers in a fixed count of bytes.
+//! Decoders of numbers with a fixed number of bytes.
 
 ghost use Rattle.std.specs.Prelude.{◌≡◌, ℕ, ◌^◌, ◌<◌, ℤ, pos, ◌+ℤ◌, FitsSigned, ◌↔◌, [], ◌∷◌, ◌++◌, length, IfOk, IfErr, IsErr, OnErr};
 ghost use Rattle.std.specs.declared.io.ErrorKind.TheVariants.{UnexpectedEof};
@@ -14,7 +14,7 @@ use crate::codec::{BytesSlice, Error, Result};
 /// The sign bit of an `i64` in two's complement.
 pub(crate) const SIGN_BIT: u64 = 1 << 63;
 
-/// Takes the first `N` bytes off `buf`.
+/// Returns the first `N` bytes of `buf`, and moves `buf` past them.
 ///
 /// # Errors
 ///
@@ -36,11 +36,11 @@ fn take_front<const N: usize>(buf: &mut BytesSlice<'_>) -> Result<[u8; N]>
     }
 }
 
-/// Takes the first byte off `buf`, and returns it.
+/// Returns the first byte of `buf`, and moves `buf` past it.
 ///
 /// # Errors
 ///
-/// `Io` of the kind `UnexpectedEof` if there is none. `buf` is unchanged then.
+/// `Io` of the kind `UnexpectedEof` if `buf` is empty.
 #[inline]
 pub fn read_u8(buf: &mut BytesSlice<'_>) -> Result<u8>
     ensures ok { IfOk result (λ byte. buf.old.now ≡ byte ∷ buf.new.now) }
@@ -57,7 +57,7 @@ pub fn read_u8(buf: &mut BytesSlice<'_>) -> Result<u8>
     }
 }
 
-/// Reads a number of eight bytes, the highest first, from the start of `buf`, which is moved behind it.
+/// Reads a big-endian number of eight bytes from the start of `buf`, and moves `buf` past it.
 ///
 /// # Errors
 ///
@@ -73,7 +73,7 @@ pub fn decode_u64(buf: &mut BytesSlice<'_>) -> Result<u64>
     Ok(u64::from_be_bytes(bytes))
 }
 
-/// Reads a number of four bytes, the highest first, from the start of `buf`, which is moved behind it.
+/// Reads a big-endian number of four bytes from the start of `buf`, and moves `buf` past it.
 ///
 /// # Errors
 ///
@@ -90,7 +90,7 @@ pub fn decode_u32(buf: &mut BytesSlice<'_>) -> Result<u32>
     Ok(u32::from_be_bytes(bytes))
 }
 
-/// Reads a number of two bytes, the highest first, from the start of `buf`, which is moved behind it.
+/// Reads a big-endian number of two bytes from the start of `buf`, and moves `buf` past it.
 ///
 /// # Errors
 ///
@@ -107,9 +107,9 @@ pub fn decode_u16(buf: &mut BytesSlice<'_>) -> Result<u16>
     Ok(u16::from_be_bytes(bytes))
 }
 
-/// Reads a number of eight bytes from the start of `buf`, which is moved behind it: every bit complemented,
-/// the highest byte first, as
-/// [`NumberEncoder::encode_u64_desc`](crate::codec::NumberEncoder::encode_u64_desc) writes it.
+/// Reads eight bytes from the start of `buf` as a number in the form of
+/// [`NumberEncoder::encode_u64_desc`](crate::codec::NumberEncoder::encode_u64_desc), and moves `buf` past
+/// them: the complement of a big-endian number. Any eight bytes are such a number.
 ///
 /// # Errors
 ///
@@ -125,9 +125,9 @@ pub fn decode_u64_desc(buf: &mut BytesSlice<'_>) -> Result<u64>
     Ok(!complement)
 }
 
-/// Reads a number of eight bytes from the start of `buf`, which is moved behind it: two's complement with
-/// the sign bit flipped, the highest byte first, as
-/// [`NumberEncoder::encode_i64`](crate::codec::NumberEncoder::encode_i64) writes it.
+/// Reads eight bytes from the start of `buf` as a number in the form of
+/// [`NumberEncoder::encode_i64`](crate::codec::NumberEncoder::encode_i64), and moves `buf` past them: two's
+/// complement with the sign bit flipped, big-endian. Any eight bytes are such a number.
 ///
 /// # Errors
 ///
@@ -143,9 +143,9 @@ pub fn decode_i64(buf: &mut BytesSlice<'_>) -> Result<i64>
     Ok((flipped ^ SIGN_BIT).cast_signed())
 }
 
-/// Reads a number of eight bytes from the start of `buf`, which is moved behind it: the bytes of
-/// [`NumberEncoder::encode_i64`](crate::codec::NumberEncoder::encode_i64) with every bit complemented, as
-/// [`NumberEncoder::encode_i64_desc`](crate::codec::NumberEncoder::encode_i64_desc) writes it.
+/// Reads eight bytes from the start of `buf` as a number in the form of
+/// [`NumberEncoder::encode_i64_desc`](crate::codec::NumberEncoder::encode_i64_desc), and moves `buf` past
+/// them: the complement of the bytes that [`decode_i64`] reads. Any eight bytes are such a number.
 ///
 /// # Errors
 ///
@@ -161,7 +161,7 @@ pub fn decode_i64_desc(buf: &mut BytesSlice<'_>) -> Result<i64>
     Ok((flipped ^ SIGN_BIT).cast_signed())
 }
 
-/// Reads a number of two bytes, the lowest first, from the start of `buf`, which is moved behind it.
+/// Reads a little-endian number of two bytes from the start of `buf`, and moves `buf` past it.
 ///
 /// # Errors
 ///
@@ -178,7 +178,7 @@ pub fn decode_u16_le(buf: &mut BytesSlice<'_>) -> Result<u16>
     Ok(u16::from_le_bytes(bytes))
 }
 
-/// Reads a number of four bytes, the lowest first, from the start of `buf`, which is moved behind it.
+/// Reads a little-endian number of four bytes from the start of `buf`, and moves `buf` past it.
 ///
 /// # Errors
 ///
@@ -195,7 +195,7 @@ pub fn decode_u32_le(buf: &mut BytesSlice<'_>) -> Result<u32>
     Ok(u32::from_le_bytes(bytes))
 }
 
-/// Reads a number of eight bytes, the lowest first, from the start of `buf`, which is moved behind it.
+/// Reads a little-endian number of eight bytes from the start of `buf`, and moves `buf` past it.
 ///
 /// # Errors
 ///
@@ -211,8 +211,8 @@ pub fn decode_u64_le(buf: &mut BytesSlice<'_>) -> Result<u64>
     Ok(u64::from_le_bytes(bytes))
 }
 
-/// Reads a number in two's complement, of four bytes, the lowest first, from the start of `buf`, which is
-/// moved behind it.
+/// Reads a little-endian number of four bytes, in two's complement, from the start of `buf`, and moves `buf`
+/// past it.
 ///
 /// # Errors
 ///
@@ -228,8 +228,8 @@ pub fn decode_i32_le(buf: &mut BytesSlice<'_>) -> Result<i32>
     Ok(bits.cast_signed())
 }
 
-/// Reads a number in two's complement, of eight bytes, the lowest first, from the start of `buf`, which is
-/// moved behind it.
+/// Reads a little-endian number of eight bytes, in two's complement, from the start of `buf`, and moves `buf`
+/// past it.
 ///
 /// # Errors
 ///
@@ -245,7 +245,8 @@ pub fn decode_i64_le(buf: &mut BytesSlice<'_>) -> Result<i64>
     Ok(bits.cast_signed())
 }
 
-/// States that what is written in a fixed count of bytes is read back, whatever follows it.
+/// States that each fixed-width encoding of a number decodes to that number, whatever bytes follow it. This
+/// is a law: it computes nothing.
 pub fn fixed_is_read_again()
     ensures big { (width : ℕ) → IsReadAgain width (λ x. x < 256 ^ width) (big_bytes width) }
     ensures little { (width : ℕ) → IsReadAgain width (λ x. x < 256 ^ width) (little_bytes width) }
@@ -256,9 +257,10 @@ pub fn fixed_is_read_again()
     ensures i64_le { IsReadAgain 8 (FitsSigned w64) (signed_le_bytes w64) }
 {}
 
-/// States how bytes order. Bytes with the highest first order as their numbers do, those of `encode_i64` too;
-/// those of `encode_u64_desc` and `encode_i64_desc` in reverse. An `i64` is written as its distance from the
-/// least one.
+/// States how encoded numbers sort, compared byte by byte. Big-endian numbers sort as the numbers do, and so
+/// do the bytes of `encode_i64`. Those of `encode_u64_desc` and `encode_i64_desc` sort in descending order.
+/// The bytes of `encode_i64` are the big-endian bytes of the number plus 2^63. This is a law: it computes
+/// nothing.
 pub fn bytes_order_as_numbers()
     ensures big { (width : ℕ) → OrdersAs nat_cmp (λ x. x < 256 ^ width) (big_bytes width) }
     ensures u64_desc { OrdersAs (λ x y. nat_cmp y x) (λ x. x < 2 ^ 64) u64_desc_bytes }

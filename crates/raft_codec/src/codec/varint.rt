@@ -1,4 +1,5 @@
-//! Numbers in base 128: seven bits a byte, lowest first, the top bit set on all bytes but the last.
+//! Numbers in base 128, as protobuf's varints: seven bits a byte, lowest bits first, the top bit set on all
+//! bytes but the last. The seven bits of a byte are a *septet* here.
 
 ghost use Rattle.std.specs.Prelude.{◌≡◌, ℕ, ◌+◌, ◌*◌, ◌%◌, ◌^◌, ◌<◌, ◌≤◌, ◌++◌, List, length, take, IfOk, IfErr, IfSome, IfNone, OnOk, OnErr, MatchBool, [], ◌∷◌};
 ghost use Rattle.std.specs.Io.KnownBytes.{Appends, Keeps};
@@ -11,16 +12,16 @@ use std::alloc::AllocError;
 use std::io;
 use std::io::{ErrorKind, Write};
 
-/// The most bytes that a number in base 128 takes.
+/// The most bytes that a 64-bit number takes in base 128.
 pub const MAX_VAR_U64_LEN: usize = 10;
 
-/// Reads a number in base 128 from the start of `buf`, which is moved behind it, also one in a longer form
-/// than `encode_var_u64` writes. It allocates nothing.
+/// Reads a number in base 128 from the start of `buf`, and moves `buf` past it. A longer form than
+/// `encode_var_u64` writes is read too, up to ten bytes. It allocates nothing.
 ///
 /// # Errors
 ///
-/// `Io` of the kind `UnexpectedEof` if the bytes end before their number does, or `InvalidData` if it passes
-/// 64 bits. `buf` is unchanged then.
+/// `Io` of the kind `UnexpectedEof` if the bytes end before the number does, or of the kind `InvalidData` if
+/// the number has more than ten bytes or doesn't fit into 64 bits. `buf` is unchanged then.
 #[inline(always)]
 pub fn decode_var_u64(buf: &mut BytesSlice<'_>) -> Result<u64>
     ensures ok { IfOk result (Reads IsVarint buf.old.now buf.new.now) }
@@ -33,11 +34,13 @@ pub fn decode_var_u64(buf: &mut BytesSlice<'_>) -> Result<u64>
     Ok(number)
 }
 
-/// Does what [`decode_var_u64`] does, but returns the number with the bytes behind it.
+/// Reads a number in base 128 from the start of `bytes`, and returns it with the bytes after it. A longer
+/// form than `encode_var_u64` writes is read too, up to ten bytes.
 ///
 /// # Errors
 ///
-/// Those of [`decode_var_u64`].
+/// `Io` of the kind `UnexpectedEof` if the bytes end before the number does, or of the kind `InvalidData` if
+/// the number has more than ten bytes or doesn't fit into 64 bits.
 #[inline(always)]
 pub fn parse_var_u64(bytes: &[u8]) -> Result<(u64, &[u8])>
     ensures ok { IfOk result (λ read. Reads IsVarint bytes.now read.1.now read.0) }
@@ -50,8 +53,8 @@ pub fn parse_var_u64(bytes: &[u8]) -> Result<(u64, &[u8])>
     }
 }
 
-/// Reads a number in base 128 that takes at most four bytes, as most do, from the start of `bytes`. Returns
-/// it with the bytes behind it, or `None` if it takes more, or there is no number.
+/// Reads a number in base 128 of at most four bytes, as most are, from the start of `bytes`, and returns it
+/// with the bytes after it. Returns `None` if the number is longer, or the bytes end before it does.
 #[doc(hidden)]
 #[inline(always)]
 pub fn parse_short_var_u64(bytes: &[u8]) -> Option<(u64, &[u8])>
@@ -79,8 +82,8 @@ pub fn parse_short_var_u64(bytes: &[u8]) -> Option<(u64, &[u8])>
     }
 }
 
-/// Returns the number of two septets of 7 bits, the lower one in `first`, the other in `second`. The top bits
-/// of both bytes are ignored.
+/// Returns the number whose lower seven bits are those of `first` and whose next seven bits are those of
+/// `second`. The top bit of each byte is ignored.
 #[inline(always)]
 fn two_septets(first: u8, second: u8) -> u64
     ensures { result ≡ first % 128 + 128 * (second % 128) }
@@ -88,13 +91,13 @@ fn two_septets(first: u8, second: u8) -> u64
     u64::from(first % 0x80) + (u64::from(second % 0x80) << 7)
 }
 
-/// Reads a number in base 128 from the start of `bytes`, septet by septet. Returns it with the bytes behind
-/// it.
+/// Reads a number in base 128 of any length from the start of `bytes`, byte by byte, and returns it with the
+/// bytes after it.
 ///
 /// # Errors
 ///
-/// `Io` of the kind `UnexpectedEof` if the bytes end before their number does, or `InvalidData` if it passes
-/// 64 bits.
+/// `Io` of the kind `UnexpectedEof` if the bytes end before the number does, or of the kind `InvalidData` if
+/// the number has more than ten bytes or doesn't fit into 64 bits.
 #[inline(never)]
 fn parse_septets(bytes: &[u8]) -> Result<(u64, &[u8])>
     ensures ok { IfOk result (λ read. Reads IsVarint bytes.now read.1.now read.0) }
@@ -115,7 +118,8 @@ fn parse_septets(bytes: &[u8]) -> Result<(u64, &[u8])>
     Err(Error::unexpected_eof())
 }
 
-/// Returns what the septet `bits` adds to a number at `place`, counted from 0, the lowest one.
+/// Returns the value of the septet `bits` as the byte number `place` of a number in base 128, counted from 0:
+/// `bits` times 128^`place`.
 #[inline]
 fn at_place(bits: u8, place: usize) -> u64
     requires septet { bits < 128 }
@@ -126,8 +130,8 @@ fn at_place(bits: u8, place: usize) -> u64
     u64::from(bits) << (7 * place)
 }
 
-/// Writes `number` in base 128, in its shortest form, over the start of `bytes`, and returns its length in
-/// bytes.
+/// Writes `number` in base 128, in its shortest form, to the start of `bytes`, and returns how many bytes
+/// that takes. The bytes after it stay as they are.
 #[inline]
 pub(crate) fn put_var_u64(bytes: &mut [u8; 10], number: u64) -> usize
     ensures written { take result bytes.new ≡ varint number }
@@ -146,8 +150,8 @@ pub(crate) fn put_var_u64(bytes: &mut [u8; 10], number: u64) -> usize
     MAX_VAR_U64_LEN
 }
 
-/// Writes `byte`, and returns whether the writer took it at once. It didn't if the write was interrupted, and
-/// may be asked again.
+/// Writes one byte, and returns whether the writer took it. It returns false if the writer took nothing or
+/// was interrupted; the byte can be written again then.
 ///
 /// # Errors
 ///
@@ -165,11 +169,11 @@ pub(crate) fn takes_byte<W: Write>(writer: &mut W, byte: u8) -> Result<bool>
     }
 }
 
-/// Appends `number` in base 128, in its shortest form: 300 is `ac 02`.
+/// Appends `number` in base 128 to `buf`, in its shortest form: 300 is `ac 02`.
 ///
 /// # Errors
 ///
-/// `AllocError` if there is no memory for it. `buf` is unchanged then.
+/// `AllocError` if there is no memory to grow `buf`, which is unchanged then.
 #[doc(hidden)]
 #[inline]
 pub fn append_var_u64(buf: &mut Vec<u8>, number: u64) -> std::result::Result<(), AllocError>
@@ -195,7 +199,7 @@ pub fn append_var_u64(buf: &mut Vec<u8>, number: u64) -> std::result::Result<(),
     buf.extend_from_slice(&bytes[..len])
 }
 
-/// Returns the two bytes of `number`, from 2^7 to 2^14 - 1, in base 128.
+/// Returns `number`, which is from 2^7 to 2^14 - 1, in base 128.
 fn in_two_bytes(number: u64) -> [u8; 2]
     requires least { 128 ≤ number }
     requires below { number < 16384 }
@@ -204,7 +208,7 @@ fn in_two_bytes(number: u64) -> [u8; 2]
     [septet(number), (number >> 7) as u8]
 }
 
-/// Returns the three bytes of `number`, from 2^14 to 2^21 - 1, in base 128.
+/// Returns `number`, which is from 2^14 to 2^21 - 1, in base 128.
 fn in_three_bytes(number: u64) -> [u8; 3]
     requires least { 16384 ≤ number }
     requires below { number < 2097152 }
@@ -213,7 +217,7 @@ fn in_three_bytes(number: u64) -> [u8; 3]
     [septet(number), septet(number >> 7), (number >> 14) as u8]
 }
 
-/// Returns the four bytes of `number`, from 2^21 to 2^28 - 1, in base 128.
+/// Returns `number`, which is from 2^21 to 2^28 - 1, in base 128.
 fn in_four_bytes(number: u64) -> [u8; 4]
     requires least { 2097152 ≤ number }
     requires below { number < 268435456 }
@@ -227,15 +231,17 @@ fn in_four_bytes(number: u64) -> [u8; 4]
     ]
 }
 
-/// Returns the byte for the lowest 7 bits of `number`, with the top bit that says that others follow.
+/// Returns the byte with the lowest seven bits of `number` and the top bit set, which says that another byte
+/// follows.
 fn septet(number: u64) -> u8
     ensures { result ≡ number % 128 + 128 }
 {
     (number % 0x80) as u8 + 0x80
 }
 
-/// States that what is written of a number is a spelling of it, that none is shorter, and that no spelling of
-/// a number is the start of another. So what was written is read back, whatever follows it.
+/// States that what the encoder writes of a number stands for that number, in the fewest bytes, and that no
+/// encoding is a prefix of another. So a number that was written is read back, whatever bytes follow it. This
+/// is a law: it computes nothing.
 pub fn varint_is_read_again()
     ensures spelled { (n : ℕ) → n < 2 ^ 64 → IsVarint (varint n) n }
     ensures shortest { (n : ℕ) (bytes : List ℕ) → n < 2 ^ 64 → IsVarint bytes n →

@@ -1,4 +1,5 @@
-//! Signed numbers in base 128.
+//! Signed numbers in base 128, as protobuf's `sint64`: the varint of a *zigzag code*, which is small if the
+//! number is near 0.
 
 ghost use Rattle.std.specs.Prelude.{◌≡◌, ℕ, ◌≤◌, ℤ, List, length, IfOk, IfErr, OnErr, FitsSigned};
 ghost use Rattle.std.specs.Int.{w64};
@@ -9,13 +10,13 @@ ghost use Rattle.raft_codec.specs.Zigzag.{IsVarI64, zigzag};
 use crate::codec::varint::decode_var_u64;
 use crate::codec::{BytesSlice, Result};
 
-/// Reads a number that `encode_var_i64` wrote from the start of `buf`, which is moved behind it, also one in
-/// a longer form. It allocates nothing.
+/// Reads a signed number in the form of `encode_var_i64` from the start of `buf`, and moves `buf` past it. A
+/// longer form than `encode_var_i64` writes is read too, up to ten bytes. It allocates nothing.
 ///
 /// # Errors
 ///
-/// `Io` of the kind `UnexpectedEof` if the bytes end before their number does, or `InvalidData` if it passes
-/// 64 bits. `buf` is unchanged then.
+/// `Io` of the kind `UnexpectedEof` if the bytes end before the number does, or of the kind `InvalidData` if
+/// it has more than ten bytes or its code doesn't fit into 64 bits. `buf` is unchanged then.
 #[inline]
 pub fn decode_var_i64(buf: &mut BytesSlice<'_>) -> Result<i64>
     ensures ok { IfOk result (Reads IsVarI64 buf.old.now buf.new.now) }
@@ -27,8 +28,8 @@ pub fn decode_var_i64(buf: &mut BytesSlice<'_>) -> Result<i64>
     Ok(number_of(code))
 }
 
-/// Returns the code of `number`, which is small if the number is near 0: `2n` for `n` from 0 on, and `-2n -
-/// 1` below 0.
+/// Returns the zigzag code of `number`: `2n` if the number n is at least 0, and `-2n - 1` if it is negative.
+/// So 0, -1, 1, -2 have the codes 0, 1, 2, 3.
 #[inline]
 pub(crate) fn code_of(number: i64) -> u64
     ensures { result ≡ zigzag number }
@@ -37,7 +38,7 @@ pub(crate) fn code_of(number: i64) -> u64
     if number < 0 { !doubled } else { doubled }
 }
 
-/// Returns the number whose code ([`code_of`]) is `code`.
+/// Returns the number whose zigzag code ([`code_of`]) is `code`.
 #[inline]
 fn number_of(code: u64) -> i64
     ensures { zigzag result ≡ code }
@@ -46,8 +47,9 @@ fn number_of(code: u64) -> i64
     if code & 1 == 0 { half } else { !half }
 }
 
-/// States that what `encode_var_i64` writes of a number is a spelling of it, that none is shorter, and that
-/// no spelling of a number is the start of another. So it is read back, whatever follows it.
+/// States that what `encode_var_i64` writes of a number stands for that number, in the fewest bytes, and that
+/// no encoding is a prefix of another. So a number that was written is read back, whatever bytes follow it.
+/// This is a law: it computes nothing.
 pub fn var_i64_is_read_again()
     ensures spelled { (z : ℤ) → FitsSigned w64 z → IsVarI64 (varint (zigzag z)) z }
     ensures shortest { (z : ℤ) (bytes : List ℕ) → FitsSigned w64 z → IsVarI64 bytes z →

@@ -1,4 +1,8 @@
-//! Entries with their bytes in batches, and batches put together.
+//! How entries are added to a log batch, and how one batch is appended to another.
+//!
+//! The buffer of an open batch has 16 bytes of room for the header, and after them the entry bytes. A
+//! function here that fails after it appended to the buffer leaves the appended bytes there, and
+//! [`LogBatch`]'s own call cuts them off.
 
 ghost use Rattle.std.specs.Prelude.{◌≡◌, ◌≢◌, ◌+◌, ◌-◌, ◌^◌, ◌<◌, ◌≤◌, [], ◌∷◌, ◌++◌, map, length, IfErr, OnOk, OnErr, drop, IsTrue, ◌↔◌, vec_len, vec_capacity};
 ghost use Rattle.raft_records.specs.Common.{concat, IsConsecutive, entry_with_index, with_lengths, OneRefuses, entries_item, entry_bytes_of, entry_lengths, strings_in, with_offsets_from, is_open, with_entries_added, IsBytesFault, IsAddFault, empty_batch, with_batch};
@@ -10,18 +14,18 @@ use crate::{LogBatch, LogItemBatch};
 use raft_base::{AllocResult, CompressionType, EntryIndex, Error, Message, MessageExt, Result};
 use std::mem;
 
-/// The most bytes that the buffer of an open batch has.
+/// The most bytes that the buffer of an open batch may have: the header's and the most entry bytes.
 const MOST_OPEN_BYTES: usize = LOG_BATCH_HEADER_LEN + MAX_LOG_ENTRIES_SIZE_PER_BATCH as usize;
 
 impl LogBatch {
-    /// Adds `entries` of `region` to an open batch as one item, each with the bytes of its message. No
-    /// entries add nothing.
+    /// Adds `entries` of `region` as one item, with the bytes that each writes of itself. The batch must be
+    /// open. If `entries` is empty, nothing is added.
     ///
     /// # Errors
     ///
-    /// `InvalidArgument` if their indexes aren't consecutive; `Full` if the batch would have more than 2^31 -
-    /// 1 entry bytes; `Message` if a message refuses to be written; `Memory`. Memory is asked for before the
-    /// indexes are tested, so `Memory` may also come for indexes with gaps. The batch is unchanged then.
+    /// `InvalidArgument` if the indexes aren't consecutive; `Full` if the batch would have more than 2^31 - 1
+    /// entry bytes; `Message` if an entry refuses to be written; `Memory`, which may also come in place of
+    /// `InvalidArgument`, since memory is allocated first. The batch is unchanged then.
     pub fn add_entries<M: MessageExt>(&mut self, region: u64, entries: &[M::Entry]) -> Result<()>
         requires { self.old.stage ≡ is_open }
         ensures ok { OnOk result (self.new ≡ with_entries_added self.old region
@@ -50,13 +54,14 @@ impl LogBatch {
         Ok(())
     }
 
-    /// Adds entries of `region` to an open batch as one item: `entry_indexes`, whose indexes are consecutive,
-    /// and the bytes of each in `entries`, as many strings as indexes. Each index gets the length of its
-    /// bytes, and their offset among those of the batch; its other fields stay. Empty lists add nothing.
+    /// Adds entries of `region` as one item: `entry_indexes` with consecutive indexes, and the bytes of each
+    /// in `entries`, which has as many elements. The length and the offset of each index are set; its other
+    /// fields stay. The batch must be open. If both are empty, nothing is added.
     ///
     /// # Errors
     ///
-    /// `Full` if the batch would have more than 2^31 - 1 entry bytes; `Memory`. The batch is unchanged then.
+    /// `Full` if the batch would have more than 2^31 - 1 entry bytes; `Memory`. The batch is unchanged then,
+    /// and both arguments are dropped.
     pub fn add_raw_entries(
         &mut self,
         region: u64,
@@ -95,14 +100,15 @@ impl LogBatch {
         Ok(())
     }
 
-    /// Adds entries of `region` to an open batch as one item: `entry_indexes`, whose indexes are consecutive,
-    /// and the bytes of all of them, one entry behind the other, in `bytes`. Each entry has as many bytes as
-    /// its index says; together these are all. Each index gets the offset of its bytes among those of the
-    /// batch; its other fields stay. Empty lists add nothing.
+    /// Adds entries of `region` as one item: `entry_indexes` with consecutive indexes, and the bytes of all
+    /// of them, one entry after the other, in `bytes`. The lengths in `entry_indexes` say where to divide
+    /// `bytes`, and must add up to its length. The offset of each index is set; its other fields stay. The
+    /// batch must be open. If both are empty, nothing is added.
     ///
     /// # Errors
     ///
-    /// `Full` if the batch would have more than 2^31 - 1 entry bytes; `Memory`. The batch is unchanged then.
+    /// `Full` if the batch would have more than 2^31 - 1 entry bytes; `Memory`. The batch is unchanged then,
+    /// and `entry_indexes` is dropped.
     pub fn add_joined_entries(
         &mut self,
         region: u64,
@@ -139,12 +145,12 @@ impl LogBatch {
         Ok(())
     }
 
-    /// Moves the items of `rhs` behind those of this batch, and their entry bytes behind its own. Both are
-    /// open; `rhs` is left empty.
+    /// Moves the items of `rhs` and their entry bytes to the end of this batch, and leaves `rhs` empty. Both
+    /// must be open.
     ///
     /// # Errors
     ///
-    /// `Full` if the batch would have more than 2^31 - 1 entry bytes; `Memory`. Both are unchanged then.
+    /// `Full` if this batch would have more than 2^31 - 1 entry bytes; `Memory`. Both are unchanged then.
     pub fn merge(&mut self, rhs: &mut LogBatch) -> Result<()>
         requires open { self.old.stage ≡ is_open }
         requires rhs_open { rhs.old.stage ≡ is_open }
@@ -173,13 +179,14 @@ impl LogBatch {
     }
 }
 
-/// Appends the entry bytes in `entries`, a string for each of `entry_indexes`, to `buf`, the buffer of a batch. Adds the item of
-/// the entries to `item_batch`, with their lengths and their offsets among the entry bytes.
+/// Appends the bytes of `entries` to `buf`, the buffer of a batch, and adds an item with `entry_indexes`, one
+/// for each of them, to `item_batch`. The lengths of the indexes, and their offsets among the entry bytes of
+/// the batch, are set.
 ///
 /// # Errors
 ///
-/// `Full` if the batch would have more than 2^31 - 1 entry bytes; `Memory`. The items are unchanged then; some of the bytes may
-/// have been appended, which the caller takes off.
+/// `Full` if the batch would have more than 2^31 - 1 entry bytes; `Memory`. `item_batch` is unchanged then;
+/// `buf` may have more bytes at its end, which the caller cuts off.
 fn write_strings(
     buf: &mut Vec<u8>,
     item_batch: &mut LogItemBatch,
@@ -207,13 +214,13 @@ fn write_strings(
     item_batch.add_entry_indexes(region, entry_indexes)
 }
 
-/// Appends the entry bytes in `entries`, a string for each of `entry_indexes`, to `buf`, the buffer of a
-/// batch, and sets the lengths of the entries.
+/// Appends the bytes of `entries` to `buf`, the buffer of a batch, and sets the length of each of
+/// `entry_indexes`, of which there are as many.
 ///
 /// # Errors
 ///
-/// `Full` if the batch would have more than 2^31 - 1 entry bytes; `Memory`. Some of the bytes may have been
-/// appended then, and some lengths set.
+/// `Full` if the batch would have more than 2^31 - 1 entry bytes; `Memory`. `buf` may have more bytes at its
+/// end then, and some lengths may be set.
 fn append_strings(
     buf: &mut Vec<u8>,
     entry_indexes: &mut Vec<EntryIndex>,
@@ -240,13 +247,14 @@ fn append_strings(
     Ok(())
 }
 
-/// Appends `bytes`, those of the entries, one entry behind the other, to `buf`, the buffer of a batch, and
-/// adds the item of the entries to `item_batch`.
+/// Appends `bytes`, those of the entries one after the other, to `buf`, the buffer of a batch, and adds an
+/// item with `entry_indexes` to `item_batch`. The indexes have the lengths of their entries already; their
+/// offsets are set.
 ///
 /// # Errors
 ///
-/// `Full` if the batch would have more than 2^31 - 1 entry bytes; `Memory`. The items are unchanged then; the
-/// bytes may have been appended, which the caller takes off.
+/// `Full` if the batch would have more than 2^31 - 1 entry bytes; `Memory`. `item_batch` is unchanged then;
+/// `buf` may have more bytes at its end, which the caller cuts off.
 fn write_joined(
     buf: &mut Vec<u8>,
     item_batch: &mut LogItemBatch,
@@ -273,14 +281,14 @@ fn write_joined(
     item_batch.add_entry_indexes(region, entry_indexes)
 }
 
-/// Appends the bytes of the messages `entries` to `buf`, the buffer of a batch, and adds the item of their
-/// entries to `item_batch`.
+/// Appends the bytes that each of `entries` writes of itself to `buf`, the buffer of a batch, and adds an
+/// item with their indexes, lengths and offsets to `item_batch`. `entries` isn't empty.
 ///
 /// # Errors
 ///
-/// `InvalidArgument` if their indexes aren't consecutive; `Full` if the batch would have more than 2^31 - 1
-/// entry bytes; `Message` if a message refuses to be written; `Memory`. The items are unchanged then; some of
-/// the bytes may have been appended, which the caller takes off.
+/// `InvalidArgument` if the indexes aren't consecutive; `Full` if the batch would have more than 2^31 - 1
+/// entry bytes; `Message` if an entry refuses to be written; `Memory`. `item_batch` is unchanged then; `buf`
+/// may have more bytes at its end, which the caller cuts off.
 fn write_messages<M: MessageExt>(
     buf: &mut Vec<u8>,
     item_batch: &mut LogItemBatch,
@@ -316,7 +324,8 @@ fn write_messages<M: MessageExt>(
     Ok(item_batch.add_laid_entries(region, entry_indexes, end)?)
 }
 
-/// Tests whether the indexes of the messages `entries` rise by one, and none is 2^64 - 1.
+/// Tests whether the indexes of `entries` rise by one from each entry to the next, and none of them is 2^64 -
+/// 1. Returns true if there are no entries.
 fn have_consecutive_indexes<M: MessageExt>(entries: &[M::Entry]) -> bool
     ensures { IsTrue result ↔ IsConsecutive (map (λ e. entry_with_index (M.index_of e)) entries.now) }
 {
@@ -333,13 +342,14 @@ fn have_consecutive_indexes<M: MessageExt>(entries: &[M::Entry]) -> bool
     true
 }
 
-/// Appends the bytes of messages to `buf`, which begins with room for the header of the batch (16 bytes),
-/// and an [`EntryIndex`] for each to `entry_indexes`, which is empty, with room for them.
+/// Appends the bytes that each of `entries` writes of itself to `buf`, which begins with 16 bytes of room for
+/// the header, and appends an [`EntryIndex`] for each to `entry_indexes`, which is empty and has room for
+/// them.
 ///
 /// # Errors
 ///
-/// `Full` if the batch would have more than 2^31 - 1 entry bytes; `Message` if a message refuses to be
-/// written; `Memory`. Some of the bytes and entries may have been appended then.
+/// `Full` if the batch would have more than 2^31 - 1 entry bytes; `Message` if an entry refuses to be
+/// written; `Memory`. Some of the bytes and indexes may have been appended then.
 fn append_messages<M: MessageExt>(
     buf: &mut Vec<u8>,
     entry_indexes: &mut Vec<EntryIndex>,
@@ -377,12 +387,12 @@ fn append_messages<M: MessageExt>(
     Ok(())
 }
 
-/// Makes room for the entry bytes of another buffer of `len` bytes, unless the own one has no entry bytes:
-/// then [`move_entry_bytes`] swaps both.
+/// Makes room in `buf` for the entry bytes of another buffer of `len` bytes, so that [`move_entry_bytes`]
+/// needn't allocate. It makes none if `buf` has no entry bytes itself: the two buffers are swapped then.
 ///
 /// # Errors
 ///
-/// `AllocError` if there is no memory for them. The bytes are unchanged in either case.
+/// `AllocError` if there is no memory for the room. The bytes of `buf` stay the same in any case.
 fn reserve_behind(buf: &mut Vec<u8>, len: usize) -> AllocResult<()>
     ensures same { buf.new.items ≡ buf.old.items }
     ensures room { OnOk result (16 < length buf.old.items →
@@ -394,8 +404,8 @@ fn reserve_behind(buf: &mut Vec<u8>, len: usize) -> AllocResult<()>
     Ok(())
 }
 
-/// Moves the entry bytes of the buffer `others` behind those of `buf`, which has room for them. `others` is
-/// left empty, and keeps at most 8 MiB.
+/// Moves the entry bytes of the buffer `others` to the end of `buf`, which has room for them
+/// ([`reserve_behind`]). `others` is left empty, with at most 8 MiB allocated.
 fn move_entry_bytes(buf: &mut Vec<u8>, others: &mut Vec<u8>)
     requires { 16 < length buf.old.items →
         length buf.old.items + (length others.old.items - 16) ≤ vec_capacity buf.old }
@@ -411,8 +421,8 @@ fn move_entry_bytes(buf: &mut Vec<u8>, others: &mut Vec<u8>)
     others.shrink_to(MAX_LOG_BATCH_BUFFER_CAP);
 }
 
-/// Appends the entry bytes of the buffer `others`, those behind its first 16, to `buf`, which has room for
-/// them.
+/// Appends the entry bytes of the buffer `others`, which are those after its first 16, to `buf`, which has
+/// room for them.
 fn append_entry_bytes(buf: &mut Vec<u8>, others: &[u8])
     requires { length buf.old.items + (length others.now - 16) ≤ vec_capacity buf.old }
     ensures { buf.new.items ≡ buf.old.items ++ drop 16 others.now }

@@ -1,4 +1,9 @@
-//! Reads items into a batch over the bytes that they stand in. On `Err` some of them may be added.
+//! How items are read, with keys and values left in the bytes that they are read from.
+//!
+//! Each function reads from the start of `bytes`, and returns what it read with the bytes after it. `start`
+//! is the offset in the entry bytes of the batch at which the entries of an item begin, which is the end of
+//! those before. Numbers of at most four bytes are *short*: most items have no others, and are read faster by
+//! functions that return `None` for any other item.
 
 ghost use Rattle.std.specs.Prelude.{◌≡◌, ◌≢◌, ◌⊎◌, List, [], IfOk, IfErr, ◌≤◌, ◌<◌, ◌^◌, ℕ, ◌+◌, ◌∷◌, IfSome, IfNone};
 ghost use Rattle.raft_records.specs.Common.{Reads, HasNoFront, IsContentFault, IsEntriesFault, IsItemFault, IsMemory, IsTailsFault, AreTails, IsContent, IsEntries, IsItem, Item, AreItems, AreItemsFault, AreEntriesRead, AreHeldAs};
@@ -13,13 +18,13 @@ use raft_codec::codec;
 use std::alloc::Global;
 use std::io::{self, ErrorKind};
 
-/// What a reader keeps of an entry.
+/// What a reader keeps of each entry: the whole entry, or its span only.
 pub(crate) trait Kept: Sized {
     /// What is kept of this entry.
     ghost kept_of: { EntryIndex → Self };
 
-    /// Returns what is kept of the entry `index`, whose bytes go from `offset` to `tail` in the entry bytes
-    /// of its batch.
+    /// Returns what is kept of the entry `index`, which begins at `offset` in the entry bytes of its batch
+    /// and ends at `tail`.
     fn from_tail(index: u64, offset: u32, tail: u32) -> Self
         requires { offset ≤ tail }
         ensures { result ≡ kept_of (entry_between index offset tail) };
@@ -28,7 +33,7 @@ pub(crate) trait Kept: Sized {
 impl Kept for EntryIndex {
     ghost kept_of = { λ e. e };
 
-    /// Returns the whole entry `index`, without a place, with its bytes from `offset` to `tail`.
+    /// Returns the whole entry `index`, without a place, from `offset` to `tail` of the entry bytes.
     #[inline(always)]
     fn from_tail(index: u64, offset: u32, tail: u32) -> EntryIndex {
         EntryIndex {
@@ -41,19 +46,21 @@ impl Kept for EntryIndex {
     }
 }
 
-/// Offset and length of the entry's bytes.
+/// The span of an entry: its offset and its length.
 impl Kept for (u32, u32) {
     ghost kept_of = { span_of };
 
-    /// Returns `offset` and the length of the entry's bytes, up to `tail`: its span.
+    /// Returns the span from `offset` to `tail` of the entry bytes: `offset` and the length. The index isn't
+    /// kept.
     #[inline(always)]
     fn from_tail(_index: u64, offset: u32, tail: u32) -> (u32, u32) {
         (offset, tail - offset)
     }
 }
 
-/// Reads `count` items from the start of `bytes` into `items`, and the spans of their entries into `spans`.
-/// Returns the bytes behind them. Room for no more items than bytes can hold is made, whatever `count` is.
+/// Reads `count` items from the start of `bytes` into `items`, and the spans of their entries into `spans`;
+/// both are empty before. Returns the bytes after them. A false `count` can't make it allocate much: it makes
+/// room for no more items than `bytes` can have.
 ///
 /// # Errors
 ///
@@ -89,8 +96,8 @@ pub(super) fn read_items<'a>(
     Ok(rest)
 }
 
-/// Reads one item from the start of `bytes`, the bytes of whose entries begin at `start`. Returns where those
-/// end, and the bytes behind the item.
+/// Reads one item from the start of `bytes` into `items`, and the spans of its entries, which begin at
+/// `start`, into `spans`. Returns where its entries end, and the bytes after the item.
 ///
 /// # Errors
 ///
@@ -115,9 +122,9 @@ fn read_item<'a>(
     Ok((end, rest))
 }
 
-/// Reads the content of an item from the start of `bytes`: the byte for its type, and what that says. Returns
-/// it with the end of its entries' bytes, which begin at `start`, and the bytes behind the content. What `T`
-/// keeps of entries is appended to `kept`.
+/// Reads the content of an item from the start of `bytes`, with its type byte. What is kept of its entries,
+/// which begin at `start`, is appended to `kept`. Returns the content, where its entries end (`start` if it
+/// has none), and the bytes after the content.
 ///
 /// # Errors
 ///
@@ -158,9 +165,9 @@ pub(crate) fn read_content<'a, T: Kept>(
     }
 }
 
-/// Reads the entries of an item from the start of `bytes`. Returns the index of the first one, their number,
-/// the end of their bytes, which begin at `start`, and the bytes behind them. Both index and number are 0 if
-/// there are none.
+/// Reads the entries of an item from the start of `bytes`, after its type byte. What is kept of them is
+/// appended to `kept`; the first begins at `start`. Returns the index of the first entry and their number,
+/// both 0 if there are none; where the entries end; and the bytes after them.
 ///
 /// # Errors
 ///
@@ -186,9 +193,10 @@ pub(crate) fn read_entries<'a, T: Kept>(
     Ok((first, count as usize, end, rest))
 }
 
-/// Reads the tail offsets of `count` entries, whose indexes rise from `first` on and whose bytes begin at
-/// `start`. Returns where their bytes end, and the bytes behind the tail offsets. Room for no more entries
-/// than bytes can hold is made, whatever `count` is.
+/// Reads the tail offsets of `count` entries from the start of `bytes`. Their indexes rise by one from
+/// `first`, and the first entry begins at `start`. What is kept of each is appended to `kept`. Returns where
+/// the entries end, and the bytes after the tail offsets. A false `count` can't make it allocate much: it
+/// makes room for no more entries than `bytes` can have.
 ///
 /// # Errors
 ///
@@ -232,9 +240,9 @@ fn read_tails<'a, T: Kept>(
 /// The byte of [`OpType::Put`](crate::OpType::Put).
 const PUT: u8 = 1;
 
-/// Reads a run or a put whose numbers take at most four bytes each, as most do, if `items` and `spans` have
-/// room for it. Returns where the bytes of its entries end, and the bytes behind the item. Otherwise it
-/// returns `None` and adds nothing, and [`read_item`] reads the item, or makes the error.
+/// Reads one item from the start of `bytes`, if it is a run or a put whose numbers are all short, and `items`
+/// and `spans` have room for it. Returns where its entries end, and the bytes after the item. Otherwise it
+/// returns `None` and adds nothing; [`read_item`] then reads the item, or makes the error.
 #[inline(always)]
 fn read_short_item<'a>(
     bytes: &'a [u8],
@@ -256,9 +264,9 @@ fn read_short_item<'a>(
     Some((end, rest))
 }
 
-/// Reads the content of a run or a put whose numbers are short. Returns it with the end of its entries'
-/// bytes, which begin at `start`, and the bytes behind it. Returns `None`, and adds no span, for any other
-/// content.
+/// Reads the content of an item from the start of `bytes`, with its type byte, if it is a run or a put whose
+/// numbers are all short. Spans are appended to `spans`, if that has room. Returns the content, where its
+/// entries end, and the bytes after the content. Otherwise it returns `None`, and `spans` is unchanged.
 #[inline(always)]
 fn read_short_content<'a>(
     bytes: &'a [u8],
@@ -284,9 +292,9 @@ fn read_short_content<'a>(
     }
 }
 
-/// Reads the entries of a run, `count` of them, the byte before `bytes`. Returns them with the end of their
-/// bytes, which begin at `start`, and the bytes behind them. Returns `None`, and adds no span, if `count`
-/// isn't from 1 to 127, `spans` has no room for them, or a number isn't short.
+/// Reads the entries of a run from the start of `bytes`, after its type byte and the byte `count`, if all
+/// numbers are short. Returns the run, where its entries end, and the bytes after them. Returns `None`, and
+/// adds no span, if `count` isn't from 1 to 127, `spans` has no room for as many, or a number isn't short.
 #[inline(always)]
 fn read_short_run<'a>(
     count: u8,
@@ -308,8 +316,8 @@ fn read_short_run<'a>(
     Some((ReadContent::Run { first, count }, end, rest))
 }
 
-/// Reads the key and the value of a put from the start of `bytes`, behind its op type, if both lengths are
-/// short. Returns the put and the bytes behind it, or `None`.
+/// Reads the key and the value of a put from the start of `bytes`, after its operation, if both lengths are
+/// short. Returns the put and the bytes after it, or `None` if there is no such put.
 #[inline(always)]
 fn parse_short_put(bytes: &[u8]) -> Option<(ReadContent<'_>, &[u8])>
     ensures { IfSome result (λ read. (p : Pair) ×
@@ -320,9 +328,10 @@ fn parse_short_put(bytes: &[u8]) -> Option<(ReadContent<'_>, &[u8])>
     Some((ReadContent::Put { key, value }, rest))
 }
 
-/// Reads the tail offsets of `count` entries, whose bytes begin at `start`, if each takes at most four bytes.
-/// Returns where their bytes end, and the bytes behind the tail offsets. Returns `None`, and adds no span, if
-/// one is longer or refused. `spans` has room for them.
+/// Reads the tail offsets of `count` entries from the start of `bytes`, and appends their spans to `spans`,
+/// which has room for them. The first entry begins at `start`. Returns where the entries end, and the bytes
+/// after the tail offsets. Returns `None`, and adds no span, if a tail offset isn't short or is below the one
+/// before it.
 #[inline(always)]
 fn read_short_spans<'a>(
     bytes: &'a [u8],
@@ -351,8 +360,8 @@ fn read_short_spans<'a>(
     Some((offset, rest))
 }
 
-/// Reads a length of at most four bytes and as many bytes from the start of `bytes`. Returns those, and the
-/// bytes behind them. Returns `None` if there is no such length, or fewer bytes are left.
+/// Reads a length of at most four bytes and as many bytes from the start of `bytes`. Returns those bytes, and
+/// the bytes after them. Returns `None` if there is no such length, or fewer bytes are left.
 #[inline(always)]
 #[tactic(auto, using(crate::proofs::ItemLemmas::text_read, raft_codec::proofs::VarintLemmas::short_is_read))]
 fn parse_short_byte_string(bytes: &[u8]) -> Option<(&[u8], &[u8])>

@@ -1,13 +1,14 @@
-//! A block of a table's entries.
+//! [`Block`]: neighboring entries of a table that are in one entry block of a file.
 
 use raft_base::FileBlockHandle;
 use std::collections::VecDeque;
 
-/// All neighboring entries of a table whose bytes are in one entry block. `specs/Blocks.antt` defines the terms.
+/// Neighboring entries of a table that are in one entry block of a file, as many as there are. Their indexes
+/// are consecutive; the table knows the first one.
 #[derive(Drop)]
 pub struct Block {
-    /// The place of the entries.
+    /// The place of the entry block in its file.
     pub handle: FileBlockHandle,
-    /// Where each entry begins at that place, and how many bytes it has.
+    /// The offset of each entry in the entry block, and its length in bytes.
     pub spans: VecDeque<(u32, u32)>,
 }

@@ -1,4 +1,4 @@
-//! A set of keys.
+//! [`DeletedKeys`]: the set of keys that the steps of a region mark delete.
 
 ghost use Rattle.std.specs.Prelude.{◌≡◌, ◌<◌, ◌≤◌, OnOk, OnErr, IfSome, IfNone, map};
 ghost use Rattle.raft_table.specs.Common.{LogQueue, without, pair_count};
@@ -11,10 +11,11 @@ use std::collections::BTreeMap;
 use std::marker::Model;
 use std::mem;
 
-/// The keys that were deleted, in the order of their bytes.
+/// A set of deleted keys, in the order of their bytes.
 #[doc(hidden)]
 #[derive(Debug, Drop)]
 pub struct DeletedKeys {
+    /// The deleted keys.
     keys: BTreeMap<Vec<u8>, ()>,
 }
 
@@ -33,7 +34,7 @@ impl Model for DeletedKeys {
 }
 
 impl DeletedKeys {
-    /// Returns an empty set, whose keys will be allocated by `alloc`.
+    /// Returns an empty set, which will allocate from `alloc`, and allocates nothing yet.
     pub fn new(alloc: Global) -> DeletedKeys
         ensures { result ≡ finset.empty }
     {
@@ -63,11 +64,11 @@ impl DeletedKeys {
         self.keys.clear();
     }
 
-    /// Adds `key`. The set stays as it is if the key is in it already.
+    /// Adds `key`. The set stays as it is if `key` is in it already.
     ///
     /// # Errors
     ///
-    /// `AllocError` if there is no memory for it. The set is unchanged then.
+    /// `AllocError` if there is no memory for it. The set is unchanged then, and `key` is dropped.
     pub fn insert(&mut self, key: Vec<u8>) -> AllocResult<()>
         ensures ok { OnOk result (self.new ≡ finset.insert self.old key.items) }
         ensures err { OnErr result (self.new ≡ self.old) }
@@ -76,13 +77,13 @@ impl DeletedKeys {
         Ok(())
     }
 
-    /// Adds the keys of `rhs`, and leaves `rhs` empty. The keys of the smaller set are moved into the larger
-    /// one, so that few are inserted.
+    /// Moves the keys of `rhs` into this set, and leaves `rhs` empty. If `rhs` is the larger one, the two
+    /// sets are swapped first, so that few keys are inserted.
     ///
     /// # Errors
     ///
     /// `AllocError` if there is no memory for a key. That key is lost then, and each of the others is in one
-    /// of both sets: neither set may be used after that.
+    /// of the two sets: neither set may be used after that.
     pub fn absorb(&mut self, rhs: &mut DeletedKeys) -> AllocResult<()>
         ensures ok { OnOk result (self.new ≡ finset.union self.old rhs.old) }
         ensures emptied { OnOk result (rhs.new ≡ finset.empty) }
@@ -94,8 +95,7 @@ impl DeletedKeys {
         self.take_each(rhs)
     }
 
-    /// Moves the keys of `rhs` into this set one by one, and leaves `rhs` empty: the loop of
-    /// [`DeletedKeys::absorb`].
+    /// Moves the keys of `rhs` into this set one by one, and leaves `rhs` empty.
     ///
     /// # Errors
     ///
@@ -111,7 +111,7 @@ impl DeletedKeys {
         Ok(())
     }
 
-    /// Removes the least key, by its bytes, and returns it. Returns `None` from an empty set.
+    /// Removes the least key, by its bytes, and returns it. Returns `None` if the set is empty.
     fn take_first(&mut self) -> Option<Vec<u8>>
         ensures first { IfSome result (λ k. self.old ≡ finset.insert self.new k.items) }
         ensures fewer { IfSome result (λ k. finset.len self.new < finset.len self.old) }
@@ -121,7 +121,8 @@ impl DeletedKeys {
         Some(key)
     }
 
-    /// Removes the keys of this set, and their values, from `keys`. Keys without a value are skipped.
+    /// Removes the keys of this set, with their values, from `keys`. Keys that have no value there are
+    /// skipped.
     pub fn delete_from(&self, keys: &mut KeyValues)
         ensures after { keys.new ≡ without self.now keys.old }
         ensures fewer { (q : LogQueue) → pair_count q keys.new ≤ pair_count q keys.old }
@@ -130,7 +131,7 @@ impl DeletedKeys {
     }
 }
 
-/// Removes the keys of `deleted` from `keys`, with their values: the loop of [`DeletedKeys::delete_from`].
+/// Removes the keys of `deleted`, with their values, from `keys`: the loop of [`DeletedKeys::delete_from`].
 fn delete_all(deleted: &BTreeMap<Vec<u8>, ()>, keys: &mut KeyValues)
     ensures after { keys.new
         ≡ without (finset.from_list (map (λ e. e.0.items) deleted.now.entries)) keys.old }

@@ -1,4 +1,5 @@
-//! The entries of a region, in order of index.
+//! [`Entries`]: the entries of a region's table, in order of their indexes. Their *end* is the index after
+//! that of the last one.
 
 ghost use Rattle.std.specs.Prelude.{◌≡◌, ◌≢◌, ◌+◌, ◌<◌, [], length, MatchOption};
 ghost use Rattle.raft_table.specs.Common.{shown, entries_in_blocks, AreDistinctBlocks, block_count, end_of, AreTableEntries, start_of, entry_at, entry_count};
@@ -18,47 +19,55 @@ use std::alloc::Global;
 use std::collections::VecDeque;
 use std::marker::Model;
 
+/// The blocks of a table, in order of their entries' indexes.
 type Blocks = VecDeque<Block>;
 
-/// The index of the first entry of each block, or nothing: a table of at most `FEW` blocks needn't keep them,
-/// since its blocks can be walked.
+/// The index of the first entry of each block. It is empty if these aren't kept: entries in at most `FEW`
+/// blocks needn't keep them, since a walk over the blocks is quick.
 type Starts = VecDeque<u64>;
 
-/// Where each entry of a block begins in it, and how many bytes it has.
+/// The offset of each entry of a block in its entry block, and its length in bytes.
 type Spans = VecDeque<(u32, u32)>;
 
-/// Where an entry is kept: the number of its block, and its position among that block's spans, both from 0.
+/// Where an entry is kept: the number of its block, and its position in that block, both counted from 0.
 type Spot = (usize, usize);
 
 /// The entries of a region's table: one run of indexes, in which rewritten entries come before appended ones.
 ///
-/// They are kept in blocks, neighbors with one place together, so that an entry costs 8 bytes.
+/// They are kept in blocks: neighbors that have the same place share one, so an entry itself takes 8 bytes.
 #[derive(Drop)]
 pub struct Entries {
+    /// The index of the first entry; any number if there are no entries.
     first: u64,
+    /// The number of entries in all blocks.
     len: usize,
+    /// The entries, in blocks. No block is empty, and neighboring blocks have different places.
     blocks: Blocks,
+    /// The index of the first entry of each block, or nothing.
     starts: Starts,
+    /// The number of entries whose place is in the rewrite queue.
     rewritten: usize,
 }
 
-/// Where a run starts beside the entries of a table.
+/// Where a run begins, compared with the entries of a table.
 #[derive(Clone, Copy)]
 enum Start {
-    /// Among them or right after them: this many entries are below its start.
+    /// Among the entries or right after them: this many of them are below its first index.
     Joins(usize),
     /// Below the first entry.
     InFront,
-    /// Above the end of the entries, so that indexes between them would be missing.
+    /// Above the end of the entries, so that indexes between would be missing.
     BehindHole,
 }
 
-/// The indexes that a run shares with the entries: the first one is at position `at` of the entries and at
-/// position `skipped` of the run, and there are `count` of them.
+/// The indexes that a run shares with the entries of a table.
 #[derive(Clone, Copy)]
 struct Overlap {
+    /// The position among the entries of the first shared index.
     at: usize,
+    /// The position in the run of the first shared index.
     skipped: usize,
+    /// The number of shared indexes, at least 1.
     count: usize,
 }
 
@@ -79,7 +88,7 @@ impl Model for Entries {
 }
 
 impl Entries {
-    /// Returns no entries; blocks will be allocated by `alloc`.
+    /// Returns no entries. Blocks will be allocated from `alloc`; nothing is allocated yet.
     pub fn new(alloc: Global) -> Entries
         ensures { result ≡ [] }
     {
@@ -92,15 +101,15 @@ impl Entries {
         }
     }
 
-    /// States that the entries are one run without gaps, each has a place, and the rewritten ones come first.
-    /// It computes nothing: bodies call it so that their proofs know this of the entries.
+    /// States that the entries are one run, each has a place, and the rewritten ones come first. This is a
+    /// law: it computes nothing, and bodies call it so that their proofs know this of the entries.
     pub fn holds_one_run(&self)
         ensures { AreTableEntries self.now }
     {
         let _ = &self.blocks;
     }
 
-    /// Returns the blocks that the entries are kept in, in order of index. No block is empty, and neighboring
+    /// Returns the blocks of the entries, in order of their indexes. No block is empty, and neighboring
     /// blocks have different places.
     pub fn blocks(&self) -> &VecDeque<Block>
         ensures entries { entries_in_blocks (start_of self.now) (shown result.now) ≡ self.now }
@@ -110,7 +119,7 @@ impl Entries {
         &self.blocks
     }
 
-    /// Returns the index of the first entry, or `None` if there is none.
+    /// Returns the index of the first entry, or `None` if there are no entries.
     pub fn first_index(&self) -> Option<u64>
         ensures { MatchOption result (self.now ≡ []) (λ i. (self.now ≢ []) ×
             (i ≡ start_of self.now)) }
@@ -121,7 +130,7 @@ impl Entries {
         Some(self.first)
     }
 
-    /// Returns the index of the last entry, or `None` if there is none.
+    /// Returns the index of the last entry, or `None` if there are no entries.
     pub fn last_index(&self) -> Option<u64>
         ensures { MatchOption result (self.now ≡ []) (λ i. i + 1 ≡ end_of self.now) }
     {
@@ -149,12 +158,12 @@ impl Entries {
         }
     }
 
-    /// Returns the allocator that blocks are allocated by.
+    /// Returns the allocator that blocks are allocated from.
     pub(crate) fn allocator(&self) -> Global {
         *self.blocks.allocator()
     }
 
-    /// Returns the entry at `index`, or `None` if the table has none there.
+    /// Returns the entry at `index`, with its place, or `None` if there is no entry at it.
     pub fn get(&self, index: u64) -> Option<EntryIndex>
         ensures { result ≡ entry_at index self.now }
     {

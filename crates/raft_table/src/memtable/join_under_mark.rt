@@ -1,4 +1,4 @@
-//! Joins of two tables of one region under the newer one's region mark.
+//! Joins of two tables of one region, by the region mark of the newer one ([`Mark`]).
 
 ghost use Rattle.std.specs.Prelude.{◌≡◌, ◌≢◌, ℕ, ◌+◌, ◌≤◌, false, [], if◌then◌else◌, MatchBool, OnOk, IfOk, IfErr, Some, None, ◌^◌};
 ghost use Rattle.raft_table.specs.Common.{LogQueue, IsCorruption, IsRun, end_of, live, hole_text, hole_text_above, without, pair_count, IsMarkFault, IsFaultUnder, IsRunOver, left_by, entries_within, is_missed, is_barred, is_refused_over};
@@ -14,8 +14,9 @@ use raft_base::{Error, LogQueue, Result};
 use std::mem;
 
 impl MemTable {
-    /// Returns the index after the last of these entries that the first run of `mark`, a newer region mark,
-    /// meets: of those that are neither compacted nor truncated before that run. Returns 0 if there are none.
+    /// Returns the index after that of the last entry of this table that the first run of `mark`, a newer
+    /// region mark, meets. It meets the entries that are neither compacted nor truncated before it. Returns 0
+    /// if there are none.
     #[doc(hidden)]
     pub fn end_at_reach(&self, mark: &Mark) -> u64
         ensures { result ≡ end_at_reach mark.now self.now }
@@ -24,19 +25,19 @@ impl MemTable {
             .end_within(mark.reach_floor(), mark.reach_cut())
     }
 
-    /// Puts the newer table `rhs` of the same region over this one, as the region mark `mark` of its steps
-    /// says, counts its records, which aren't counted yet, and leaves it empty. Returns the end of the older
-    /// entries that the mark's first run meets ([`MemTable::end_at_reach`]).
+    /// Puts `rhs`, the table that newer steps alone give, over this one, as their region mark `mark` says.
+    /// Counts the records of `rhs`, which aren't counted yet, and leaves it empty. Returns the end of the
+    /// older entries that the first run of the mark meets ([`MemTable::end_at_reach`]).
     ///
-    /// The entries that this gives are one run if `mark` and `rhs` stand for steps, as those of a context do;
-    /// otherwise nothing is promised of them.
+    /// `mark` and `rhs` must stand for the same steps, as those of a context do; else nothing is promised of
+    /// the entries.
     ///
     /// # Errors
     ///
-    /// `Corruption` if, in the append queue, a run among the mark's steps would leave a hole after the older
-    /// entries; `Full` if more than 2^64 - 1 records would be live in a queue, with those of `rhs` beside all
-    /// that are counted. Both tables and the counts are unchanged then. After `Memory` both tables may have
-    /// changed, and the counts still agree with this one.
+    /// `Corruption` if, in the append queue, one of the newer runs would leave a hole after the older
+    /// entries; `Full` if the records of `rhs`, added to all that are counted, would be more than 2^64 - 1 in
+    /// a queue. Both tables and the counts are unchanged then. After `Memory` both tables may have changed;
+    /// the counts still agree with this one.
     #[doc(hidden)]
     pub fn join_under(
         &mut self,
@@ -80,17 +81,18 @@ impl MemTable {
         Ok(end)
     }
 
-    /// Puts `rhs`, an appended table of the same region, over this rewritten one, as the region mark `mark`
-    /// of its steps says, counts its records, which aren't counted yet, and leaves it empty.
+    /// Puts `rhs`, the table of the same region that the append queue gives, over this one, which the rewrite
+    /// queue gives, as the region mark `mark` of the append queue's steps says. Counts the records of `rhs`,
+    /// which aren't counted yet, and leaves it empty.
     ///
-    /// The entries that this gives are one run if `mark` and `rhs` stand for steps, as those of a context do;
-    /// otherwise nothing is promised of them.
+    /// `mark` and `rhs` must stand for the same steps, as those of a context do; else nothing is promised of
+    /// the entries.
     ///
     /// # Errors
     ///
-    /// `Full` if more than 2^64 - 1 records would be live in a queue, with those of `rhs` beside all that are
-    /// counted. Both tables and the counts are unchanged then. After `Memory` both tables may have changed,
-    /// and the counts still agree with this one.
+    /// `Full` if the records of `rhs`, added to all that are counted, would be more than 2^64 - 1 in a queue.
+    /// Both tables and the counts are unchanged then. After `Memory` both tables may have changed; the counts
+    /// still agree with this one.
     #[doc(hidden)]
     pub fn overlay(
         &mut self,
@@ -122,7 +124,7 @@ impl MemTable {
         Ok(())
     }
 
-    /// Tests whether the table has no entry, no key and no atomic group, as a new one: a join then takes the
+    /// Tests whether the table has no entry, no key and no atomic group, as a new one. A join then takes the
     /// newer table as it is.
     fn is_blank(&self) -> bool
         ensures { MatchBool result (self.now ≡ empty_table self.now.region_id) (Unit {0}) }
@@ -133,9 +135,9 @@ impl MemTable {
         }
     }
 
-    /// Tests whether all entries of this rewritten table go because they don't reach those of the newer,
-    /// appended table `rhs`: its entries don't begin at the mark's cut, or those of this table end below it.
-    /// False if there is no cut or `rhs` has no entries.
+    /// Tests whether all entries of this rewritten table are dropped because they don't reach those of the
+    /// appended table `rhs`: the entries of `rhs` don't begin at the mark's cut, or those of this table end
+    /// below it. Returns false if there is no cut, or `rhs` has no entries.
     fn is_unjoined(&self, rhs: &MemTable, mark: &Mark) -> bool
         ensures { result ≡ is_unjoined mark.now.cut (end_of self.now.entries) rhs.now.entries }
     {
@@ -145,7 +147,7 @@ impl MemTable {
         }
     }
 
-    /// Takes the atomic group of `rhs`, if it has one, in place of this table's.
+    /// Moves the atomic group of `rhs`, if it has one, into this table, in place of its own.
     pub(super) fn take_atomic_group(&mut self, rhs: &mut MemTable)
         ensures atomic_group { self.new ≡ record self.old {
           atomic_group = newer_atomic_group rhs.old.atomic_group self.old.atomic_group;
@@ -157,8 +159,8 @@ impl MemTable {
         }
     }
 
-    /// Takes the atomic group of `rhs`, an appended table, from it: if `mark` says that the region was
-    /// cleaned, it replaces this table's, even if there is none; else it is dropped.
+    /// Takes the atomic group of `rhs`, an appended table, away. If `mark` says that the region was cleaned,
+    /// it becomes this table's, even if there is none; else it is dropped.
     fn take_appended_group(&mut self, rhs: &mut MemTable, mark: &Mark)
         ensures atomic_group { self.new ≡ record self.old {
           atomic_group = if mark.now.cleaned then rhs.old.atomic_group else self.old.atomic_group;
@@ -171,14 +173,15 @@ impl MemTable {
         }
     }
 
-    /// Returns the index after the last entry, or 0 without entries.
+    /// Returns the index after that of the last entry, or 0 if there are no entries.
     pub fn end(&self) -> u64
         ensures { result ≡ end_of self.now.entries }
     {
         self.entries.end()
     }
 
-    /// Returns the index of the first entry, and the index after the last one. Both are 0 without entries.
+    /// Returns the index of the first entry, and the index after that of the last one. Both are 0 if there
+    /// are no entries.
     #[doc(hidden)]
     pub fn ends(&self) -> (u64, u64)
         ensures { result ≡ (start_of self.now.entries, end_of self.now.entries) }
@@ -191,8 +194,8 @@ impl MemTable {
     ///
     /// # Errors
     ///
-    /// `Corruption`, which names the region, if a run leaves a hole after these entries; `Memory` if there is
-    /// none for that text.
+    /// `Corruption`, with a text that names the region, if a run leaves a hole after these entries; `Memory`
+    /// if there is none for that text.
     #[doc(hidden)]
     pub fn check_newer_mark(&self, queue: LogQueue, mark: &Mark, end: u64) -> Result<()>
         requires { end ≡ end_at_reach mark.now self.now }
@@ -209,12 +212,12 @@ impl MemTable {
         }
     }
 
-    /// Checks that the first run of a newer region mark leaves no hole after these entries, of which those
-    /// that it meets end at `end`.
+    /// Checks that the first run of a newer region mark leaves no hole after these entries. `end` is the end
+    /// of those that it meets ([`MemTable::end_at_reach`]).
     ///
     /// # Errors
     ///
-    /// `Corruption` if it does, or `Memory` if there is none for its text.
+    /// `Corruption` if it leaves one; `Memory` if there is none for its text.
     fn check_first_run(&self, mark: &Mark, end: u64) -> Result<()>
         requires { end ≡ end_at_reach mark.now self.now }
         ensures ok { OnOk result (is_missed mark.now self.now.entries ≡ false) }
@@ -231,11 +234,11 @@ impl MemTable {
         Err(hole_error(self.entries.allocator(), self.region_id, start, end))
     }
 
-    /// Checks that these entries have none of the indexes that a newer region mark bars ([`Mark::barred`]).
+    /// Checks that no entry has an index that a newer region mark bars ([`Mark::barred`]).
     ///
     /// # Errors
     ///
-    /// `Corruption` if they do, since a run of the mark's steps then leaves a hole; `Memory` if there is none
+    /// `Corruption` if one has, since a run of the mark's steps then leaves a hole; `Memory` if there is none
     /// for its text.
     fn check_barred(&self, mark: &Mark) -> Result<()>
         ensures ok { OnOk result (is_barred mark.now.barred self.now.entries ≡ false) }
@@ -255,9 +258,9 @@ impl MemTable {
         Err(hole_error_above(self.entries.allocator(), self.region_id, below, end))
     }
 
-    /// Drops what the steps of a newer region mark take away, and subtracts it from the live counts:
-    /// everything after a clean; else the deleted keys, and the entries below the mark's floor or at or above
-    /// its cut, or, if `gone`, all entries.
+    /// Drops what the steps of a newer region mark take away, and subtracts it from the live counts: after a
+    /// clean everything; else the deleted keys, and the entries below the mark's floor or at or above its
+    /// cut, or all entries if `gone`.
     fn drop_older(&mut self, gone: bool, mark: &Mark, stats: &mut GlobalStats)
         requires counted { IsCounted self.old stats.old }
         ensures left { self.new ≡ left_by gone mark.now self.old }
@@ -275,8 +278,8 @@ impl MemTable {
         self.drop_deleted(mark.deleted(), stats);
     }
 
-    /// Drops the entries below the mark's floor or at or above its cut, or, if `gone`, all of them. Subtracts
-    /// them from the live counts.
+    /// Drops the entries below the mark's floor or at or above its cut, or all of them if `gone`, and
+    /// subtracts them from the live counts.
     fn drop_entries(&mut self, gone: bool, mark: &Mark, stats: &mut GlobalStats)
         requires counted { IsCounted self.old stats.old }
         ensures left { self.new ≡ record self.old {
@@ -303,7 +306,7 @@ impl MemTable {
         self.keys.clear();
     }
 
-    /// Drops the values of the keys in `deleted`, and subtracts them from the live counts.
+    /// Removes the keys in `deleted` with their values, and subtracts them from the live counts.
     fn drop_deleted(&mut self, deleted: &DeletedKeys, stats: &mut GlobalStats)
         requires counted { IsCounted self.old stats.old }
         ensures dropped { self.new ≡ record self.old { keys = without deleted.now self.old.keys } }

@@ -1,4 +1,4 @@
-//! The key values of one region.
+//! [`KeyValues`]: the key values of a region's table.
 
 ghost use Rattle.std.specs.Prelude.{◌≡◌, ◌+◌, ◌≤◌, ◌∷◌, ◌++◌, ◌↔◌, IsTrue, OnOk, OnErr, IfOk, IfSome, IfNone, filter, length, map, take};
 ghost use Rattle.raft_table.specs.Common.{option_copied, option_map, CalledAtTwo, LogQueue, VisitsUntilFalse, pairs_between, Keys, pair_count, file_weight, value_at, file_at, with_moved, seqs_in, least, lesser, is_up_to, pairs_up_to};
@@ -17,18 +17,23 @@ use std::collections::BTreeMap;
 use std::marker::Model;
 use std::mem::swap;
 
-/// A value, and the file that it was written to.
+/// The value of a key, and the file that it was written to.
 #[derive(Debug, Drop)]
 struct StoredValue {
+    /// The value.
     value: Vec<u8>,
+    /// The file that it was written to.
     file: FileId,
 }
 
-/// The key values of one region, the keys in the order of their bytes.
+/// The key values of a region's table, in the order of the bytes of their keys.
 #[derive(Debug, Drop)]
 pub struct KeyValues {
+    /// The value of each key, and its file.
     pairs: BTreeMap<Vec<u8>, StoredValue>,
+    /// The number of values that are in files of the rewrite queue.
     rewritten: usize,
+    /// The allocator of keys and values.
     alloc: Global,
 }
 
@@ -48,7 +53,7 @@ impl Model for KeyValues {
 }
 
 impl KeyValues {
-    /// Returns an empty map; keys and values will be allocated by `alloc`.
+    /// Returns an empty map, which will allocate from `alloc`, and allocates nothing yet.
     pub fn new(alloc: Global) -> KeyValues
         ensures { result ≡ finite.empty }
     {
@@ -110,19 +115,19 @@ impl KeyValues {
         copied_keys(self.alloc, &self.pairs, set)
     }
 
-    /// Returns the file that the value of `key` is in, or `None` if it has no value.
+    /// Returns the file that the value of `key` is in, or `None` if the key has no value.
     pub fn file_of(&self, key: &[u8]) -> Option<FileId>
         ensures { result ≡ file_at self.now key.now }
     {
         Some(self.pairs.get(key)?.file)
     }
 
-    /// Gives `key` the value `value`, which is in `file`, and returns the file of the value that this
-    /// replaces, or `None` if the key had none.
+    /// Gives `key` the value `value`, which is in `file`. Returns the file of the value that it replaces, or
+    /// `None` if the key had none.
     ///
     /// # Errors
     ///
-    /// `AllocError` if there is no memory for it. The key values are unchanged then, and the new one is
+    /// `AllocError` if there is no memory for it. The map is unchanged then, and `key` and `value` are
     /// dropped.
     #[inline(always)]
     pub fn insert(
@@ -145,7 +150,8 @@ impl KeyValues {
         Ok(replaced)
     }
 
-    /// Removes `key`, and returns the file that its value was in, or `None` if it had none.
+    /// Removes `key` with its value, and returns the file that the value was in, or `None` if the key had no
+    /// value.
     pub fn remove(&mut self, key: &[u8]) -> Option<FileId>
         ensures after { self.new ≡ finite.remove self.old key.now }
         ensures removed { result ≡ file_at self.old key.now }
@@ -157,8 +163,8 @@ impl KeyValues {
         Some(removed.file)
     }
 
-    /// Sets the file of the value of `key` to `file`, and returns the file that it was in. Returns `None`,
-    /// and changes nothing, if the key has no value.
+    /// Sets the file of the value of `key` to `file`, and returns the file that it was in before. Returns
+    /// `None`, and changes nothing, if the key has no value.
     pub fn set_file(&mut self, key: &[u8], file: FileId) -> Option<FileId>
         ensures after { self.new ≡ with_moved self.old key.now file }
         ensures moved { result ≡ file_at self.old key.now }
@@ -174,8 +180,8 @@ impl KeyValues {
         Some(left)
     }
 
-    /// Returns the lowest number of the files of `queue` that values are in, or `None` if there is no value
-    /// in `queue`. Walks over all values.
+    /// Returns the lowest number of the files of `queue` that values are in, or `None` if no value is in
+    /// `queue`. It looks at every value.
     pub fn least_seq_in(&self, queue: LogQueue) -> Option<FileSeq>
         ensures { result ≡ least (seqs_in queue self.now) }
     {
@@ -188,8 +194,8 @@ impl KeyValues {
         least
     }
 
-    /// Appends copies of keys and values to `vec`, in the order of the keys: those whose file is in `queue`
-    /// and, with a `gate`, numbered at or below it.
+    /// Appends copies of keys and values to `vec`, in the order of the keys: those in files of `queue` and,
+    /// with a `gate`, with file numbers of at most `gate`.
     ///
     /// # Errors
     ///
@@ -212,9 +218,9 @@ impl KeyValues {
         pushed
     }
 
-    /// Calls `f` with each key that is at or above `start` and below `end`, and its value, until `f` returns
-    /// false: in the order of the keys or, if `reverse`, from the last one back. A bound that is `None`
-    /// leaves its side open. If `start` is above `end`, `f` isn't called.
+    /// Calls `f` with each key that is at least `start` and below `end`, and its value, until `f` returns
+    /// false. Keys come in the order of their bytes or, with `reverse`, in the opposite order. A bound that
+    /// is `None` doesn't limit its side. If `start` is above `end`, `f` isn't called.
     pub fn scan<F: FnMut(&[u8], &[u8]) -> bool>(
         &self,
         start: Option<&[u8]>,
@@ -240,12 +246,13 @@ impl KeyValues {
         }
     }
 
-    /// Puts the pairs of `rhs` over these, and leaves `rhs` empty: for a key in both, that of `rhs` stays.
+    /// Moves the key values of `rhs` into this map, in place of those of the same keys, and leaves `rhs`
+    /// empty.
     ///
     /// # Errors
     ///
-    /// `AllocError` if there is no memory for all. The first pairs of `rhs`, by their keys, have then been
-    /// put, one is lost, and the others are left in `rhs`.
+    /// `AllocError` if there is no memory for one of them. Those before it, by their keys, have then been
+    /// moved, it is lost itself, and the others are left in `rhs`.
     pub fn absorb(&mut self, rhs: &mut KeyValues) -> AllocResult<()>
         ensures ok { OnOk result (self.new ≡ pairs_over rhs.old self.old) }
         ensures emptied { OnOk result (rhs.new ≡ finite.empty) }
@@ -263,7 +270,8 @@ impl KeyValues {
         Ok(())
     }
 
-    /// Removes the least key, by its bytes, and returns it with its value. Returns `None` from an empty map.
+    /// Removes the least key, by its bytes, and returns it with its value. Returns `None` if the map is
+    /// empty.
     fn take_first(&mut self) -> Option<(Vec<u8>, StoredValue)>
         ensures first { IfSome result (λ p. finite.entries self.old
             ≡ (p.0.items, record { value = p.1.value.items; file = p.1.file })
@@ -281,8 +289,8 @@ impl KeyValues {
 ///
 /// # Errors
 ///
-/// `AllocError` if there is no memory for one. Those before it have then been appended; `fetch` takes them
-/// off again.
+/// `AllocError` if there is no memory for one of them. Those before it have then been appended; `fetch`
+/// removes them again.
 fn push_fetched(
     pairs: &BTreeMap<Vec<u8>, StoredValue>,
     queue: LogQueue,
@@ -335,22 +343,22 @@ fn copied(bytes: &Vec<u8>) -> AllocResult<Vec<u8>>
     bytes.clone()
 }
 
-/// Tests whether `file` is in `queue` and, with a `gate`, numbered at or below it.
+/// Tests whether `file` is in `queue` and, with a `gate`, has a number of at most `gate`.
 fn is_up_to(file: FileId, queue: LogQueue, gate: Option<FileSeq>) -> bool
     ensures { result ≡ is_up_to queue gate file }
 {
     file.queue == queue && gate.is_none_or(|gate| file.seq <= gate)
 }
 
-/// Returns the file of `pair`, a value that was replaced, or `None` if there was none.
+/// Returns the file of `pair`, or `None` if there is no pair.
 fn file_in(pair: Option<StoredValue>) -> Option<FileId>
     ensures { result ≡ option_map (λ s. s.file) pair }
 {
     pair.map(|pair| pair.file)
 }
 
-/// Returns what a value in `file` adds to the number of values in the rewrite queue: 1 if the file is in that
-/// queue, else 0, also without a file.
+/// Returns how many of the values in the rewrite queue a value in `file` is: 1 if `file` is in that queue,
+/// and 0 if it isn't or is `None`.
 fn rewritten(file: Option<FileId>) -> usize
     ensures { result ≡ file_weight LogQueue.Rewrite file }
 {

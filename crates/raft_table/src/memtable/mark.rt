@@ -1,4 +1,8 @@
-//! Region marks of regions, and tables merged under them.
+//! [`Mark`]: the region mark of steps, which says what they do to older tables of their region.
+//!
+//! Words of this file: the *own* table of some steps is what they give alone, from an empty table. A mark is
+//! *joined* with that of newer steps, so that it stands for all of them. An index is *barred* if the steps
+//! are refused over an older table that has an entry at it.
 
 ghost use Rattle.std.specs.Prelude.{◌≡◌, ◌<◌, ◌||◌, MatchBool, OnOk, OnErr, Some, None};
 ghost use Rattle.raft_table.specs.Common.{Append, Rewrite, misses, fresh, is_settled, mark_of, end_at_reach, joined_at, joined_barred, joined_deleted, joined_floor, is_detached, narrowed_bars, with_bounds, at_most_bound, lesser, LogQueue};
@@ -12,42 +16,43 @@ use std::alloc::Global;
 use std::marker::Model;
 use std::mem;
 
-/// Indexes at which no older entry may be: from the first one on and below the second.
+/// The barred indexes: from the first number on, and below the second one.
 type Bars = Option<(u64, u64)>;
 
-/// A *region mark*: what steps on a region do to any older table of it, told by a few numbers and the deleted
-/// keys.
+/// The *region mark* of steps on a region: what they do to any older table of it, in a few numbers and the
+/// deleted keys.
 ///
-/// With it a table that was made of the later steps alone, its *own* table, is put over the table of the
-/// steps before them, as if all had been read in one go.
+/// With it, the table that the steps alone give (their *own* table) can be put over the table of the steps
+/// before them, with the same result as if all steps had been read in order.
 #[derive(Debug, Drop)]
 pub struct Mark {
+    /// What the steps do to older entries, and whether they cleaned the region.
     bounds: Bounds,
+    /// The keys that the steps deleted.
     deleted: DeletedKeys,
 }
 
-/// A region mark without its deleted keys. Its fields are those of `Mark` in `specs/Marks.antt`.
+/// A region mark without its deleted keys. The fields are those of `Mark` in `specs/Marks.antt`.
 #[derive(Debug, Clone, Copy, Default)]
 struct Bounds {
-    /// Whether the region was cleaned.
+    /// Whether the steps cleaned the region. Steps after that don't count in the mark.
     cleaned: bool,
-    /// Where the first run starts, if there was one. Steps after a clean don't count here.
+    /// The first index of the first run, if there is a run.
     reach: Option<u64>,
-    /// The greatest compaction before that run.
+    /// The highest index of the compactions before that run.
     reach_floor: u64,
-    /// The least truncation before that run, if there was one.
+    /// The lowest index of the truncations before that run, if there is one.
     reach_cut: Option<u64>,
-    /// Over an older entry from the first of these indexes on and below the second, the steps are refused.
+    /// The steps are refused over an older entry from the first of these indexes on and below the second one.
     barred: Option<(u64, u64)>,
-    /// Older entries below this index go.
+    /// Older entries below this index are dropped.
     floor: u64,
-    /// Older entries from this index on go, if a run or a truncation came.
+    /// Older entries at or above this index are dropped; `None` if there is neither a run nor a truncation.
     cut: Option<u64>,
 }
 
 impl Bounds {
-    /// Returns the bounds of one `step`. For a step on key values or an atomic group they are those of no
-    /// step.
+    /// Returns the bounds of one `step`. Steps on key values or an atomic group change no bound.
     fn of_step(step: &Step) -> Bounds
         ensures { with_bounds result ≡ record (mark_of (step_shown step.now))
             { deleted = finset.empty } }
@@ -73,8 +78,8 @@ impl Bounds {
         }
     }
 
-    /// Returns the bounds of a run that starts at index `start`: older entries from there on go, and must
-    /// reach it.
+    /// Returns the bounds of a run with the first index `start`: it drops older entries from there on, and
+    /// the others have to reach it.
     fn of_start(start: u64) -> Bounds
         ensures { with_bounds result ≡ record fresh { reach = Some start; cut = Some start } }
     {
@@ -100,7 +105,8 @@ impl Model for Mark {
 }
 
 impl Mark {
-    /// Returns the region mark of no step, which leaves older tables as they are.
+    /// Returns the region mark of no steps, which leaves older tables as they are. Keys will be allocated
+    /// from `alloc`.
     pub fn new(alloc: Global) -> Mark
         ensures { result ≡ fresh }
     {
@@ -110,7 +116,7 @@ impl Mark {
         }
     }
 
-    /// Returns the region mark of a run that starts at index `start`.
+    /// Returns the region mark of one run with the first index `start`. Keys will be allocated from `alloc`.
     pub fn of_run(alloc: Global, start: u64) -> Mark
         ensures { result ≡ record fresh { reach = Some start; cut = Some start } }
     {
@@ -127,56 +133,56 @@ impl Mark {
         self.bounds.cleaned
     }
 
-    /// Returns the greatest index of the compactions before the first run, or 0: older entries below it don't
-    /// count when that run looks for the end of the entries.
+    /// Returns the highest index of the compactions before the first run, or 0 if there are none. Older
+    /// entries below it don't count when the mark is tested for whether that run leaves a hole.
     pub fn reach_floor(&self) -> u64
         ensures { result ≡ self.now.reach_floor }
     {
         self.bounds.reach_floor
     }
 
-    /// Returns the least index of the truncations before the first run, or `None` if there is no such
-    /// truncation or no run: older entries from it on don't count when that run looks for the end of the
-    /// entries.
+    /// Returns the lowest index of the truncations before the first run, or `None` if there is no such
+    /// truncation or no run. Older entries at or above it don't count when the mark is tested for whether
+    /// that run leaves a hole.
     pub fn reach_cut(&self) -> Option<u64>
         ensures { result ≡ self.now.reach_cut }
     {
         self.bounds.reach_cut
     }
 
-    /// Returns the indexes at which an older table may have no entry, from the first one up to, not including,
-    /// the second; or `None` if there are none. In the append queue the steps are refused over an older table
-    /// that has an entry there.
+    /// Returns the indexes at which an older table may have no entry, from the first number on and below the
+    /// second one; or `None` if there are none. In the append queue the steps are refused over an older table
+    /// with an entry there.
     pub fn barred(&self) -> Option<(u64, u64)>
         ensures { result ≡ self.now.barred }
     {
         self.bounds.barred
     }
 
-    /// Returns the index where the first run starts, or `None` if there was no run before the region was
-    /// cleaned.
+    /// Returns the first index of the first run, or `None` if there was no run before the region was cleaned.
     pub fn reach(&self) -> Option<u64>
         ensures { result ≡ self.now.reach }
     {
         self.bounds.reach
     }
 
-    /// Returns the index below which older entries go; 0 if none do.
+    /// Returns the index below which older entries are dropped, or 0 if none are.
     pub fn floor(&self) -> u64
         ensures { result ≡ self.now.floor }
     {
         self.bounds.floor
     }
 
-    /// Returns the index from which on older entries go, or `None` if neither a run nor a truncation came.
+    /// Returns the index at and above which older entries are dropped, or `None` if there was neither a run
+    /// nor a truncation.
     pub fn cut(&self) -> Option<u64>
         ensures { result ≡ self.now.cut }
     {
         self.bounds.cut
     }
 
-    /// Returns the keys whose older values go: those that were deleted. After a clean everything older goes
-    /// anyway.
+    /// Returns the keys whose older values are dropped, because the steps deleted them. After a clean it
+    /// doesn't matter, since then everything older is dropped.
     #[doc(hidden)]
     pub fn deleted(&self) -> &DeletedKeys
         ensures { result.now ≡ self.now.deleted }
@@ -184,23 +190,24 @@ impl Mark {
         &self.deleted
     }
 
-    /// Tests whether the first run leaves a hole after older entries that end before index `end`. False
-    /// without a run, and if `end` is 0, that is without older entries.
+    /// Tests whether the first run leaves a hole after older entries that end before index `end`. Returns
+    /// false if there is no run, or `end` is 0, which stands for no older entries.
     pub fn misses(&self, end: u64) -> bool
         ensures { result ≡ misses self.now.reach end }
     {
         misses(self.bounds.reach, end)
     }
 
-    /// Joins the region mark of newer steps to this one, so that this one stands for the steps of both.
-    /// `end_at_reach` is the end of the own entries that the first newer run meets
-    /// ([`MemTable::end_at_reach`]). `newer` keeps its bounds, and may lose its deleted keys to this one.
+    /// Joins the mark of newer steps to this one, which then stands for the steps of both. `end_at_reach` is
+    /// the end of those entries of this mark's own table that the first newer run meets
+    /// ([`MemTable::end_at_reach`]). The deleted keys of `newer` may be moved into this mark; its other
+    /// values stay.
     ///
     /// # Errors
     ///
-    /// `AllocError` if there is no memory for the newer deleted keys. The bounds of both are unchanged then,
-    /// but the deleted keys are divided between both, and one is lost: neither region mark may be used after
-    /// that.
+    /// `AllocError` if there is no memory for the newer deleted keys. The bounds of both marks are unchanged
+    /// then, but one deleted key is lost, and the others are divided between both: neither mark may be used
+    /// after that.
     #[tactic(auto, using(crate::proofs::StepMarkLemmas::bounds_joined))]
     pub fn join(&mut self, queue: LogQueue, end_at_reach: u64, newer: &mut Mark) -> AllocResult<()>
         ensures ok { OnOk result (self.new ≡ joined_at queue end_at_reach self.old newer.old) }
@@ -215,8 +222,8 @@ impl Mark {
         Ok(())
     }
 
-    /// Joins the region mark of one newer run, which starts at index `start`. `end` is the end of the own
-    /// entries before that run, 0 if there are none.
+    /// Joins the mark of one newer run with the first index `start`. `end` is the end of this mark's own
+    /// entries before that run, or 0 if there are none.
     pub fn add_run(&mut self, queue: LogQueue, end: u64, start: u64)
         ensures { self.new
             ≡ joined_at queue end self.old (record fresh { reach = Some start; cut = Some start }) }
@@ -227,12 +234,12 @@ impl Mark {
         self.join_bounds(queue, end, Bounds::of_start(start));
     }
 
-    /// Joins the region mark of one newer step. If it is a run, `end` is the end of the own entries before
-    /// it, 0 if there are none. The key of a deletion is copied.
+    /// Joins the mark of one newer step. If it is a run, `end` is the end of this mark's own entries before
+    /// it, or 0 if there are none. The key of a deletion is copied.
     ///
     /// # Errors
     ///
-    /// `AllocError` if there is no memory for that copy. The region mark is unchanged then.
+    /// `AllocError` if there is no memory for that copy. The mark is unchanged then.
     #[tactic(auto, using(crate::proofs::StepMarkLemmas::bounds_joined))]
     pub fn add_step(&mut self, queue: LogQueue, end: u64, step: &Step) -> AllocResult<()>
         ensures ok { OnOk result (self.new
@@ -247,12 +254,12 @@ impl Mark {
         Ok(())
     }
 
-    /// Joins what `step`, a newer one, does to the deleted keys: adds a copy of the key of a deletion, and
-    /// forgets all keys for a clean, after which nothing older stays anyway.
+    /// Changes the deleted keys by a newer `step`: adds a copy of the key of a deletion, and removes all keys
+    /// for a clean, since nothing older stays after it.
     ///
     /// # Errors
     ///
-    /// `AllocError` if there is no memory for the copy. The region mark is unchanged then.
+    /// `AllocError` if there is no memory for the copy. The mark is unchanged then.
     #[tactic(auto, using(crate::proofs::MarkExact::union_empty, crate::proofs::MarkExact::union_one))]
     fn delete_keys(&mut self, step: &Step) -> AllocResult<()>
         ensures ok { OnOk result (self.new ≡ record self.old
@@ -269,9 +276,9 @@ impl Mark {
         }
     }
 
-    /// Tests whether it is plain that a newer run from index `start` on leaves the region mark as it is, if
-    /// own entries end at `end`: a run came before, this one starts at or above the cut, and own entries
-    /// reach its start. `false` says nothing. It spares [`Mark::add_run`] the work for most runs.
+    /// Tests whether it is plain that a newer run with the first index `start` leaves the mark as it is, if
+    /// own entries end at `end`: there was a run before, `start` isn't below the cut, and own entries reach
+    /// up to it. A false result says nothing. It spares [`Mark::add_run`] the work for most runs.
     fn covers(&self, end: u64, start: u64) -> bool
         ensures { MatchBool result ((queue : LogQueue) → joined_at queue end self.now
             (record fresh { reach = Some start; cut = Some start }) ≡ self.now) (Unit {0}) }
@@ -285,16 +292,16 @@ impl Mark {
         0 < end
     }
 
-    /// Tests whether newer steps leave the region mark as it is: they do once the region is cleaned. (They do
-    /// too if there is a run but no cut, but no steps give such a mark.)
+    /// Tests whether no newer step changes the mark: the region was cleaned. (A mark with a run but no cut
+    /// isn't changed either, but no steps give such a mark.)
     fn is_settled(&self) -> bool
         ensures { result ≡ is_settled self.now }
     {
         self.bounds.cleaned || self.bounds.reach.is_some() && self.bounds.cut.is_none()
     }
 
-    /// Joins the bounds of newer steps, whose first run meets own entries that end at `end`. The deleted keys
-    /// are left to the caller.
+    /// Joins the bounds of newer steps to those of this mark. `end` is the end of the own entries that the
+    /// first newer run meets. The deleted keys are left to the caller.
     #[inline(always)]
     fn join_bounds(&mut self, queue: LogQueue, end: u64, newer: Bounds)
         ensures { self.new ≡ record (joined_at queue end self.old (with_bounds newer))
@@ -334,8 +341,8 @@ impl Mark {
     ///
     /// # Errors
     ///
-    /// `AllocError` if there is no memory for them. The deleted keys are then divided between both, and one
-    /// is lost.
+    /// `AllocError` if there is no memory for them. One deleted key is lost then, and the others are divided
+    /// between both marks.
     fn join_deleted(&mut self, newer: &mut Mark) -> AllocResult<()>
         ensures err { OnErr result (self.new ≡ record self.old { deleted = self.new.deleted }) }
         ensures ok { OnOk result (self.new ≡ record self.old
@@ -350,16 +357,16 @@ impl Mark {
     }
 }
 
-/// Tests whether a run from index `reach` on leaves a hole after entries that end before index `end`. False
-/// without a run, and if `end` is 0, that is without entries.
+/// Tests whether a run with the first index `reach` leaves a hole after entries that end before index `end`.
+/// Returns false if there is no run, or `end` is 0, which stands for no entries.
 fn misses(reach: Option<u64>, end: u64) -> bool
     ensures { result ≡ misses reach end }
 {
     reach.is_some_and(|start| end > 0 && end < start)
 }
 
-/// Returns what is left of `barred` indexes of newer steps over the entries that older steps leave: from
-/// `floor` on and, with a `cut`, below it.
+/// Returns the part of `barred`, the barred indexes of newer steps, at which older steps leave still older
+/// entries: from `floor` on and, with a `cut`, below it.
 fn narrowed(floor: u64, cut: Option<u64>, barred: Bars) -> Bars
     ensures { result ≡ narrowed_bars floor cut barred }
 {
@@ -367,25 +374,25 @@ fn narrowed(floor: u64, cut: Option<u64>, barred: Bars) -> Bars
     Some((floor.max(from), capped(below, cut)))
 }
 
-/// Tests whether a newer first run, from `reach` on, meets no own entries (`end` is 0) and starts above
-/// `bound`, below which still older entries stay. Any such entry would then leave a hole.
+/// Tests whether the first newer run, with the first index `reach`, meets no own entries (`end` is 0) and
+/// starts above `bound`, below which still older entries stay. Any such entry would then leave a hole.
 fn is_detached(reach: Option<u64>, end: u64, bound: u64) -> bool
     ensures { result ≡ is_detached reach end bound }
 {
     reach.is_some_and(|start| end == 0 && bound < start)
 }
 
-/// Tests whether, in the rewrite queue, a newer first run drops all entries below it: it leaves a hole after
-/// the own entries, which end at `end`, or meets none of them and starts above `bound`.
+/// Tests whether, in the rewrite queue, the first newer run drops all entries below it: it leaves a hole
+/// after the own entries, which end at `end`, or it is detached from `bound` ([`is_detached`]).
 fn drops_below(reach: Option<u64>, end: u64, bound: u64) -> bool
     ensures { result ≡ is_detached reach end bound || misses reach end }
 {
     is_detached(reach, end, bound) || misses(reach, end)
 }
 
-/// Returns the barred indexes of joined steps. In the append queue they are those of the `older` steps; if
-/// there are none, the indexes `met` if the newer first run is `detached`, and else the `newer` ones. In the
-/// rewrite queue, which refuses no hole, they are the older ones.
+/// Returns the barred indexes of joined steps. In the append queue these are the `older` ones if there are
+/// any; else `met` if the first newer run is `detached`, and the `newer` ones if it isn't. In the rewrite
+/// queue, which refuses no hole, they are the `older` ones.
 fn joined_bars(queue: LogQueue, detached: bool, older: Bars, met: (u64, u64), newer: Bars) -> Bars
     ensures { result ≡ joined_barred queue detached older met newer }
 {
@@ -395,8 +402,8 @@ fn joined_bars(queue: LogQueue, detached: bool, older: Bars, met: (u64, u64), ne
     }
 }
 
-/// Returns the floor of joined steps: `floor`, the greater one of both. In the rewrite queue, if a newer run
-/// `dropped` what is below it, it is at least `cut`, so that no older entry stays.
+/// Returns the floor of joined steps: `floor`, the higher one of both. If a newer run of the rewrite queue
+/// `dropped` all entries below it, the floor is at least `cut`, so that no older entry stays.
 fn joined_floor(queue: LogQueue, dropped: bool, floor: u64, cut: u64) -> u64
     ensures { result ≡ joined_floor queue dropped floor cut }
 {
@@ -406,7 +413,7 @@ fn joined_floor(queue: LogQueue, dropped: bool, floor: u64, cut: u64) -> u64
     }
 }
 
-/// Returns the lesser of the bounds `a` and `b`, the one that there is, or `None`.
+/// Returns the lesser one of the bounds `a` and `b`. If one is `None`, it returns the other.
 pub(super) fn lesser(a: Option<u64>, b: Option<u64>) -> Option<u64>
     ensures { result ≡ lesser a b }
 {
@@ -416,7 +423,7 @@ pub(super) fn lesser(a: Option<u64>, b: Option<u64>) -> Option<u64>
     }
 }
 
-/// Returns `bound`, or `other` if there is one and it is less.
+/// Returns the lesser one of `bound` and `other`, or `bound` if `other` is `None`.
 pub(super) fn capped(bound: u64, other: Option<u64>) -> u64
     ensures { result ≡ at_most_bound bound other }
 {

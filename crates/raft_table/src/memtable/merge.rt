@@ -1,4 +1,7 @@
 //! Merges of two tables of one region.
+//!
+//! By the *start rule* of the append queue, a run that leaves a hole is refused; by that of the rewrite
+//! queue, it replaces all entries. By both, it else replaces the entries from its first index on.
 
 ghost use Rattle.std.specs.Prelude.{◌≡◌, ◌≢◌, ◌+◌, ◌<◌, ◌≤◌, ◌^◌, [], OnOk, IfErr, Some};
 ghost use Rattle.raft_table.specs.Common.{LogQueue, Append, Rewrite, live, pairs_over, pair_count, counts_after_merge, counts_with_keys, counts_with_others, joint_queue, append_rule, after_merge, after_newer, after_appended};
@@ -11,17 +14,18 @@ use crate::memtable::key_values::KeyValues;
 use raft_base::{Error, LogQueue, Result};
 
 impl MemTable {
-    /// Moves the records of the newer table `rhs` of the same region, which aren't counted yet, into this
-    /// one, counts them, and leaves `rhs` empty. The run of `rhs` is put as a replay into its queue puts it
-    /// ([`MemTable::replay_append`], [`MemTable::replay_rewrite`]), its pairs over these, and its atomic
-    /// group, if it has one, in place of this table's.
+    /// Moves the records of `rhs` into this table, counts them, and leaves `rhs` empty. `rhs` is the table of
+    /// the same region that the batches right after this table's give; its records aren't counted yet. Its
+    /// entries are put as a replay of their queue puts them ([`MemTable::replay_append`],
+    /// [`MemTable::replay_rewrite`]), its key values replace those of the same keys, and its atomic group, if
+    /// it has one, replaces this table's.
     ///
     /// # Errors
     ///
-    /// `InvalidArgument` if the two tables have records in both queues; `Corruption` if the run leaves a hole
-    /// in the append queue; `Full` if more than 2^64 - 1 records would be live in a queue, with those of
-    /// `rhs` beside all that are counted. Both tables and the counts are unchanged then. After `Memory` both
-    /// tables may have changed, and the counts still agree with this one.
+    /// `InvalidArgument` if the two tables together have records in both queues; `Corruption` if the entries
+    /// leave a hole in the append queue; `Full` if the records of `rhs`, added to all that are counted, would
+    /// be more than 2^64 - 1 in a queue. Both tables and the counts are unchanged then. After `Memory` both
+    /// tables may have changed, and some records may be lost; the counts still agree with this table.
     pub fn merge_newer_neighbor(
         &mut self,
         rhs: &mut MemTable,
@@ -56,16 +60,17 @@ impl MemTable {
         Ok(())
     }
 
-    /// Moves the records of `rhs`, an appended table of the same region whose records aren't counted yet,
-    /// into this rewritten one, counts them, and leaves `rhs` empty. Entries below the run of `rhs` stay if
-    /// they reach its start, and else go; the pairs of `rhs` are put over these.
+    /// Moves the records of `rhs`, the table of the same region that the append queue gives, into this one,
+    /// which the rewrite queue gives. Counts them, as they aren't counted yet, and leaves `rhs` empty.
+    /// Entries of this table below those of `rhs` stay if they reach up to them, and are dropped otherwise.
+    /// The key values of `rhs` replace those of the same keys.
     ///
     /// # Errors
     ///
     /// `InvalidArgument` if this table has records in the append queue, or `rhs` has some in the rewrite
-    /// queue or an atomic group; `Full` if more than 2^64 - 1 records would be live in a queue, with those of
-    /// `rhs` beside all that are counted. Both tables and the counts are unchanged then. After `Memory` both
-    /// tables may have changed, and the counts still agree with this one.
+    /// queue or an atomic group; `Full` if the records of `rhs`, added to all that are counted, would be more
+    /// than 2^64 - 1 in a queue. Both tables and the counts are unchanged then. After `Memory` both tables
+    /// may have changed, and some records may be lost; the counts still agree with this table.
     pub fn merge_append_table(&mut self, rhs: &mut MemTable, stats: &mut GlobalStats) -> Result<()>
         requires region { self.old.region_id ≡ rhs.old.region_id }
         requires counted { IsCounted self.old stats.old }
@@ -94,8 +99,8 @@ impl MemTable {
         self.merge_by_rule(rule, rhs, LogQueue::Append, stats)
     }
 
-    /// Returns the queue that all records of this table and of `rhs` are in, the append queue if there are
-    /// none, or `None` if both queues have some.
+    /// Returns the queue that all records of this table and of `rhs` are in, or the append queue if there are
+    /// none. Returns `None` if both queues have some.
     fn joint_queue(&self, rhs: &MemTable) -> Option<LogQueue>
         ensures { result ≡ joint_queue self.now rhs.now }
     {
@@ -108,9 +113,9 @@ impl MemTable {
         Some(LogQueue::Append)
     }
 
-    /// Returns the queue whose start rule holds when the appended table `rhs` is merged into this rewritten
-    /// one: the rewrite queue's, by which a hole drops the old entries. Returns `None` if this table has
-    /// appended records, or `rhs` has rewritten ones or an atomic group.
+    /// Returns the queue whose start rule applies when `rhs`, an appended table, is merged into this
+    /// rewritten one: the rewrite queue, so that a hole drops the old entries. Returns `None` if this table
+    /// has appended records, or `rhs` has rewritten ones or an atomic group.
     fn append_rule(&self, rhs: &MemTable) -> Option<LogQueue>
         ensures { result ≡ append_rule self.now rhs.now }
     {
@@ -123,9 +128,9 @@ impl MemTable {
         Some(LogQueue::Rewrite)
     }
 
-    /// Moves the entries of `rhs` into this table, by the start rule of the queue `rule`, and its pairs over
-    /// these, and counts them. The records of `rhs` are all in `queue`, and not counted yet. Its atomic group
-    /// is left to the caller.
+    /// Moves the entries of `rhs` into this table by the start rule of `rule`, and its key values over those
+    /// of the same keys, and counts them. The records of `rhs` are all in `queue`, and not counted yet.
+    /// Atomic groups are left to the caller.
     ///
     /// # Errors
     ///
@@ -161,13 +166,13 @@ impl MemTable {
     }
 }
 
-/// Puts the pairs of `newer`, which aren't counted yet, over `keys`, and counts the change. Leaves `newer`
-/// empty.
+/// Moves the key values of `newer`, which aren't counted yet, into `keys`, in place of those of the same
+/// keys, and counts the change. Leaves `newer` empty.
 ///
 /// # Errors
 ///
-/// `Memory` alone. Some of the pairs have then been put and counted, one is lost, and the others are left in
-/// `newer`.
+/// `Memory` alone. Some of the key values have then been moved and counted, one is lost, and the others are
+/// left in `newer`.
 fn absorb_keys(keys: &mut KeyValues, newer: &mut KeyValues, stats: &mut GlobalStats) -> Result<()>
     requires room { (q : LogQueue) → live q stats.old + pair_count q newer.old < 2 ^ 64 }
     requires counted { (q : LogQueue) → pair_count q keys.old ≤ live q stats.old }
@@ -187,7 +192,8 @@ fn absorb_keys(keys: &mut KeyValues, newer: &mut KeyValues, stats: &mut GlobalSt
     Ok(())
 }
 
-/// Counts the pairs that `keys` has in `queue` now, in place of the `before` ones that were counted.
+/// Changes the live count of `queue` from the `before` key values that were counted to those that `keys` has
+/// there now.
 fn recount(stats: &mut GlobalStats, queue: LogQueue, before: usize, keys: &KeyValues)
     requires counted { before ≤ live queue stats.old }
     requires room { live queue stats.old + pair_count queue keys.now < 2 ^ 64 + before }

@@ -1,4 +1,4 @@
-//! What a table returns of its records, and laws of ranges, sizes and refusals.
+//! Queries of a table: counts, fetches, scans and least files, and laws of them.
 
 ghost use Rattle.std.specs.Prelude.{◌≡◌, ◌<◌, ℕ, List, [], Option, Some, None, nat_lt, length, false, true, if◌then◌else◌, ◌+◌, ◌&&◌, nat_le, ◌≤◌, ◌++◌, ◌⊎◌, suc, ◌^◌, map, reverse, All, Contains, ◌-◌, IsOk, OnOk, OnErr, IfOk, IfErr, filter};
 ghost use Rattle.raft_table.specs.Common.{LogQueue, EntryIndex, Append, Rewrite, start_of, entry_at, below, from, AreTableEntries, Keys, Table, entries_after_append, entries_after_replay, nat_cmp, slice_cmp, IsStrictlySortedBy, Error};
@@ -13,14 +13,14 @@ use crate::memtable::mark::{Mark, lesser};
 use raft_base::{AllocResult, EntryIndex, Error, FileId, FileSeq, LogQueue, Result};
 
 impl MemTable {
-    /// Returns the number of blocks that the entries are kept in.
+    /// Returns the number of blocks that the entries are in.
     pub fn block_count(&self) -> usize
         ensures { result ≡ block_count self.now.entries }
     {
         self.entries.blocks().len()
     }
 
-    /// Returns the number of entries, whichever queue their places are in.
+    /// Returns the number of entries of both queues.
     pub fn entries_count(&self) -> usize
         ensures { result ≡ length self.now.entries }
     {
@@ -34,15 +34,15 @@ impl MemTable {
         self.keys.len()
     }
 
-    /// Appends the entries at the indexes `begin..end` to `vec`, in order. With a `max_size`, in bytes, it
-    /// stops before the first entry with which the sum of their lengths passes that size and exceeds the
-    /// entry's own length: so the first entry of a range always comes.
+    /// Appends the entries with indexes in `begin..end` to `vec`, in order. With a `max_size` in bytes, it
+    /// ends before the first entry with which the total length exceeds `max_size`, unless no entry before it
+    /// has any bytes. So at least the first entry is appended.
     ///
     /// # Errors
     ///
-    /// If the range isn't empty: `EntryNotFound` without entries, `EntryCompacted` if `begin` is below the
-    /// first entry, `EntryNotFound` if `end` is above the end of the entries; otherwise `Memory` alone. `vec`
-    /// is unchanged then.
+    /// For a range that isn't empty: `EntryNotFound` if there are no entries; `EntryCompacted` if `begin` is
+    /// below the first entry; `EntryNotFound` if `end` is above the end of the entries; else `Memory` alone.
+    /// `vec` is unchanged then.
     pub fn fetch_entries_to(
         &self,
         begin: u64,
@@ -59,7 +59,7 @@ impl MemTable {
     }
 
     /// Appends entries whose place is in the append queue to `vec`: from the first such entry on, as long as
-    /// their files are numbered at or below `gate`.
+    /// the numbers of their files are at most `gate`.
     ///
     /// # Errors
     ///
@@ -73,7 +73,7 @@ impl MemTable {
         self.entries.fetch_before(gate, vec)
     }
 
-    /// Appends the entries whose place is in the rewrite queue to `vec`.
+    /// Appends all entries whose place is in the rewrite queue to `vec`, in order.
     ///
     /// # Errors
     ///
@@ -87,8 +87,8 @@ impl MemTable {
         self.entries.fetch_rewritten(vec)
     }
 
-    /// Appends copies of the keys and values whose file is in the append queue and numbered at or below
-    /// `gate` to `vec`, in the order of the keys.
+    /// Appends copies of the keys and values in files of the append queue with numbers at most `gate` to
+    /// `vec`, in the order of the keys.
     ///
     /// # Errors
     ///
@@ -103,7 +103,7 @@ impl MemTable {
         Ok(())
     }
 
-    /// Appends copies of the keys and values whose file is in the rewrite queue to `vec`, in the order of the
+    /// Appends copies of the keys and values in files of the rewrite queue to `vec`, in the order of the
     /// keys.
     ///
     /// # Errors
@@ -119,7 +119,7 @@ impl MemTable {
         Ok(())
     }
 
-    /// Returns copies of the keys of this table that `mark` deletes, in the order of their bytes.
+    /// Returns copies of the keys of this table that the steps of `mark` delete, in the order of their bytes.
     ///
     /// # Errors
     ///
@@ -132,9 +132,10 @@ impl MemTable {
         self.keys.keys_in(mark.deleted())
     }
 
-    /// Calls `f` with each key that is at or above `start` and below `end`, and its value, until `f` returns
-    /// false: in the order of the keys or, if `reverse`, from the last one back. A bound that is `None`
-    /// leaves its side open. If `start` is above `end`, `f` isn't called. It always returns `Ok`.
+    /// Calls `f` with each key that is at least `start` and below `end`, and its value, until `f` returns
+    /// false. Keys come in the order of their bytes or, with `reverse`, in the opposite order. A bound that
+    /// is `None` doesn't limit its side. If `start` is above `end`, `f` isn't called. The result is always
+    /// `Ok`; it is a `Result` since raft-engine's is.
     pub fn scan<F: FnMut(&[u8], &[u8]) -> bool>(
         &self,
         start: Option<&[u8]>,
@@ -152,14 +153,15 @@ impl MemTable {
         Ok(())
     }
 
-    /// Returns the lower one of two file numbers: that of the first entry in `queue`, and the lowest one of a
-    /// key value in `queue`. In the rewrite queue, one at or below the last file of the region's atomic group
-    /// is lowered to at most the group's first file. Returns `None` if the table has no record in `queue`.
+    /// Returns the lowest file number that the table still needs in `queue`: the lesser of that of the first
+    /// entry in `queue` and the lowest one of its key values there. In the rewrite queue, a number that is at
+    /// most that of the last file of the region's atomic group is lowered to that of the group's first file,
+    /// if that is lower. Returns `None` if the table has no record in `queue`.
     ///
-    /// No record of a recovered table is in a file below it. In a table that is kept, that holds as long as
-    /// the files of the entries in the queue don't fall from one index to the next. They fall if rewritten
-    /// entries are rewritten again from the first one on, but not up to the last one: the others are in older
-    /// files. So these are rewritten all at once, in one batch or one whole group.
+    /// No record of a recovered table is in a file with a lower number. In a table that was changed since,
+    /// that holds as long as the file numbers of its entries in the queue don't fall from one index to the
+    /// next. They would fall if rewritten entries were rewritten again from the first one on, but not all of
+    /// them. So rewrite all of a region's rewritten entries at once, in one batch or one atomic group.
     pub fn min_file_seq(&self, queue: LogQueue) -> Option<FileSeq>
         ensures { result ≡ least_of queue self.now }
     {
@@ -173,8 +175,8 @@ impl MemTable {
         }
     }
 
-    /// Tests whether there are at least `count` entries, and the file number of the one at position `count -
-    /// 1` is at or below that of `gate`, whatever its queue. `count` is at least 1.
+    /// Tests whether there are at least `count` entries, and the number of the file of the `count`th one is
+    /// at most that of `gate`; queues aren't compared. `count` must be at least 1.
     pub fn has_at_least_some_entries_before(&self, gate: FileId, count: usize) -> bool
         requires { 0 < count }
         ensures { result
@@ -186,8 +188,8 @@ impl MemTable {
     }
 }
 
-/// Lowers `seq` to at most the first file of `atomic_group` if it is at or below the group's last file.
-/// Returns `None` if `seq` is `None`.
+/// Returns `seq`, lowered to the first file of `atomic_group` if it is at most the group's last file. Returns
+/// `None` if `seq` is `None`.
 fn lowered(atomic_group: Option<(FileSeq, FileSeq)>, seq: Option<FileSeq>) -> Option<FileSeq>
     ensures { result ≡ at_most_group_seq atomic_group seq }
 {
@@ -198,7 +200,7 @@ fn lowered(atomic_group: Option<(FileSeq, FileSeq)>, seq: Option<FileSeq>) -> Op
 }
 
 /// States that a run is refused with `Full` only if the live count of its queue and the length of the run
-/// together pass 2^64 - 1.
+/// together are more than 2^64 - 1. This is a law: it computes nothing.
 #[tactic(auto, using(crate::proofs::RunCounts::append_full, crate::proofs::RunCounts::replay_full))]
 pub fn full_runs_pass_the_limit()
     ensures append { (q : LogQueue) (counts : Counts) (es run : List EntryIndex)
@@ -209,8 +211,9 @@ pub fn full_runs_pass_the_limit()
         → 2 ^ 64 ≤ live q counts + length run }
 {}
 
-/// States that a table has as many entries as its end is above its first index. Each entry is in one of both
-/// queues, and the records in both queues together are all entries and key values.
+/// States that a table has as many entries as the end of its entries is above the first index, that each
+/// entry is in one of the two queues, and that the records in the two queues together are all entries and key
+/// values. This is a law: it computes nothing.
 #[tactic(auto, using(crate::proofs::SizeLemmas::length_by_ends, crate::proofs::SizeLemmas::entries_of_both, crate::proofs::SizeLemmas::records_of_both))]
 pub fn tables_add_up()
     ensures length { (es : List EntryIndex) → AreTableEntries es → 0 < length es →
@@ -222,9 +225,9 @@ pub fn tables_add_up()
 {}
 
 /// States what a fetch returns. A range that is found has every index from its begin to below its end once,
-/// in order. Without a limit a fetch returns all of it. With a limit it returns the first entry, and then as
-/// many as have at most that many bytes together; only entries without bytes may come before one that passes
-/// the limit alone. A limit leaves one answer.
+/// in order. Without a limit all of it is returned. With a limit, the first entry is returned, and then as
+/// many as have at most that many bytes together; only entries without bytes come before one that exceeds the
+/// limit alone. A limit allows exactly one answer. This is a law: it computes nothing.
 #[tactic(auto, using(crate::proofs::SizeLemmas::between_by_index, crate::proofs::SizeLemmas::found_is_whole, crate::proofs::SizeLemmas::unlimited_is_all, crate::proofs::SizeLemmas::first_is_fetched, crate::proofs::SizeLemmas::limit_is_kept, crate::proofs::SizeLemmas::one_limit_count))]
 pub fn fetches_answer_ranges()
     ensures between { (begin end i : ℕ) (es : List EntryIndex)
@@ -244,8 +247,8 @@ pub fn fetches_answer_ranges()
         → IsLimitCount limit es n → m ≡ n }
 {}
 
-/// States that a scan visits exactly the pairs whose key is at or above the first bound and below the second,
-/// in the order of the keys, or in the reversed order.
+/// States that a scan visits exactly the pairs whose key is at least the first bound and below the second
+/// one, in the order of the keys or in the opposite order. This is a law: it computes nothing.
 #[tactic(auto, using(crate::proofs::SizeLemmas::visited_are_pairs, crate::proofs::SizeLemmas::pairs_are_visited, crate::proofs::SizeLemmas::visits_rise))]
 pub fn scans_visit_pairs()
     ensures visited { (start end : Option (List ℕ)) (keys : Keys) →
@@ -261,8 +264,8 @@ pub fn scans_visit_pairs()
         → pairs_between start end true keys ≡ reverse (pairs_between start end false keys) }
 {}
 
-/// States that the least of some numbers is one of them, and none of them is below it. There is none only
-/// without numbers.
+/// States that the least of some numbers is one of them, and none of them is lower; there is no least one
+/// only if there are no numbers. This is a law: it computes nothing.
 pub fn least_is_lowest()
     ensures none { (ns : List ℕ) → least ns ≡ None → ns ≡ [] }
     ensures found { (ns : List ℕ) (n : ℕ) → least ns ≡ Some n → Contains ns n }

@@ -1,4 +1,4 @@
-//! Runs, as tables are given them, and laws of region marks.
+//! [`Run`]: entries that are put into a table; and laws of region marks.
 
 ghost use Rattle.std.specs.Prelude.{◌≡◌, ◌<◌, ℕ, List, [], ◌∷◌, Option, Some, None, false, ◌+◌, ◌≤◌, ◌++◌, length, MatchOption};
 ghost use Rattle.raft_table.specs.Common.{LogQueue, EntryIndex, Append, below, Table, Step, AreSteps, table_of, after, least, IsRun, Mark, table_over_older, Stands, joined_mark, mark_of, own_of, HoldsDeleted, IsExactMark, has_clean};
@@ -7,12 +7,13 @@ ghost use Rattle.std.specs.FinSet as finset;
 
 use raft_base::{EntryIndex, FileBlockHandle};
 
-/// A run of entries that a table is given.
+/// A run that is put into a table. Its entries have consecutive indexes, and places in one queue.
 #[derive(Clone, Copy)]
 pub enum Run<'a> {
-    /// These entries.
+    /// A list of entries, each with its own place.
     Entries(&'a [EntryIndex]),
-    /// The entries of one block, from an index on.
+    /// Entries of one entry block: an entry for each of `spans` (offset and length), all at the place
+    /// `handle`. The first has the index `first`.
     Block {
         first: u64,
         handle: FileBlockHandle,
@@ -21,7 +22,7 @@ pub enum Run<'a> {
 }
 
 impl Run<'_> {
-    /// Returns the index of the first entry, or `None` without entries.
+    /// Returns the index of the first entry, or `None` if there are no entries.
     pub(crate) fn first_index(&self) -> Option<u64>
         ensures { MatchOption result (run_shown self.now ≡ [])
             (λ i. (i ≡ start_of (run_shown self.now)) × (0 < length (run_shown self.now))) }
@@ -44,9 +45,9 @@ impl Run<'_> {
 }
 
 /// States that a region mark and an own table stand for steps on a region. Those of one step stand for it.
-/// Those of two neighbors, joined, stand for the steps of both. Where the join is refused, reading the steps
-/// of both in order is refused too. The own table is what reading the steps alone gives. The deleted keys of
-/// a mark are those that its steps delete, or none after a clean.
+/// Those of two neighbors, joined, stand for the steps of both; if the join is refused, reading all these
+/// steps in order is refused too. The own table is what reading the steps alone gives. The deleted keys of a
+/// mark are those that its steps delete, or none after a clean. This is a law: it computes nothing.
 pub fn marks_stand_for_steps()
     ensures one { (q : LogQueue) (id : ℕ) (s : Step) → IsStep s →
         Stands q id (mark_of s) (own_of id s) (s ∷ []) }
@@ -66,9 +67,9 @@ pub fn marks_stand_for_steps()
         → finset.len m.deleted ≤ finset.len (deleted_of finset.empty ss) }
 {}
 
-/// States that in the append queue a region mark holds what an overlay has to know of its steps: of one step,
-/// and of two neighbors, joined. So the overlay by the region mark is the one by the steps, and its entries
-/// are one run.
+/// States that in the append queue a region mark says what an overlay needs to know of its steps: a mark of
+/// one step, and one of two neighbors, joined. So the overlay by the mark is the overlay by the steps, and
+/// its entries are one run. This is a law: it computes nothing.
 pub fn overlays_by_marks()
     ensures one { (s : Step) → IsExactMark (mark_of s) (s ∷ []) }
     ensures joins { (id : ℕ) (m n : Mark) (t : Option Table) (ss rs : List Step) →
@@ -81,9 +82,9 @@ pub fn overlays_by_marks()
         → IsRun (overlay_under m (table_of id a) r).entries }
 {}
 
-/// States which rewritten entries stay in an overlay if no step truncates or cleans: of those that aren't
-/// compacted, all if there is no run, else those below the least start of a run, but only if they reach that
-/// start.
+/// States which rewritten entries stay in an overlay if no step truncates or cleans. Of those that aren't
+/// compacted, all stay if there is no run; else those below the lowest first index of a run stay, but only if
+/// they reach up to it. This is a law: it computes nothing.
 pub fn overlays_reach_without_truncations()
     ensures { (id : ℕ) (ss : List Step) (appended : Option Table) (es : List EntryIndex) →
         AreSteps ss

@@ -1,4 +1,4 @@
-//! Steps on a table.
+//! How the steps of read batches change a table.
 
 ghost use Rattle.std.specs.Prelude.{◌≡◌, ◌<◌, [], Some, false, if◌then◌else◌, ◌≢◌, MatchBool, OnOk, OnErr, IfErr};
 ghost use Rattle.raft_table.specs.Common.{LogQueue, Append, Rewrite, Step, Error, with_added, file_at, other, step_shown, after_step, with_pair, with_pair_deleted, IsCounted, IsRecounted, IsStepOfQueue, LeavesTable, IsUnmixed};
@@ -10,13 +10,14 @@ use crate::step::Step;
 use raft_base::{Error, FileId, LogQueue, Result};
 
 impl MemTable {
-    /// Takes in a step that was read from `queue`, other than [`Step::Clean`], which leaves no table.
+    /// Makes the change of `step`, which was read from `queue`, and counts it. `step` must not be
+    /// [`Step::Clean`], which leaves no table.
     ///
     /// # Errors
     ///
-    /// For a run `InvalidArgument` if the table has records of the other queue, and the errors of
-    /// [`MemTable::replay_append`] or [`MemTable::replay_rewrite`]; for a put those of [`MemTable::put`].
-    /// Other steps aren't refused. The table and the counts are unchanged then.
+    /// For a run, `InvalidArgument` if the table has records of the other queue, and the errors of
+    /// [`MemTable::replay_append`] or [`MemTable::replay_rewrite`]. For a put, those of [`MemTable::put`].
+    /// Other steps aren't refused. The table and the counts are unchanged then, and `step` is dropped.
     pub fn take_step(&mut self, queue: LogQueue, step: Step, stats: &mut GlobalStats) -> Result<()>
         requires of_queue { IsStepOfQueue queue (step_shown step) }
         requires stays { LeavesTable (step_shown step) }
@@ -70,9 +71,9 @@ impl MemTable {
         }
     }
 
-    /// Puts copies of `key` and `value`, as [`MemTable::put`] does, if the table has entries. Returns whether
-    /// it did. It doesn't either if `put` would be refused, or there is no memory for the copies; the table
-    /// and the counts are unchanged then.
+    /// Gives a copy of `key` a copy of `value`, as [`MemTable::put`] does, if the table has entries. Returns
+    /// whether it did. It returns false if the table has no entries, `put` would be refused, or there is no
+    /// memory for the copies; the table and the counts are unchanged then.
     #[doc(hidden)]
     pub fn try_put(
         &mut self,

@@ -1,4 +1,8 @@
-//! Deques of blocks and of their first indexes.
+//! How the blocks of a table's entries are kept, found and replaced.
+//!
+//! The *first indexes* of a table are those of the first entry of each block, kept in a deque of their own
+//! (`Starts`), or not at all if there are few blocks. The *spot* of an entry is the number of its block and
+//! its position in it.
 
 ghost use Rattle.std.specs.Prelude.{◌≡◌, ◌≢◌, ◌+◌, ◌⊎◌, ◌-◌, ◌≤◌, ◌<◌, ℕ, List, [], ◌∷◌, ◌++◌, length, take, drop, slice_index_or, ◌^◌, MatchBool, OnOk, OnErr, IfOk};
 ghost use Rattle.raft_table.specs.Common.{deque_len, deque_capacity, BlockSpans, block_spans, shown, count, starts_of, AreStarts, first_of_last, joined_blocks, seam, IsIndexOf, IsAt};
@@ -10,13 +14,12 @@ use std::alloc::Global;
 use std::collections::VecDeque;
 use std::mem::swap;
 
-/// Entries in at most this many blocks needn't keep the blocks' first indexes: to find an entry, the blocks
-/// are walked.
+/// Entries in at most this many blocks needn't keep first indexes: the blocks are walked to find an entry.
 pub(super) const FEW: usize = 3;
 
-/// Returns the spot of the entry at position `at`, from 0, among the entries of `blocks`. If first indexes
-/// are kept in `starts`, the block is found by them, with `first`, the index of the first entry, and `len`,
-/// the number of all entries, for a good guess ([`find`]); else the blocks are walked.
+/// Returns the spot of the entry at position `at` of the entries, counted from 0. If `starts` has the first
+/// indexes, the block is found by them ([`find`]); else the blocks are walked. `first` is the index of the
+/// first entry, and `len` the number of all entries; they are for a good guess of the block.
 pub(super) fn spot_of(blocks: &Blocks, starts: &Starts, first: u64, len: usize, at: usize) -> Spot
     requires starts { AreStarts first (shown blocks.now) starts.now.items }
     requires within { (at < count (shown blocks.now))
@@ -43,9 +46,9 @@ fn spot_among(blocks: &Blocks, behind: usize) -> Spot
     (nth, rest)
 }
 
-/// Returns the spot of the entry at `index`. Its block is guessed, as if all blocks were equally long, from
-/// the first index `first` and the number `len` of entries; if the guess is wrong, `search` finds it. Wrong
-/// numbers make a wrong guess, never a wrong spot.
+/// Returns the spot of the entry at `index`. Its block is guessed from the index of the first entry, `first`,
+/// and the number of entries, `len`, as if all blocks were equally long; a wrong guess is found out, and the
+/// block searched ([`search`]). Wrong numbers make a wrong guess, never a wrong spot.
 pub(super) fn find(starts: &Starts, first: u64, len: usize, index: u64) -> Spot
     requires { IsIndexOf starts.now.items index }
     ensures { (i : ℕ) (bs : List BlockSpans) → starts.now.items ≡ starts_of i bs → i ≤ index →
@@ -61,7 +64,7 @@ pub(super) fn find(starts: &Starts, first: u64, len: usize, index: u64) -> Spot
     search(starts, index)
 }
 
-/// Returns the spot of the entry at `index`, by a binary search in the first indexes of the blocks.
+/// Returns the spot of the entry at `index`, by a binary search in the first indexes.
 pub(super) fn search(starts: &Starts, index: u64) -> Spot
     requires { IsIndexOf starts.now.items index }
     ensures { (i : ℕ) (bs : List BlockSpans) → starts.now.items ≡ starts_of i bs → i ≤ index →
@@ -77,7 +80,7 @@ pub(super) fn search(starts: &Starts, index: u64) -> Spot
     (nth, (index - start) as usize)
 }
 
-/// Returns where the first `kept` entries end: how many blocks hold them, and how many of them are in the
+/// Returns where the first `kept` entries end: in how many blocks they are, and how many of them are in the
 /// last of these blocks. Both are 0 if `kept` is 0. `first` is the index of the first entry.
 pub(super) fn spot_behind(starts: &Starts, first: u64, kept: usize) -> Spot
     requires bounded { first + kept < 2 ^ 64 }
@@ -94,7 +97,7 @@ pub(super) fn spot_behind(starts: &Starts, first: u64, kept: usize) -> Spot
     (nth + 1, last + 1)
 }
 
-/// Copies the spans of a block that come after its first `dropped` ones.
+/// Returns a copy of `spans` without the first `dropped` ones.
 ///
 /// # Errors
 ///
@@ -110,7 +113,7 @@ pub(super) fn spans_behind(alloc: Global, spans: &Spans, dropped: usize) -> Allo
     Ok(behind)
 }
 
-/// Tests whether the places `a` and `b` are equal: file, offset and length.
+/// Tests whether the places `a` and `b` have the same file, offset and length.
 #[inline(always)]
 pub(super) fn is_same(a: &FileBlockHandle, b: &FileBlockHandle) -> bool
     ensures { MatchBool result (a.now ≡ b.now) (a.now ≢ b.now) }
@@ -118,10 +121,10 @@ pub(super) fn is_same(a: &FileBlockHandle, b: &FileBlockHandle) -> bool
     a == b
 }
 
-/// Puts the blocks of `more` between the first `spot.0` blocks, the last of which keeps its first `spot.1`
-/// spans, and those from position `rest` on. Puts the first indexes of `more_starts` likewise, and leaves
-/// both empty. If the last block that is kept and the first one of `more` have the same place, they become
-/// one block.
+/// Replaces the blocks from `spot` up to position `rest` by those of `more`: the first `spot.0` blocks stay,
+/// the last of them with its first `spot.1` spans, and so do the blocks from position `rest` on. Does the
+/// same with the first indexes, in `starts` and `more_starts`, and leaves `more` and `more_starts` empty. If
+/// the last block before those of `more` has the same place as the first of them, the two become one block.
 ///
 /// # Errors
 ///
@@ -160,9 +163,8 @@ pub(super) fn put_blocks(
     Ok(())
 }
 
-/// Puts the blocks of `more` behind the first `spot.0` blocks, the last of which keeps its first `spot.1`
-/// spans, in place of all others, and leaves `more` empty: [`put_blocks`] for entries of few blocks, without
-/// first indexes.
+/// Replaces the blocks from `spot` on by those of `more`, as [`put_blocks`] does, without first indexes, and
+/// leaves `more` empty: the first `spot.0` blocks stay, the last of them with its first `spot.1` spans.
 ///
 /// # Errors
 ///
@@ -186,8 +188,8 @@ pub(super) fn put_few_blocks(blocks: &mut Blocks, spot: Spot, more: &mut Blocks)
     Ok(())
 }
 
-/// Makes room for the items of both deques in one of them, the longer one unless `deque` has the room
-/// already, so that [`splice`] can't fail.
+/// Makes room for the items of both deques in one of them, so that [`splice`] can't fail: in `deque` if it
+/// has the room already or isn't shorter, else in `more`.
 ///
 /// # Errors
 ///
@@ -206,9 +208,10 @@ fn make_room<T>(deque: &mut VecDeque<T>, more: &mut VecDeque<T>) -> AllocResult<
     deque.reserve(more.len())
 }
 
-/// Joins two lists of blocks at their seam, the first half of [`put_blocks`]: cuts the last of the first
-/// `spot.0` blocks to its first `spot.1` spans. If the first block of `more` has the same place, its spans
-/// are moved behind those, and it is removed from `more`, and its first index from `more_starts`.
+/// Joins two lists of blocks where they meet, as the first half of [`put_blocks`]. The last of the first
+/// `spot.0` blocks keeps its first `spot.1` spans. If the first block of `more` has the same place, its spans
+/// are moved to the end of those, and it is removed from `more`, and its first index from `more_starts`.
+/// Without such a block (`spot.0` is 0) nothing changes.
 ///
 /// # Errors
 ///
@@ -283,8 +286,8 @@ pub(super) fn keep_starts(blocks: &Blocks, starts: &mut Starts, first: u64) -> A
     Ok(())
 }
 
-/// Appends the first index of each block to `starts`, which is empty and has room for them: the loop of
-/// [`keep_starts`].
+/// Appends the first index of each block to `starts`, which is empty and has room for them. `first` is the
+/// index of the first entry.
 #[inline(never)]
 fn push_starts(blocks: &Blocks, starts: &mut Starts, first: u64)
     requires none { starts.old.items ≡ [] }
@@ -299,12 +302,12 @@ fn push_starts(blocks: &Blocks, starts: &mut Starts, first: u64)
     }
 }
 
-/// Appends `block`, and `index`, the index of its first entry, to `starts`. If the last block has the same
-/// place, the spans are appended to that one, and `starts` stays as it is.
+/// Appends `block` to `blocks`, and `index`, the index of its first entry, to `starts`. If the last block has
+/// the same place, only the spans are appended, to that block.
 ///
 /// # Errors
 ///
-/// `AllocError` if there is no memory for it. The items of both deques are unchanged then, and the block is
+/// `AllocError` if there is no memory for it. The items of both deques are unchanged then, and `block` is
 /// dropped.
 #[inline(always)]
 pub(super) fn push_with_start(
@@ -330,11 +333,12 @@ pub(super) fn push_with_start(
     Ok(())
 }
 
-/// Appends `block`. If the last block has the same place, the spans are appended to that one instead.
+/// Appends `block` to `blocks`. If the last block has the same place, only the spans are appended, to that
+/// block.
 ///
 /// # Errors
 ///
-/// `AllocError` if there is no memory for it. The blocks are unchanged then, and the new one is dropped.
+/// `AllocError` if there is no memory for it. `blocks` is unchanged then, and `block` is dropped.
 #[inline(always)]
 pub(super) fn push_block(blocks: &mut Blocks, mut block: Block) -> AllocResult<()>
     ensures ok { OnOk result (shown blocks.new
@@ -356,11 +360,11 @@ pub(super) fn push_block(blocks: &mut Blocks, mut block: Block) -> AllocResult<(
     Ok(())
 }
 
-/// Keeps the first `kept` spans of `block`, and moves the spans of `more` behind them.
+/// Keeps the first `kept` spans of `block`, and moves the spans of `more` to their end.
 ///
 /// # Errors
 ///
-/// `AllocError` if there is no memory for them. The block and `more` are unchanged then.
+/// `AllocError` if there is no memory for them. `block` and `more` are unchanged then.
 #[inline(never)]
 fn lengthen(block: &mut Block, kept: usize, more: &mut Spans) -> AllocResult<()>
     requires { kept ≤ length block.old.spans.items }
@@ -379,9 +383,9 @@ fn lengthen(block: &mut Block, kept: usize, more: &mut Spans) -> AllocResult<()>
     Ok(())
 }
 
-/// Replaces the items of `deque` from `kept` up to `rest` by those of `more`, and leaves `more` empty. If
-/// there are as many as they replace, they are put at the same positions. Otherwise one of the deques has
-/// room for all, and all end up in its memory.
+/// Replaces the items of `deque` from position `kept` up to position `rest` by those of `more`, and leaves
+/// `more` empty. If both are equally many, the new ones are put at the positions of the old ones. Otherwise
+/// one of the deques must have room for all items ([`make_room`]), and `deque` then has its memory.
 fn splice<T: Drop>(deque: &mut VecDeque<T>, kept: usize, rest: usize, more: &mut VecDeque<T>)
     requires order { kept ≤ rest }
     requires within { rest ≤ deque_len deque.old }
@@ -409,7 +413,8 @@ fn splice<T: Drop>(deque: &mut VecDeque<T>, kept: usize, rest: usize, more: &mut
     swap(deque, more);
 }
 
-/// Puts the items of `more` over as many items of `deque`, from position `at` on, and leaves `more` empty.
+/// Puts the items of `more` in place of as many items of `deque`, from position `at` on, and leaves `more`
+/// empty.
 fn replace<T: Drop>(deque: &mut VecDeque<T>, at: usize, more: &mut VecDeque<T>)
     requires within { at + deque_len more.old ≤ deque_len deque.old }
     ensures items { deque.new.items ≡ take at deque.old.items ++ more.old.items
@@ -423,7 +428,7 @@ fn replace<T: Drop>(deque: &mut VecDeque<T>, at: usize, more: &mut VecDeque<T>)
     }
 }
 
-/// Moves the items of `more` behind those of `deque`, which has room for them. So it needs no memory.
+/// Moves the items of `more` to the end of `deque`, which has room for them, so that it can't fail.
 fn append<T>(deque: &mut VecDeque<T>, more: &mut VecDeque<T>)
     requires room { deque_len deque.old + deque_len more.old ≤ deque_capacity deque.old }
     ensures items { deque.new.items ≡ deque.old.items ++ more.old.items }

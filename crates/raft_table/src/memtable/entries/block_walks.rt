@@ -1,4 +1,7 @@
-//! Walks over entries in order, block by block.
+//! Walks over the entries of some blocks, in order.
+//!
+//! Each walk goes over the entries at the positions `start..end` of all entries; `spot` is the spot of the
+//! entry at `start`: the number of its block, and its position in it.
 
 ghost use Rattle.std.specs.Prelude.{◌≡◌, ◌+◌, ◌-◌, ◌≤◌, ◌<◌, ◌^◌, ◌++◌, ℕ, List, map, take, drop, slice_index_or, length, Some};
 ghost use Rattle.raft_table.specs.Common.{prefix_len, vec_len, vec_capacity, EntryIndex, entries_of_block, BlockSpans, block_spans, shown, entries_in_blocks, AreDistinctBlocks, count, without_span, with_spans, IsAt, IsPart, IsLimitCount};
@@ -9,10 +12,11 @@ use crate::memtable::entries::{Blocks, Spot};
 use raft_base::{EntryIndex, FileBlockHandle, FileSeq, LogQueue};
 
 /// Appends the entries at the positions `start..end` to `vec`, which has room for them. `first` is the index
-/// at position 0, and `spot` the spot of `start`.
+/// of the entry at position 0, and `spot` the spot of that at `start`.
 ///
-/// The entries are appended first, and a second walk sets their spans: the spans of each block lie apart, and
-/// a walk that does little else can have those of several blocks brought from memory at once.
+/// The entries are appended without their spans first, and a second walk sets these. The spans of each block
+/// are elsewhere in memory, and a walk that does little else can have those of several blocks fetched at
+/// once.
 pub(super) fn push_entries(
     vec: &mut Vec<EntryIndex>,
     first: u64,
@@ -32,7 +36,7 @@ pub(super) fn push_entries(
     set_spans(vec, len, blocks, spot, start, end);
 }
 
-/// Appends the entries at the positions `start..end`, with offset and length 0: the first walk of
+/// Appends the entries at the positions `start..end` to `vec`, with offset and length 0: the first walk of
 /// [`push_entries`].
 fn push_without_spans(
     vec: &mut Vec<EntryIndex>,
@@ -60,8 +64,8 @@ fn push_without_spans(
     }
 }
 
-/// Appends `count` entries of `block`, from its span at `at` on, with offset and length 0. Their indexes
-/// begin at `first`.
+/// Appends `count` entries of `block`, from position `at` in it on, to `vec`, with offset and length 0. The
+/// first has the index `first`.
 fn push_without_spans_of(
     vec: &mut Vec<EntryIndex>,
     first: u64,
@@ -89,8 +93,8 @@ fn push_without_spans_of(
     }
 }
 
-/// Sets the offsets and lengths of the entries that [`push_without_spans`] appended behind the first `len`:
-/// the second walk of [`push_entries`].
+/// Sets the offsets and lengths of the entries that [`push_without_spans`] appended after the first `len`
+/// entries of `vec`: the second walk of [`push_entries`].
 fn set_spans(
     vec: &mut Vec<EntryIndex>,
     len: usize,
@@ -119,8 +123,8 @@ fn set_spans(
     }
 }
 
-/// Sets the offsets and lengths of the `count` entries from position `len` of `vec` on, to the spans of
-/// `block` from the one at `at` on.
+/// Sets the offsets and lengths of `count` entries of `vec`, from position `len` on, to the spans of `block`
+/// from position `at` in it on.
 fn set_spans_of(vec: &mut Vec<EntryIndex>, len: usize, block: &Block, at: usize, count: usize)
     requires within { at + count ≤ length block.now.spans.items }
     requires there { len + count ≤ length vec.old.items }
@@ -137,9 +141,9 @@ fn set_spans_of(vec: &mut Vec<EntryIndex>, len: usize, block: &Block, at: usize,
     }
 }
 
-/// Returns how many entries a rewriting moves, of those at the positions `start..end`: those before the first
-/// one that it may not move ([`is_movable`]). `spot` is the spot of `start`. The entries of a block have one
-/// place, so only blocks are tested.
+/// Returns how many of the entries at the positions `start..end` come before the first one that a rewriting
+/// with this `gate` may not move ([`is_movable`]). `spot` is the spot of the entry at `start`. The entries of
+/// a block have one place, so it looks at each block once.
 pub(super) fn movable_from(
     blocks: &Blocks,
     spot: Spot,
@@ -166,7 +170,7 @@ pub(super) fn movable_from(
 }
 
 /// Tests whether a rewriting may move an entry away from the place `handle`: with a `gate`, if the number of
-/// its file is at or below it; without one, if the place is in the rewrite queue.
+/// its file is at most `gate`; without one, if it is in the rewrite queue.
 #[tactic(auto, unfolding(crate::specs::TableEntries::is_placed_in, crate::specs::Rewriting::is_placed_before))]
 fn is_movable(handle: &FileBlockHandle, gate: Option<FileSeq>) -> bool
     ensures { (e : EntryIndex) → e.entries ≡ Some handle.now → result ≡ may_move gate e }
@@ -177,10 +181,9 @@ fn is_movable(handle: &FileBlockHandle, gate: Option<FileSeq>) -> bool
     }
 }
 
-/// Returns how many of the entries at the positions `start..end` a fetch returns, whose maximal size is
-/// `limit` bytes: it stops before the first entry with which the sum of lengths passes `limit` and exceeds
-/// that entry's own length, so that entries come even if the first one alone is too long. `spot` is the spot
-/// of `start`.
+/// Returns how many of the entries at the positions `start..end` a fetch with this `limit` in bytes returns:
+/// those before the first one with which the total length exceeds `limit`, unless no entry before that one
+/// has any bytes. `spot` is the spot of the entry at `start`.
 pub(super) fn count_from(
     blocks: &Blocks,
     mut spot: Spot,

@@ -1,4 +1,4 @@
-//! Entries that go, from the front or from the back.
+//! How the first or the last entries of a table are dropped.
 
 ghost use Rattle.std.specs.Prelude.{◌≡◌, ◌≢◌, ◌+◌, ◌≤◌, ◌<◌, [], length, take, drop, set, slice_index_or};
 ghost use Rattle.raft_table.specs.Common.{Block, shown, first_of_last, without_first_of_first, end_of, below, from, AreCounted, AreRecounted, counts_without, entries_within};
@@ -11,8 +11,7 @@ use raft_base::LogQueue;
 use std::collections::VecDeque;
 
 impl Entries {
-    /// Drops the entries below `index`, and subtracts them from the live counts. Returns how many were
-    /// dropped.
+    /// Drops the entries below `index`, subtracts them from the live counts, and returns how many it dropped.
     pub fn compact_to(&mut self, index: u64, stats: &mut GlobalStats) -> u64
         requires { AreCounted self.old stats.old }
         ensures entries { self.new ≡ from index self.old }
@@ -31,7 +30,7 @@ impl Entries {
         count as u64
     }
 
-    /// Drops the entries at or above `index`, and subtracts them from the live counts. Returns how many were
+    /// Drops the entries at or above `index`, subtracts them from the live counts, and returns how many it
     /// dropped.
     pub fn truncate_from(&mut self, index: u64, stats: &mut GlobalStats) -> u64
         requires { AreCounted self.old stats.old }
@@ -52,8 +51,8 @@ impl Entries {
         dropped as u64
     }
 
-    /// Drops the entries below `index` and, if there is a `cut`, those at or above it, and subtracts them
-    /// from the live counts. Joins of tables use it for what newer steps took away.
+    /// Drops the entries below `index` and, with a `cut`, those at or above it, and subtracts them from the
+    /// live counts. Joins of tables use it for what newer steps took away.
     pub fn keep_within(&mut self, index: u64, cut: Option<u64>, stats: &mut GlobalStats)
         requires { AreCounted self.old stats.old }
         ensures entries { self.new ≡ entries_within index cut self.old }
@@ -66,7 +65,7 @@ impl Entries {
         self.truncate_from(cut, stats);
     }
 
-    /// Returns the index after the last entry, or 0 if there is no entry.
+    /// Returns the index after that of the last entry, or 0 if there are no entries.
     pub fn end(&self) -> u64
         ensures { result ≡ end_of self.now }
     {
@@ -77,8 +76,8 @@ impl Entries {
         }
     }
 
-    /// Returns the index after the last of the entries that are at or above `index` and, if there is a `cut`,
-    /// below it. Returns 0 if there are none.
+    /// Returns the index after that of the last entry at or above `index` and, with a `cut`, below it.
+    /// Returns 0 if there is no such entry.
     pub fn end_within(&self, index: u64, cut: Option<u64>) -> u64
         ensures { result ≡ end_of (entries_within index cut self.now) }
     {
@@ -107,7 +106,7 @@ impl Entries {
         self.rewritten -= self.rewritten.min(count);
     }
 
-    /// Drops all but the first `count` entries. The live counts are left to the caller.
+    /// Drops all entries but the first `count`. The live counts are left to the caller.
     fn keep_front(&mut self, count: usize)
         requires { count ≤ length self.old }
         ensures { self.new ≡ take count self.old }
@@ -154,8 +153,8 @@ fn drop_front_blocks(blocks: &mut Blocks, nth: usize, dropped: usize)
     drop_first(&mut blocks[0].spans, dropped);
 }
 
-/// Drops the first indexes of the blocks before the one at position `nth`, whose own first index becomes
-/// `index`. If `starts` is empty, since first indexes aren't kept, it stays so.
+/// Drops the first indexes of the blocks before the one at position `nth`, and sets that block's first index
+/// to `index`. If `starts` is empty, since first indexes aren't kept, it stays empty.
 fn drop_front_starts(starts: &mut Starts, nth: usize, index: u64)
     requires { starts.old.items ≢ [] → nth < length starts.old.items }
     ensures none { starts.old.items ≡ [] → starts.new.items ≡ [] }
@@ -169,7 +168,7 @@ fn drop_front_starts(starts: &mut Starts, nth: usize, index: u64)
     starts[0] = index;
 }
 
-/// Drops the first `count` items of `deque`.
+/// Drops the first `count` items of `deque`, which has as many.
 fn drop_first<T: Drop>(deque: &mut VecDeque<T>, count: usize)
     requires { count ≤ length deque.old.items }
     ensures { deque.new.items ≡ drop count deque.old.items }

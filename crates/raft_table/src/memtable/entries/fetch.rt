@@ -1,4 +1,4 @@
-//! Entries handed out of a table.
+//! How entries are fetched from a table, and how many of them a fetch or a rewriting takes.
 
 ghost use Rattle.std.specs.Prelude.{◌≡◌, ◌+◌, ◌-◌, ◌≤◌, ◌<◌, ◌++◌, take, drop, length, OnOk, OnErr, IfErr};
 ghost use Rattle.raft_table.specs.Common.{prefix_len, slice_get, Append, Rewrite, placed_in, Fetches, IsFetchFault, IsLimitCount, range_answer, appended_before, entry_seq, first_entry_seq, may_move};
@@ -9,15 +9,15 @@ use crate::memtable::entries::block_walks::{count_from, movable_from, push_entri
 use raft_base::{EntryIndex, Error, FileSeq, LogQueue, Result};
 
 impl Entries {
-    /// Appends the entries at the indexes `begin..end` to `vec`. With a `limit`, in bytes, it stops before
-    /// the first entry with which the sum of their lengths passes the limit and exceeds that entry's own
-    /// length.
+    /// Appends the entries with indexes in `begin..end` to `vec`, in order. With a `limit` in bytes, it ends
+    /// before the first entry with which the total length exceeds `limit`, unless no entry before it has any
+    /// bytes.
     ///
     /// # Errors
     ///
-    /// If the range isn't empty: `EntryNotFound` if there are no entries or `end` is above their end,
-    /// `EntryCompacted` if `begin` is below the first entry; otherwise `Memory` alone. `vec` is unchanged
-    /// then.
+    /// For a range that isn't empty: `EntryNotFound` if there are no entries; `EntryCompacted` if `begin` is
+    /// below the first entry; `EntryNotFound` if `end` is above the end of the entries; else `Memory` alone.
+    /// `vec` is unchanged then.
     pub fn fetch_to(
         &self,
         begin: u64,
@@ -48,7 +48,7 @@ impl Entries {
         self.extend(vec, start, start + count)
     }
 
-    /// Appends all entries whose place is in the rewrite queue to `vec`.
+    /// Appends all entries whose place is in the rewrite queue to `vec`, in order.
     ///
     /// # Errors
     ///
@@ -61,8 +61,8 @@ impl Entries {
         self.extend(vec, 0, self.rewritten)
     }
 
-    /// Appends entries whose place is in the append queue to `vec`: from the first such entry on, as long as
-    /// file numbers are at or below `gate`.
+    /// Appends entries whose place is in the append queue to `vec`, from the first such entry on, as long as
+    /// the numbers of their files are at most `gate`.
     ///
     /// # Errors
     ///
@@ -77,8 +77,8 @@ impl Entries {
         self.extend(vec, start, start + count)
     }
 
-    /// Returns the file number of the entry at position `at`, from 0, or `None` if there are no more than
-    /// `at` entries.
+    /// Returns the number of the file of the entry at position `at`, counted from 0, or `None` if there are
+    /// no more than `at` entries.
     pub fn seq_at(&self, at: usize) -> Option<FileSeq>
         ensures { result ≡ entry_seq (slice_get self.now at) }
     {
@@ -89,7 +89,8 @@ impl Entries {
         Some(self.blocks[nth].handle.id.seq)
     }
 
-    /// Returns the file number of the first entry whose place is in `queue`, or `None` if there is none.
+    /// Returns the number of the file of the first entry whose place is in `queue`, or `None` if there is no
+    /// such entry.
     pub fn first_entry_seq_in(&self, queue: LogQueue) -> Option<FileSeq>
         ensures { result ≡ first_entry_seq queue self.now }
     {
@@ -101,7 +102,8 @@ impl Entries {
     }
 
     /// Returns how many of the entries at the positions `at..end` come before the first one that a rewriting
-    /// with this `gate` may not move.
+    /// with this `gate` may not move: one whose file number is above `gate` or, without a gate, one that
+    /// isn't rewritten already.
     pub(super) fn movable(&self, at: usize, end: usize, gate: Option<FileSeq>) -> usize
         requires order { at ≤ end }
         requires within { end ≤ length self.now }
@@ -114,8 +116,8 @@ impl Entries {
         movable_from(&self.blocks, spot, at, end, gate)
     }
 
-    /// Returns how many of the entries at the positions `start..end` a fetch with a maximal size of `limit`
-    /// bytes returns: all of them without a limit.
+    /// Returns how many of the entries at the positions `start..end` a fetch with this `limit` in bytes
+    /// returns ([`Entries::fetch_to`]): all of them without a limit.
     fn count_within(&self, start: usize, end: usize, limit: Option<usize>) -> usize
         requires order { start ≤ end }
         requires within { end ≤ length self.now }

@@ -1,4 +1,4 @@
-//! Places that move to the rewrite queue, or within it.
+//! Rewriting: how entries get new places in the rewrite queue.
 
 ghost use Rattle.std.specs.Prelude.{◌≡◌, ◌⊎◌, ◌+◌, ◌<◌, ◌≤◌, ◌^◌, ◌++◌, length, take, drop, MatchOption, OnOk, OnErr, IfErr, false};
 ghost use Rattle.raft_table.specs.Common.{prefix_len, live, RisesFrom, AreTableEntries, IsRunIn, start_of, placed_in, entry_count, AreCounted, AreRecounted, IsOverlap, AreDisjoint, may_move, is_misplaced, newly_rewritten, with_rewritten};
@@ -9,17 +9,17 @@ use crate::memtable::entries::{Entries, Overlap};
 use raft_base::{AllocResult, EntryIndex, Error, FileSeq, LogQueue, Result};
 
 impl Entries {
-    /// Gives entries the places of a run of the rewrite queue that has their indexes, from the first common
-    /// index up to the first entry that may not move: with a `gate`, entries in files numbered at or below it
-    /// may; without one, entries that are rewritten already. The whole run is counted as written to the
-    /// rewrite queue. What moved nothing of it, and the old places of what moved, are no longer live. A run
-    /// without entries changes nothing.
+    /// Moves entries to the places of `run`, a run of the rewrite queue: from the first index that both
+    /// share, up to the first entry that may not move. With a `gate`, an entry may move if the number of its
+    /// file is at most `gate`; without one, if it is rewritten already. The whole run is counted as written
+    /// to the rewrite queue. Entries of the run to which nothing moved, and the old places of those that
+    /// moved, are counted as no longer live. A run without entries changes nothing.
     ///
     /// # Errors
     ///
-    /// `Corruption` if the common indexes begin above the end of the rewritten entries or, with a gate, below
-    /// it; `Full` if the live records of the rewrite queue and the run together pass 2^64 - 1; `Memory`.
-    /// Entries and counts are unchanged then.
+    /// `Corruption` if there are appended entries below the first shared index or, with a `gate`, the entry
+    /// at that index is rewritten already; `Full` if the live records of the rewrite queue and the run
+    /// together would be more than 2^64 - 1; `Memory`. Entries and counts are unchanged then.
     pub fn rewrite(
         &mut self,
         run: &[EntryIndex],
@@ -53,8 +53,8 @@ impl Entries {
         self.move_places(overlap.at, places, gate, run.len(), stats)
     }
 
-    /// Returns where a run of `len` entries from index `start` on meets these entries, or `None` if no index
-    /// is in both.
+    /// Returns which indexes a run of `len` entries with the first index `start` shares with these entries,
+    /// or `None` if it shares none.
     fn overlap(&self, start: u64, len: usize) -> Option<Overlap>
         requires { start + len < 2 ^ 64 }
         ensures meets { MatchOption result
@@ -79,22 +79,23 @@ impl Entries {
         })
     }
 
-    /// Tests whether a rewriting may not begin at position `at` of the entries: if that is behind the end of
-    /// the rewritten ones or, with a `gate`, before it.
+    /// Tests whether a rewriting may not begin at position `at` of the entries: if appended entries come
+    /// before that position or, with a `gate`, the entry there is rewritten already.
     fn is_misplaced(&self, at: usize, gate: Option<FileSeq>) -> bool
         ensures { result ≡ is_misplaced gate at (entry_count Rewrite self.now) }
     {
         self.rewritten < at || gate.is_some() && at < self.rewritten
     }
 
-    /// Gives the entries from position `at` on these places, one each, up to the first entry that may not
-    /// move with this `gate`. Counts `written` records of the rewrite queue, the length of the whole run;
-    /// those that moved nothing, and the old places of what moved, are no longer live.
+    /// Moves the entries from position `at` on to the places of `places`, one each, up to the first entry
+    /// that may not move with this `gate`. Counts `written` records of the rewrite queue, the length of the
+    /// whole run that was written. Those to which nothing moved, and the old places of what moved, are
+    /// counted as no longer live.
     ///
     /// # Errors
     ///
-    /// `Full` if the live records of the rewrite queue and `written` together pass 2^64 - 1; `Memory`.
-    /// Entries and counts are unchanged then.
+    /// `Full` if the live records of the rewrite queue and `written` together would be more than 2^64 - 1;
+    /// `Memory`. Entries and counts are unchanged then.
     fn move_places(
         &mut self,
         at: usize,
@@ -129,7 +130,7 @@ impl Entries {
         Ok(())
     }
 
-    /// Replaces as many entries from position `at` on by those of `places`.
+    /// Replaces the entries from position `at` on by those of `places`, as many as there are.
     ///
     /// # Errors
     ///
@@ -153,9 +154,9 @@ impl Entries {
     }
 }
 
-/// Counts a rewriting: `written` records of the rewrite queue, to `moved` of which an entry moved, with a
-/// `gate` from the append queue, without one from an older place in the rewrite queue. Old places, and
-/// records to which nothing moved, are counted as no longer live.
+/// Counts a rewriting: `written` records of the rewrite queue, to `moved` of which an entry moved. With a
+/// `gate` these entries come from the append queue, without one from older places in the rewrite queue. Old
+/// places, and records to which nothing moved, are counted as no longer live.
 fn count_moved(gate: Option<FileSeq>, written: usize, moved: usize, stats: &mut GlobalStats)
     requires room { live Rewrite stats.old + written < 2 ^ 64 }
     requires moved { moved ≤ written }

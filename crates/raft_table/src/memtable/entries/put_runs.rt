@@ -1,4 +1,4 @@
-//! Runs that become entries, and entries after or between others.
+//! How runs are put into the blocks of a table's entries, without being counted.
 
 ghost use Rattle.std.specs.Prelude.{◌≢◌, MatchBool, ◌≡◌, ◌+◌, ◌≤◌, ◌<◌, ℕ, [], ◌++◌, length, take, drop, slice_index_or, Some, OnOk, OnErr, IfOk};
 ghost use Rattle.raft_table.specs.Common.{Rewrite, EntryIndex, entries_of_block, spans_of, run_shown, AreTableEntries, count_in};
@@ -16,7 +16,7 @@ use std::collections::VecDeque;
 use std::mem::swap;
 
 impl Entries {
-    /// Returns the entries of `run`, in blocks: neighbors with one place share a block.
+    /// Returns the entries of `run`, in blocks.
     ///
     /// # Errors
     ///
@@ -39,7 +39,8 @@ impl Entries {
         Ok(entries)
     }
 
-    /// Appends the entries of one block, whose indexes rise from `index` on: one for each of `spans`.
+    /// Appends the entries of one entry block, at the place `handle`: one for each of `spans`, the first with
+    /// the index `index`.
     ///
     /// # Errors
     ///
@@ -70,8 +71,8 @@ impl Entries {
         Ok(())
     }
 
-    /// Keeps the first `keep` entries, and puts `run` behind them, in place of the others. The live counts
-    /// are left to the caller.
+    /// Keeps the first `keep` entries, and puts `run` after them, in place of the others. The live counts are
+    /// left to the caller.
     ///
     /// # Errors
     ///
@@ -97,8 +98,8 @@ impl Entries {
         }
     }
 
-    /// Does what [`Entries::lay`] does with the entries of the list `run`. If they all have one place, no
-    /// list of blocks is made.
+    /// Keeps the first `keep` entries, and puts those of the list `run` after them, in place of the others.
+    /// If all of `run` has one place, it makes no list of blocks of it.
     ///
     /// # Errors
     ///
@@ -123,7 +124,8 @@ impl Entries {
         self.put_run(keep, &mut entries)
     }
 
-    /// Does what [`Entries::lay`] does with the entries of one block, whose indexes rise from `index` on.
+    /// Keeps the first `keep` entries, and puts those of one entry block, at the place `handle`, after them,
+    /// in place of the others: one for each of `spans`, the first with the index `index`.
     ///
     /// # Errors
     ///
@@ -152,7 +154,7 @@ impl Entries {
         self.put_run(keep, &mut run)
     }
 
-    /// Keeps the first `keep` entries, and moves those of `run` behind them, in place of the others. Leaves
+    /// Keeps the first `keep` entries, and moves those of `run` after them, in place of the others. Leaves
     /// `run` empty.
     ///
     /// # Errors
@@ -176,14 +178,14 @@ impl Entries {
         self.join(keep, run)
     }
 
-    /// Tests whether these entries and `run` have at most `FEW` blocks together, so that first indexes of
-    /// blocks needn't be kept.
+    /// Tests whether these entries and those of `run` have at most `FEW` blocks together, so that first
+    /// indexes of blocks needn't be kept.
     fn are_few_with(&self, run: &Entries) -> bool {
         self.blocks.len() <= FEW && run.blocks.len() <= FEW - self.blocks.len()
     }
 
-    /// Does what [`Entries::put_run`] does if blocks are few and some of these entries stay (`keep` is above
-    /// 0). First indexes of blocks are not kept.
+    /// Does what [`Entries::put_run`] does, if both have few blocks and some of these entries stay (`keep` is
+    /// above 0): moves the entries of `run` after the first `keep`. The first indexes of blocks aren't kept.
     ///
     /// # Errors
     ///
@@ -206,8 +208,8 @@ impl Entries {
         Ok(())
     }
 
-    /// Does what [`Entries::put_run`] does if some of these entries stay (`keep` is above 0), and keeps the
-    /// first indexes of blocks.
+    /// Does what [`Entries::put_run`] does, if some of these entries stay (`keep` is above 0): moves the
+    /// entries of `run` after the first `keep`. The first indexes of blocks are kept.
     ///
     /// # Errors
     ///
@@ -238,11 +240,12 @@ impl Entries {
         Ok(())
     }
 
-    /// Replaces as many entries from position `at` on by those of `run`. Behind them others stay.
+    /// Replaces the entries from position `at` on by those of `run`, as many as there are. Some entries must
+    /// come after these; they stay.
     ///
     /// # Errors
     ///
-    /// `AllocError` if there is no memory for them. The entries are unchanged then.
+    /// `AllocError` if there is no memory for them. The entries are unchanged then, and `run` is dropped.
     pub(super) fn put_between(&mut self, at: usize, run: Entries) -> AllocResult<()>
         requires run { 0 < length run }
         requires behind { at + length run < length self.old }
@@ -281,15 +284,15 @@ impl Entries {
     }
 }
 
-/// Returns the first index of `len` entries from `first` on once others, from `index` on, have been put
-/// behind them.
+/// Returns the index of the first entry once others, from `index` on, are put after `len` entries from
+/// `first` on: `first`, or `index` if there are none before.
 fn first_of(len: usize, first: u64, index: u64) -> u64
     ensures { (len ≡ 0 → result ≡ index) × (0 < len → result ≡ first) }
 {
     if len == 0 { index } else { first }
 }
 
-/// Returns how many of `count` records in a file of `queue` are in the rewrite queue: all or none.
+/// Returns how many of `count` entries in a file of `queue` are in the rewrite queue: all or none.
 fn rewritten_in(queue: LogQueue, count: usize) -> usize
     ensures { result ≡ count_in Rewrite queue count }
 {
@@ -299,7 +302,7 @@ fn rewritten_in(queue: LogQueue, count: usize) -> usize
     }
 }
 
-/// Returns how many entries of `run`, one after the other from position `at` on, have the place `handle`.
+/// Returns how many entries of `run`, from position `at` on, one after the other, have the place `handle`.
 fn count_of(handle: &FileBlockHandle, run: &[EntryIndex], at: usize) -> usize
     requires { at ≤ length run.now }
     ensures within { at + result ≤ length run.now }
@@ -316,7 +319,7 @@ fn count_of(handle: &FileBlockHandle, run: &[EntryIndex], at: usize) -> usize
     run.len() - at
 }
 
-/// Tests whether `entry` has the place `handle`.
+/// Tests whether the place of `entry` is `handle`.
 fn has_place(entry: &EntryIndex, handle: &FileBlockHandle) -> bool
     ensures { MatchBool result (entry.now.entries ≡ Some handle.now)
         (entry.now.entries ≢ Some handle.now) }
@@ -324,7 +327,7 @@ fn has_place(entry: &EntryIndex, handle: &FileBlockHandle) -> bool
     entry.entries.is_some_and(|own| is_same(&own, handle))
 }
 
-/// Returns offset and length of each entry of `run`, as the spans of a block.
+/// Returns the offset and the length of each entry of `run`, as the spans of a block.
 ///
 /// # Errors
 ///

@@ -1,4 +1,4 @@
-//! Runs that are put after a table's entries.
+//! How runs are put after a table's entries, and counted.
 
 ghost use Rattle.std.specs.Prelude.{◌≡◌, ◌+◌, ◌≤◌, ◌<◌, ◌^◌, [], ◌++◌, length, take, drop, true, OnOk, OnErr, IfErr, MatchBool, MatchOption, Some};
 ghost use Rattle.raft_table.specs.Common.{IsCorruption, end_of, AllByRecursion, live, with_added, with_deleted, count_in, of_queue, other, AreTableEntries, IsRunIn, is_placed_in, entry_count, AreCounted, AreRecounted, hole_text, run_shown};
@@ -11,14 +11,15 @@ use crate::memtable::run::Run;
 use raft_base::{EntryIndex, Error, LogQueue, Result};
 
 impl Entries {
-    /// Replaces the entries from the first index of `run` on, a new run of the append queue, by `run`, and
-    /// counts the change. A run without entries changes nothing.
+    /// Puts `run`, a new run of the append queue, after the entries below its first index, drops all other
+    /// entries, and counts the change. A run without entries changes nothing. `region_id` is for the text of
+    /// an error.
     ///
     /// # Errors
     ///
-    /// `Corruption` if it starts below the first entry or leaves a hole behind the last one; `Full` if more
-    /// than 2^64 - 1 records would be live in the append queue; `Memory`. Entries and counts are unchanged
-    /// then.
+    /// `Corruption` if the run starts below the first entry or leaves a hole after the last one; `Full` if
+    /// more than 2^64 - 1 records would be live in the append queue; `Memory`. Entries and counts are
+    /// unchanged then.
     pub fn append(
         &mut self,
         region_id: u64,
@@ -49,14 +50,15 @@ impl Entries {
         }
     }
 
-    /// Moves the entries of `rhs`, which are all in `queue` and not counted yet, behind the entries below
-    /// their first index, and counts them. Leaves `rhs` empty. `rule` says which of the old entries stay
-    /// ([`Entries::kept_under`]).
+    /// Moves the entries of `rhs`, which are all in `queue` and not counted yet, after the entries below
+    /// their first index, drops all others, and counts the change. Leaves `rhs` empty. `rule` is the queue by
+    /// whose start rule old entries stay ([`Entries::kept_under`]); `region_id` is for the text of an error.
     ///
     /// # Errors
     ///
-    /// `Corruption` if they leave a hole and `rule` is the append queue; `Full` if more than 2^64 - 1 records
-    /// would be live in `queue`; `Memory`. Both lists of entries and the counts are unchanged then.
+    /// `Corruption` if the new entries leave a hole and `rule` is the append queue; `Full` if more than 2^64
+    /// - 1 records would be live in `queue`; `Memory`. Both lists of entries and the counts are unchanged
+    /// then.
     pub fn absorb(
         &mut self,
         region_id: u64,
@@ -95,14 +97,15 @@ impl Entries {
         Ok(())
     }
 
-    /// Replaces the entries from the first index of `run` on, a run that was read from `queue`, by `run`, and
-    /// counts the change. If it starts below the first entry or, in the rewrite queue, leaves a hole, no old
-    /// entry stays. A run without entries changes nothing.
+    /// Puts `run`, which was read from `queue`, after the entries below its first index, drops all other
+    /// entries, and counts the change. If the run starts below the first entry or, in the rewrite queue,
+    /// leaves a hole, no old entry stays. A run without entries changes nothing. `region_id` is for the text
+    /// of an error.
     ///
     /// # Errors
     ///
-    /// `Corruption` if it leaves a hole in the append queue; `Full` if more than 2^64 - 1 records would be
-    /// live in `queue`; `Memory`. Entries and counts are unchanged then.
+    /// `Corruption` if the run leaves a hole in the append queue; `Full` if more than 2^64 - 1 records would
+    /// be live in `queue`; `Memory`. Entries and counts are unchanged then.
     pub fn replay_run(
         &mut self,
         region_id: u64,
@@ -130,17 +133,17 @@ impl Entries {
         self.put_run_behind(keep, &Run::Entries(run), queue, stats)
     }
 
-    /// Returns the `Corruption` for a run from index `start` on that leaves a hole behind these entries.
-    /// Returns `Memory` if there is none for its text.
+    /// Returns the `Corruption` for a run with the first index `start` that leaves a hole after these
+    /// entries. Returns `Memory` if there is none for its text.
     fn hole_error(&self, region_id: u64, start: u64) -> Error
         ensures { IsCorruption (hole_text region_id start (end_of self.now)) result }
     {
         hole_error(self.allocator(), region_id, start, self.end())
     }
 
-    /// Returns how many of the first entries stay when a run that starts at `index` is put, by the start rule
-    /// of the queue `rule`: those below `index`; none if the run starts below the first entry or, in the
-    /// rewrite queue, leaves a hole behind the last one. Returns `None` if it leaves a hole in the append
+    /// Returns how many of the entries stay when a run with the first index `index` is put, by the start rule
+    /// of the queue `rule`: those below `index`, or none if the run starts below the first entry or, in the
+    /// rewrite queue, leaves a hole after the last one. Returns `None` if it leaves a hole in the append
     /// queue, which refuses that.
     pub fn kept_under(&self, rule: LogQueue, index: u64) -> Option<usize>
         ensures kept { MatchOption result (IsStart self.now index Start.BehindHole ×
@@ -157,7 +160,7 @@ impl Entries {
         }
     }
 
-    /// Keeps the first `keep` entries, puts `run`, which is in `queue`, behind them in place of the others,
+    /// Keeps the first `keep` entries, puts `run`, which is in `queue`, after them in place of the others,
     /// and counts the change.
     ///
     /// # Errors
@@ -195,7 +198,7 @@ impl Entries {
         Ok(())
     }
 
-    /// Returns how many of the entries behind the first `keep` are in the rewrite queue, and how many are in
+    /// Returns how many of the entries after the first `keep` are in the rewrite queue, and how many are in
     /// the append queue.
     pub(super) fn count_behind(&self, keep: usize) -> (usize, usize)
         requires { keep ≤ length self.now }
@@ -207,7 +210,8 @@ impl Entries {
         (rewritten, self.len - keep - rewritten)
     }
 
-    /// Returns where a run that starts at `index` starts beside these entries. Without entries it joins them.
+    /// Returns where a run with the first index `index` begins, compared with these entries. If there are
+    /// none, it joins them.
     fn start(&self, index: u64) -> Start
         ensures meets { IsStart self.now index result }
         ensures table_entries { AreTableEntries self.now }
@@ -226,8 +230,9 @@ impl Entries {
     }
 }
 
-/// Tests whether `added` records more of `queue` can be counted as live once `gone`, a number of rewritten
-/// and one of appended records, are no longer live: at most 2^64 - 1 may be live in a queue.
+/// Tests whether `added` more records of `queue` can be counted as live, once `gone` records are no longer
+/// live: no more than 2^64 - 1 may be live in a queue. `gone` is a number of rewritten and a number of
+/// appended records.
 fn has_room(stats: &GlobalStats, gone: (usize, usize), queue: LogQueue, added: usize) -> bool
     requires rewritten { gone.0 ≤ live Rewrite stats.now }
     requires appended { gone.1 ≤ live Append stats.now }
@@ -241,8 +246,8 @@ fn has_room(stats: &GlobalStats, gone: (usize, usize), queue: LogQueue, added: u
     added <= usize::MAX - (stats.live_entries(queue) - gone)
 }
 
-/// Counts `gone`, a number of rewritten and one of appended records, as no longer live, and `added` records
-/// of `queue` as live. The caller has made sure that there is room for them ([`has_room`]).
+/// Counts `gone` records as no longer live, and then `added` records of `queue` as live. `gone` is a number
+/// of rewritten and a number of appended records. There must be room for the added ones ([`has_room`]).
 fn exchange(stats: &mut GlobalStats, gone: (usize, usize), queue: LogQueue, added: usize)
     requires rewritten { gone.0 ≤ live Rewrite stats.old }
     requires appended { gone.1 ≤ live Append stats.old }

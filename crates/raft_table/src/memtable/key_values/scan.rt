@@ -1,4 +1,7 @@
-//! Walks over the key values between two keys.
+//! Scans of the key values between two keys.
+//!
+//! A scan looks its bounds up by copies of them. If there is no memory for a copy, it compares the bound with
+//! each key instead, so that a scan can't fail.
 
 ghost use Rattle.std.specs.Prelude.{◌≡◌, IsTrue, filter, map, reverse};
 ghost use Rattle.raft_table.specs.Common.{option_copied, option_map, CalledAtTwo, is_between, is_forward, IsDivided, VisitsUntilFalse};
@@ -8,9 +11,9 @@ use std::alloc::{AllocError, Global};
 use std::collections::BTreeMap;
 use std::collections::btree_map::Range;
 
-/// Returns `bound` in one of two forms, of which the other is `None`: a copy, by which [`sought`] looks pairs
-/// up, or, if there is no memory for one, the bound itself, which [`visit`] then compares with each key. Both
-/// are `None` for an open side. So a scan can't fail.
+/// Returns `bound` in one of two forms, with `None` for the other one: as a copy, by which [`sought`] looks
+/// pairs up, or, if there is no memory for a copy, as it is, which [`visit`] compares with each key. Returns
+/// `None` for both if there is no bound.
 pub(super) fn divided(alloc: Global, bound: Option<&[u8]>) -> (Option<Vec<u8>>, Option<&[u8]>)
     ensures { IsDivided (option_copied bound.entry) (option_map (λ k. k.items) result.0)
         (option_copied result.1) }
@@ -24,8 +27,8 @@ pub(super) fn divided(alloc: Global, bound: Option<&[u8]>) -> (Option<Vec<u8>>, 
     }
 }
 
-/// Returns the pairs whose key is at or above `start` and below `end`, in the order of keys. A bound that is
-/// `None` leaves its side open. `start` isn't above `end`: the map refuses such a range.
+/// Returns the pairs whose key is at least `start` and below `end`, in the order of the keys. A bound that is
+/// `None` doesn't limit its side. `start` must not be above `end`: the map refuses such a range.
 pub(super) fn sought<'a>(
     pairs: &'a BTreeMap<Vec<u8>, StoredValue>,
     start: &Option<Vec<u8>>,
@@ -46,7 +49,7 @@ pub(super) fn sought<'a>(
     }
 }
 
-/// Tests whether `start` is at or below `end`, which [`sought`] requires. True if one of them is `None`.
+/// Tests whether `start` is at most `end`, as [`sought`] requires. Returns true if one of them is `None`.
 pub(super) fn is_forward(start: Option<&[u8]>, end: Option<&[u8]>) -> bool
     ensures { result ≡ is_forward (option_copied start.entry) (option_copied end.entry) }
 {
@@ -56,8 +59,8 @@ pub(super) fn is_forward(start: Option<&[u8]>, end: Option<&[u8]>) -> bool
     }
 }
 
-/// Calls `f` with each of `pairs` whose key is at or above `start` and below `end`, until `f` returns false:
-/// the loop of a scan.
+/// Calls `f` with each of `pairs` whose key is at least `start` and below `end`, in order, until `f` returns
+/// false.
 pub(super) fn visit<F: FnMut(&[u8], &[u8]) -> bool>(
     mut pairs: Range<'_, Vec<u8>, StoredValue>,
     start: Option<&[u8]>,
@@ -77,7 +80,8 @@ pub(super) fn visit<F: FnMut(&[u8], &[u8]) -> bool>(
     }
 }
 
-/// Does what [`visit`] does, from the last pair back to `start`: the loop of a reversed scan.
+/// Calls `f` with each of `pairs` whose key is at least `start` and below `end`, from the last one back to
+/// the first, until `f` returns false.
 pub(super) fn visit_back<F: FnMut(&[u8], &[u8]) -> bool>(
     mut pairs: Range<'_, Vec<u8>, StoredValue>,
     start: Option<&[u8]>,
@@ -97,7 +101,7 @@ pub(super) fn visit_back<F: FnMut(&[u8], &[u8]) -> bool>(
     }
 }
 
-/// Tests whether `key` is at or above `start` and below `end`. A bound that is `None` leaves its side open.
+/// Tests whether `key` is at least `start` and below `end`. A bound that is `None` doesn't limit its side.
 fn is_between(key: &[u8], start: Option<&[u8]>, end: Option<&[u8]>) -> bool
     ensures { result ≡ is_between (option_copied start.entry) (option_copied end.entry) key.now }
 {

@@ -3,13 +3,15 @@ use Rattle.raft_inspect.proofs.Common.{◌≡◌, ◌≢◌, ◌∙◌, ◌++◌
 use Rattle.raft_inspect.proofs.Common.{FoundFilesAreStored, found_asks, ReadFiles, Reading, Recovered, TolerateTornTail, opened_so, IsReadingOf, IsUntried, AreRefusedFor, AreTablesOf, CutsNothing, HoldsOfRead, IsAcceptedSo, IsOpenedSo, IsOpeningOf, is_refused_read, IsUncut, Opening, Opens}
 use Rattle.raft_inspect.proofs.Common.{Refuses}
 use Rattle.raft_base.specs.declared.errors.Error.TheVariants as errors
+use Rattle.raft_engine.specs.Unopened.{AreBothAccepted}
 
--- the tables of a reading are those of an engine that is opened
+-- the tables of a reading of files that are accepted are those of an engine that is opened
 tables_of : (ready : FoundFilesAreReady) (stored : FoundFilesAreStored) (lasting : FoundRecordsLast) (version : Version) (append rewrite : List NumberedBytes) (reading : Reading)
-    → AreReadFound version append rewrite reading → AreTablesOf version reading.accessor append rewrite
-tables_of ready stored lasting version append rewrite reading found =
+    → AreBothAccepted TolerateTornTail version append rewrite → AreReadFound version append rewrite reading → AreTablesOf version reading.accessor append rewrite
+tables_of ready stored lasting version append rewrite reading accepted found =
     let asks = reading_asks version reading ++ found_asks append rewrite in
     record {
+      accepted = accepted;
       engine = record { version = version; asks = asks; untold = reading.untold; accessor = reading.accessor; intact = true };
       opened = record {
         of_version = refl;
@@ -37,7 +39,7 @@ module _ (Gives : FileId → ℕ → List ℕ → Type 0) (Fails : FileId → �
           accepted = over.accepted;
           append_told = over.read.append_told;
           rewrite_told = over.read.rewrite_told;
-          are_tables = tables_of ready stored lasting version is.0 is.1 files.reading over.read;
+          are_tables = tables_of ready stored lasting version is.0 is.1 files.reading over.accepted over.read;
         };
       }
 

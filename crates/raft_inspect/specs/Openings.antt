@@ -30,8 +30,9 @@ pub record HoldsOfRead (Gives : FileId → ℕ → List ℕ → Type 0) (append 
   pub given : AreBothRead Gives append rewrite append_files rewrite_files
   pub holds : Holds append_files rewrite_files
 
--- these are the tables of an engine that is opened over the files
+-- an opening accepts the files, and these are the tables of an engine that is opened over them
 pub record AreTablesOf (version : Version) (accessor : Accessor) (append rewrite : List NumberedBytes) : Type 0 where
+  pub accepted : AreBothAccepted TolerateTornTail version append rewrite
   pub engine : KeptEngine
   pub opened : IsOpened version append rewrite engine
   pub same : accessor ≡ engine.accessor

@@ -285,6 +285,10 @@ def look_at_pipes(looker, folder):
     for path in (pipe, entry):
         for words in (["check"], ["dump"], ["regions"], ["files"]):
             looker.expect(f"{words} of {path.name}", looker.run(*words, "--append", f"1={path}"), 1, [f"raftlog: {path}: it isn't a regular file\n"])
+    room = Room(folder / "with_pipe")
+    os.mkfifo(room.file(LAST + 1))
+    for words in (["check"], ["cut", "--dry-run"], ["cut", "--yes"]):
+        looker.expect(f"{words} of a folder with a pipe", looker.run(*words, room.path), 1, [f"raftlog: {room.file(LAST + 1)}: it isn't a regular file\n"])
 
 
 def look_at_tails(looker, folder):

@@ -4,7 +4,7 @@
 //! one of the program's own, which is removed at the end.
 #![tactic(auto)]
 
-use raft_base::{FileId, FileSeq, LogQueue, Result, Version};
+use raft_base::{Error, FileId, FileSeq, LogQueue, Result, Version};
 use raft_engine::{Engine, RecoveryMode};
 use raft_folder::{FolderError, FolderFiles, FolderHost};
 use raft_opening::open_folder;
@@ -35,8 +35,8 @@ const WORKERS: usize = 2;
 /// The regions that are written to.
 const REGIONS: [u64; 2] = [7, 8];
 
-/// Prints the usage for `--help`; else runs the example over the folder that the first word names, or over
-/// one of its own.
+/// Prints the usage for `--help`, and for another word that begins like an option; else runs the example over the folder that the first
+/// word names, or over one of its own.
 ///
 /// # Errors
 ///
@@ -44,6 +44,7 @@ const REGIONS: [u64; 2] = [7, 8];
 fn main(rt: HostRuntime) -> Result<()> {
     match env::args(&rt)?.nth(1) {
         Some(word) if is_help(word.as_str()) => Ok(println!(rt; "{USAGE}")?),
+        Some(word) if word.as_str().starts_with('-') => Err(Error::invalid_argument(rt.alloc(), USAGE)),
         Some(folder) => run_example(&rt, folder.as_str()),
         None => {
             remove_folder(&rt)?;

@@ -54,8 +54,8 @@ records can be read there; that a file is empty, or was cut where a batch ends, 
 behind it can't follow then. So all files may be empty, or the last batches of any file gone that
 have no entries. Of files named one by one what isn't named isn't looked for.
 
-Files are read in pieces: besides the tables some MiB for each worker are in memory, and what stands
-in a queue's last file behind the first batch that can't be read.";
+Files are read in pieces: besides the tables some MiB for each worker are in memory, what stands in
+a queue's last file behind the first batch that can't be read, and what is said of damage.";
 
 /// What `regions --help` says behind the options.
 const REGIONS_HELP: &str = "\
@@ -293,7 +293,7 @@ const COMMANDS: [CommandWords; 7] = [
         name: "dump",
         about: "Prints the batches of the files, item by item",
         words: &[
-            &FOLDER, &REGION, &FROM, &TO, &VALUES, &APPEND, &REWRITE, &JSON, &FORMAT, &WORKERS,
+            &FOLDER, &REGION, &FROM, &TO, &VALUES, &APPEND, &REWRITE, &JSON, &FORMAT,
         ],
         after: DUMP_HELP,
     },

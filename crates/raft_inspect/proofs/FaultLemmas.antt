@@ -1,5 +1,5 @@
 -- Why something isn't printed to its end.
-use Rattle.raft_inspect.proofs.Common.{inl, inr, ℕ, List, Contains, Error, FileId, LogQueue, Append, Rewrite, IoError, FileSize, IsFileUnread, IsOneUnread, PrintError, Files, Output, Version, IsUnchecked, IsUnprinted, IsUnprintedFor}
+use Rattle.raft_inspect.proofs.Common.{inl, inr, ℕ, List, Contains, Error, FileId, LogQueue, Append, Rewrite, IoError, FileSize, IsFileUnread, IsOneOfBothUnread, IsOneUnread, PrintError, Files, Output, Version, IsUnchecked, IsUnprinted, IsUnprintedFor}
 
 -- for another reason
 for_another : (P Q : Error → Type 0) → ((e : Error) → P e → Q e) → (f : PrintError) → IsUnprintedFor P f → IsUnprintedFor Q f
@@ -17,9 +17,12 @@ module _ (Gives : FileId → ℕ → List ℕ → Type 0) (Fails : FileId → �
   of_queue queue sizes size f among is = for_another (IsFileUnread Gives Fails queue size) (IsOneUnread Gives Fails queue sizes) (λ e unread. record { size = size; among = among; unread = unread }) f is
 
   -- and of both
-  module _ (version : Version) (workers : ℕ) (append rewrite : List FileSize) where
-    pub of_append : (f : PrintError) → IsUnprintedFor (IsOneUnread Gives Fails Append append) f → IsUnprintedFor (IsUnchecked Gives Fails version workers append rewrite) f
-    of_append f is = for_another (IsOneUnread Gives Fails Append append) (IsUnchecked Gives Fails version workers append rewrite) (λ e one. inl (inl one)) f is
+  module _ (append rewrite : List FileSize) where
+    pub of_first : (f : PrintError) → IsUnprintedFor (IsOneUnread Gives Fails Append append) f → IsUnprintedFor (IsOneOfBothUnread Gives Fails append rewrite) f
+    of_first f is = for_another (IsOneUnread Gives Fails Append append) (IsOneOfBothUnread Gives Fails append rewrite) (λ e one. inl one) f is
 
-    pub of_rewrite : (f : PrintError) → IsUnprintedFor (IsOneUnread Gives Fails Rewrite rewrite) f → IsUnprintedFor (IsUnchecked Gives Fails version workers append rewrite) f
-    of_rewrite f is = for_another (IsOneUnread Gives Fails Rewrite rewrite) (IsUnchecked Gives Fails version workers append rewrite) (λ e one. inl (inr one)) f is
+    pub of_second : (f : PrintError) → IsUnprintedFor (IsOneUnread Gives Fails Rewrite rewrite) f → IsUnprintedFor (IsOneOfBothUnread Gives Fails append rewrite) f
+    of_second f is = for_another (IsOneUnread Gives Fails Rewrite rewrite) (IsOneOfBothUnread Gives Fails append rewrite) (λ e one. inr one) f is
+
+  pub of_scans : (version : Version) (workers : ℕ) (append rewrite : List FileSize) (f : PrintError) → IsUnprintedFor (IsOneOfBothUnread Gives Fails append rewrite) f → IsUnprintedFor (IsUnchecked Gives Fails version workers append rewrite) f
+  of_scans version workers append rewrite f is = for_another (IsOneOfBothUnread Gives Fails append rewrite) (IsUnchecked Gives Fails version workers append rewrite) (λ e one. inl one) f is

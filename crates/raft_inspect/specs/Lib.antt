@@ -10,6 +10,9 @@ pub mod Checked
 pub mod Printed
 pub mod PrintedJson
 pub mod PrintedForms
+-- checks that were printed, and what was written where not all could be
+pub mod PrintedChecks
+pub mod CutShort
 -- what is cut off
 pub mod Cuts
 -- why something isn't printed

@@ -1,12 +1,11 @@
 -- What is printed of an opening, and at the end of a check, as text.
-use Rattle.std.specs.Prelude.{ℕ, nat_eq, List, [], ◌++◌, length, codes, Option, Some, None, Bool, true, false, ◌&&◌, if◌then◌else◌}
+use Rattle.std.specs.Prelude.{ℕ, nat_eq, List, [], ◌++◌, codes, Option, Some, None, Bool, true, false, ◌&&◌, if◌then◌else◌}
 use Rattle.std.specs.Fmt.{decimal}
 use Rattle.raft_base.specs.declared.pipe_log.LogQueue.{LogQueue}
 use Rattle.raft_base.specs.declared.pipe_log.LogQueue.TheVariants.{Append, Rewrite}
 use Rattle.raft_replay.specs.Stops.{queue_text}
 use Rattle.raft_engine.specs.declared.recovered.CutTail.{CutTail}
 use Rattle.raft_listing.specs.Reasons.{reason_text}
-use Rattle.raft_listing.specs.declared.scan.FileScan.{FileScan}
 use Rattle.raft_survey.specs.Reported.{no_files_line}
 use Rattle.raft_inspect.specs.declared.findings.Findings.{Findings}
 use Rattle.raft_inspect.specs.declared.opening.Opening.{Opening}
@@ -32,13 +31,9 @@ abbrev pub opening_text : Opening → List ℕ
 opening_text (Refuses error) = refused_line (reason_text error)
 opening_text (Opens recovered) = cut_line Append recovered.append ++ cut_line Rewrite recovered.rewrite
 
--- whether no files were scanned
-abbrev pub has_none : List FileScan → Bool
-has_none scans = nat_eq (length scans) 0
-
--- the line of a queue without files
-abbrev pub empty_line : LogQueue → List FileScan → List ℕ
-empty_line queue scans = if has_none scans then no_files_line queue else []
+-- the line of a queue that has so many files: where it has none
+abbrev pub empty_line : LogQueue → ℕ → List ℕ
+empty_line queue files = if nat_eq files 0 then no_files_line queue else []
 
 -- the last word: whether files are sound, if there are some
 abbrev pub word_of : Bool → Bool → List ℕ
@@ -47,9 +42,9 @@ word_of false true = codes "sound"
 word_of false false = codes "damaged"
 
 abbrev pub verdict_word : Findings → List ℕ
-verdict_word found = word_of (has_none found.append.items && has_none found.rewrite.items) found.is_sound
+verdict_word found = word_of (nat_eq found.append_files 0 && nat_eq found.rewrite_files 0) found.is_sound
 
 -- the lines behind those of the files
 abbrev pub ending_text : Findings → List ℕ
 ending_text found =
-    empty_line Append found.append.items ++ (empty_line Rewrite found.rewrite.items ++ (opening_text found.opening ++ (verdict_word found ++ codes "\n")))
+    empty_line Append found.append_files ++ (empty_line Rewrite found.rewrite_files ++ (opening_text found.opening ++ (verdict_word found ++ codes "\n")))

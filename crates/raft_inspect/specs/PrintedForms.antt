@@ -32,6 +32,6 @@ abbrev pub ending_lines : Form → Findings → List ℕ
 ending_lines Text found = ending_text found
 ending_lines Json found = ending_json found
 
--- all lines of a check: those of the append queue's files, of the rewrite queue's, and those behind them
-abbrev pub check_lines : Form → Findings → List ℕ
-check_lines form found = scans_lines form Append None found.append.items ++ (scans_lines form Rewrite None found.rewrite.items ++ ending_lines form found)
+-- all lines of a check with these scans: those of the append queue's files, of the rewrite queue's, and those behind them
+abbrev pub check_lines : Form → List FileScan → List FileScan → Findings → List ℕ
+check_lines form append rewrite found = scans_lines form Append None append ++ (scans_lines form Rewrite None rewrite ++ ending_lines form found)

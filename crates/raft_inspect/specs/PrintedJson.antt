@@ -1,15 +1,14 @@
 -- What is printed of an opening, and at the end of a check, as lines of JSON.
-use Rattle.std.specs.Prelude.{List, [], ◌∷◌, ◌++◌, ℕ, codes, Option, Some, None, if◌then◌else◌}
+use Rattle.std.specs.Prelude.{List, [], ◌∷◌, ◌++◌, ℕ, nat_eq, codes, Option, Some, None, if◌then◌else◌}
 use Rattle.serde_json.specs.Data.{Data, string}
 use Rattle.raft_base.specs.declared.errors.Error.{Error}
 use Rattle.raft_base.specs.declared.pipe_log.LogQueue.{LogQueue}
 use Rattle.raft_base.specs.declared.pipe_log.LogQueue.TheVariants.{Append, Rewrite}
 use Rattle.raft_engine.specs.declared.recovered.CutTail.{CutTail}
 use Rattle.raft_listing.specs.Reasons.{reason_text}
-use Rattle.raft_listing.specs.declared.scan.FileScan.{FileScan}
 use Rattle.raft_report.specs.JsonData.{count, json_line, object_of}
 use Rattle.raft_report.specs.JsonLines.{no_files_data, queue_data}
-use Rattle.raft_inspect.specs.Printed.{has_none, verdict_word}
+use Rattle.raft_inspect.specs.Printed.{verdict_word}
 use Rattle.raft_inspect.specs.declared.findings.Findings.{Findings}
 use Rattle.raft_inspect.specs.declared.opening.Opening.{Opening}
 use Rattle.raft_inspect.specs.declared.opening.Opening.TheVariants.{Opens, Refuses}
@@ -29,9 +28,9 @@ abbrev pub opening_json : Opening → List ℕ
 opening_json (Refuses error) = json_line (refused_data error)
 opening_json (Opens recovered) = json_line (cut_data Append recovered.append) ++ json_line (cut_data Rewrite recovered.rewrite)
 
--- the line of a queue without files
-abbrev pub empty_json : LogQueue → List FileScan → List ℕ
-empty_json queue scans = if has_none scans then json_line (no_files_data queue) else []
+-- the line of a queue that has so many files: where it has none
+abbrev pub empty_json : LogQueue → ℕ → List ℕ
+empty_json queue files = if nat_eq files 0 then json_line (no_files_data queue) else []
 
 -- the last word
 abbrev pub verdict_data : List ℕ → Data
@@ -40,4 +39,4 @@ verdict_data word = object_of ((codes "verdict", string word) ∷ [])
 -- the lines behind those of the files
 abbrev pub ending_json : Findings → List ℕ
 ending_json found =
-    empty_json Append found.append.items ++ (empty_json Rewrite found.rewrite.items ++ (opening_json found.opening ++ json_line (verdict_data (verdict_word found))))
+    empty_json Append found.append_files ++ (empty_json Rewrite found.rewrite_files ++ (opening_json found.opening ++ json_line (verdict_data (verdict_word found))))

@@ -1,15 +1,17 @@
 //! A check of the files of both queues, which is printed as it goes on.
 
-ghost use Rattle.std.specs.Prelude.{◌≡◌, ◌++◌, ◌<◌, ◌≤◌, None, codes, string_bytes, IfErr, IfOk, OnOk};
+ghost use Rattle.std.specs.Prelude.{◌≡◌, ◌↔◌, ◌++◌, ◌<◌, ◌≤◌, codes, string_bytes, true, IfErr, IfOk, OnErr, OnOk};
 ghost use Rattle.std.specs.Io.KnownBytes.{Appends};
-ghost use Rattle.raft_survey.specs.FileScans.{AreScansOf, IsScanOf};
-ghost use Rattle.raft_survey.specs.FileWalks.{IsFileUnread, IsOneUnread};
-ghost use Rattle.raft_inspect.specs.Checked.{IsChecked};
+ghost use Rattle.raft_survey.specs.FileScans.{IsScanOf};
+ghost use Rattle.raft_survey.specs.FileWalks.{IsFileUnread, IsOneOfBothUnread, IsOneUnread};
+ghost use Rattle.raft_inspect.specs.CutShort.{AreBothScansCutShort, AreScansCutShort, IsCheckCutShort, IsCutShort, IsScanCutShort};
 ghost use Rattle.raft_inspect.specs.Faults.{IsUnchecked, IsUnprinted, IsUnprintedFor};
 ghost use Rattle.raft_inspect.specs.Printed.{ending_text, verdict_word};
-ghost use Rattle.raft_inspect.specs.PrintedForms.{check_lines, ending_lines, scan_lines, scans_lines};
+ghost use Rattle.raft_inspect.specs.PrintedChecks.{AreBothScansPrinted, AreScansPrinted, IsCheckPrinted};
+ghost use Rattle.raft_inspect.specs.PrintedForms.{ending_lines, scan_lines};
+ghost use Rattle.raft_inspect.specs.Verdicts.{IsUndamaged};
 
-use crate::findings::Findings;
+use crate::findings::{Findings, UndamagedQueues};
 use crate::json::append_json_ending;
 use crate::opening::try_opening;
 use crate::report::{append_if_empty, append_opening};
@@ -23,11 +25,13 @@ use std::io::Write;
 use std::thread::Threads;
 
 /// Checks the files of both queues, and prints what is found: the lines of each file as soon as it is read, then what an opening
-/// would do, and the verdict. The files are read in pieces, twice: for the scans, and for the opening that is tried.
+/// would do, and the verdict. The files are read in pieces, twice: for the scans, and for the opening that is tried. What is said of the
+/// damage of a file is in memory until its lines are printed.
 ///
 /// # Errors
 ///
-/// `Output` where the output takes no more; `Files` with `Io` where a read fails, or with `Memory`. Some lines may then be printed.
+/// `Output` where the output takes no more; `Files` with `Io` where a read fails, or with `Memory`. A prefix of the lines, but not all of
+/// them, is then printed.
 pub fn print_check<R: Threads + Sync, S: ReadFiles, W: Write>(
     rt: &R,
     alloc: Global,
@@ -39,50 +43,49 @@ pub fn print_check<R: Threads + Sync, S: ReadFiles, W: Write>(
     out: &mut W,
 ) -> PrintResult<Findings>
     requires { (0 < workers) × (workers ≤ 256) }
-    ensures checked { IfOk result (IsChecked (S.gives source.now) (S.may_fail source.now) version workers
-        sizes.now.append.items sizes.now.rewrite.items) }
-    ensures printed { IfOk result (λ found. Appends (W.contents out.old) (W.contents out.new)
-        (check_lines form found)) }
+    ensures ok { IfOk result (IsCheckPrinted (S.gives source.now) (S.may_fail source.now) version workers
+        sizes.now.append.items sizes.now.rewrite.items form (W.contents out.old) (W.contents out.new)) }
+    ensures cut_short { OnErr result (IsCheckCutShort (S.gives source.now) (S.may_fail source.now) version workers
+        sizes.now.append.items sizes.now.rewrite.items form (W.contents out.old) (W.contents out.new)) }
     ensures fault { IfErr result (IsUnprintedFor (IsUnchecked (S.gives source.now) (S.may_fail source.now) version workers
         sizes.now.append.items sizes.now.rewrite.items)) }
 {
-    let found = gather_findings(rt, alloc, source, version, sizes, workers, form, out)?;
+    let undamaged = print_both_scans(form, alloc, source, version, sizes, out)?;
+    let opening = try_opening(rt, alloc, source, version, sizes, workers)?;
+    let found = Findings::new(sizes, undamaged, opening);
     print_ending(form, alloc, &found, out)?;
     Ok(found)
 }
 
-/// Scans the files of both queues, prints what is found in each, and finds out what an opening would do.
+/// Scans the files of both queues, those of the append queue first, and prints what is found in each. Returns in which queues nothing is
+/// found that can't be read.
 ///
 /// # Errors
 ///
 /// Those of [`print_check`].
-fn gather_findings<R: Threads + Sync, S: ReadFiles, W: Write>(
-    rt: &R,
+fn print_both_scans<S: ReadFiles, W: Write>(
+    form: Form,
     alloc: Global,
     source: &S,
     version: Version,
     sizes: &BothSizes,
-    workers: usize,
-    form: Form,
     out: &mut W,
-) -> PrintResult<Findings>
-    requires { (0 < workers) × (workers ≤ 256) }
-    ensures checked { IfOk result (IsChecked (S.gives source.now) (S.may_fail source.now) version workers
-        sizes.now.append.items sizes.now.rewrite.items) }
-    ensures printed { IfOk result (λ found. Appends (W.contents out.old) (W.contents out.new)
-        (scans_lines form LogQueue.Append None found.append.items ++ scans_lines form LogQueue.Rewrite None found.rewrite.items)) }
-    ensures fault { IfErr result (IsUnprintedFor (IsUnchecked (S.gives source.now) (S.may_fail source.now) version workers
+) -> PrintResult<UndamagedQueues>
+    ensures ok { IfOk result (AreBothScansPrinted (S.gives source.now) version
+        sizes.now.append.items sizes.now.rewrite.items form (W.contents out.old) (W.contents out.new)) }
+    ensures cut_short { OnErr result (AreBothScansCutShort (S.gives source.now) version
+        sizes.now.append.items sizes.now.rewrite.items form (W.contents out.old) (W.contents out.new)) }
+    ensures fault { IfErr result (IsUnprintedFor (IsOneOfBothUnread (S.gives source.now) (S.may_fail source.now)
         sizes.now.append.items sizes.now.rewrite.items)) }
 {
     let queue = LogQueue::Append;
     let append = print_scans(form, alloc, source, queue, version, &sizes.append, out)?;
     let queue = LogQueue::Rewrite;
     let rewrite = print_scans(form, alloc, source, queue, version, &sizes.rewrite, out)?;
-    let opening = try_opening(rt, alloc, source, version, sizes, workers)?;
-    Ok(Findings::new(append, rewrite, opening))
+    Ok(UndamagedQueues { append, rewrite })
 }
 
-/// Scans the files of a queue, oldest first, and prints what is found in each.
+/// Scans the files of a queue, oldest first, and prints what is found in each. Returns whether nothing is found that can't be read.
 ///
 /// # Errors
 ///
@@ -95,20 +98,28 @@ fn print_scans<S: ReadFiles, W: Write>(
     version: Version,
     sizes: &[FileSize],
     out: &mut W,
-) -> PrintResult<Vec<FileScan>>
-    ensures scanned { IfOk result (λ scans. AreScansOf (S.gives source.now) queue version sizes.now scans.items) }
-    ensures printed { IfOk result (λ scans. Appends (W.contents out.old) (W.contents out.new)
-        (scans_lines form queue None scans.items)) }
+) -> PrintResult<bool>
+    ensures ok { IfOk result (AreScansPrinted (S.gives source.now) queue version sizes.now form
+        (W.contents out.old) (W.contents out.new)) }
+    ensures cut_short { OnErr result (AreScansCutShort (S.gives source.now) queue version sizes.now form
+        (W.contents out.old) (W.contents out.new)) }
     ensures fault { IfErr result (IsUnprintedFor (IsOneUnread (S.gives source.now) (S.may_fail source.now) queue sizes.now)) }
 {
-    let mut scans = Vec::new(alloc);
+    let mut are_undamaged = true;
     let mut last = None;
     for size in sizes {
         let scan = scan_and_print(form, alloc, source, queue, version, size, last, out)?;
         last = Some(scan.seq);
-        scans.push(scan)?;
+        are_undamaged = stay_undamaged(are_undamaged, &scan);
     }
-    Ok(scans)
+    Ok(are_undamaged)
+}
+
+/// Tests whether nothing was found that can't be read, neither so far nor by a further scan.
+fn stay_undamaged(are_undamaged: bool, scan: &FileScan) -> bool
+    ensures { (result ≡ true) ↔ ((are_undamaged ≡ true) × IsUndamaged scan.now) }
+{
+    are_undamaged && scan.damages.is_empty()
 }
 
 /// Scans a file, and prints what is found in it. `last` is the number of the file before it, `None` where it is the first.
@@ -129,6 +140,8 @@ fn scan_and_print<S: ReadFiles, W: Write>(
     ensures scanned { IfOk result (IsScanOf (S.gives source.now) queue version size.now) }
     ensures printed { IfOk result (λ scan. Appends (W.contents out.old) (W.contents out.new)
         (scan_lines form queue last scan)) }
+    ensures cut_short { OnErr result (IsScanCutShort (S.gives source.now) queue version size.now form last
+        (W.contents out.old) (W.contents out.new)) }
     ensures fault { IfErr result (IsUnprintedFor (IsFileUnread (S.gives source.now) (S.may_fail source.now) queue size.now)) }
 {
     let scan = scan_file(alloc, source, queue, version, size)?;
@@ -140,7 +153,7 @@ fn scan_and_print<S: ReadFiles, W: Write>(
 ///
 /// # Errors
 ///
-/// `Output` where the output takes no more, `Files` with `Memory`.
+/// `Output` where the output takes no more, `Files` with `Memory`. Nothing is printed then, or a prefix, but not all of it.
 fn print_scan<W: Write>(
     form: Form,
     alloc: Global,
@@ -150,6 +163,8 @@ fn print_scan<W: Write>(
     out: &mut W,
 ) -> PrintResult<()>
     ensures ok { OnOk result (Appends (W.contents out.old) (W.contents out.new)
+        (scan_lines form queue last scan.now)) }
+    ensures cut_short { OnErr result (IsCutShort (W.contents out.old) (W.contents out.new)
         (scan_lines form queue last scan.now)) }
     ensures fault { IfErr result IsUnprinted }
 {
@@ -184,7 +199,7 @@ fn append_scan_in_form(
 ///
 /// # Errors
 ///
-/// `Output` where the output takes no more, `Files` with `Memory`.
+/// `Output` where the output takes no more, `Files` with `Memory`. Nothing is printed then, or a prefix, but not all of it.
 fn print_ending<W: Write>(
     form: Form,
     alloc: Global,
@@ -192,6 +207,7 @@ fn print_ending<W: Write>(
     out: &mut W,
 ) -> PrintResult<()>
     ensures ok { OnOk result (Appends (W.contents out.old) (W.contents out.new) (ending_lines form found.now)) }
+    ensures cut_short { OnErr result (IsCutShort (W.contents out.old) (W.contents out.new) (ending_lines form found.now)) }
     ensures fault { IfErr result IsUnprinted }
 {
     let mut text = String::new(alloc);
@@ -226,8 +242,8 @@ fn append_ending_in_form(
 fn append_ending(found: &Findings, text: &mut String) -> AllocResult<()>
     ensures { OnOk result (string_bytes text.new ≡ string_bytes text.old ++ ending_text found.now) }
 {
-    append_if_empty(LogQueue::Append, &found.append, text)?;
-    append_if_empty(LogQueue::Rewrite, &found.rewrite, text)?;
+    append_if_empty(LogQueue::Append, found.append_files, text)?;
+    append_if_empty(LogQueue::Rewrite, found.rewrite_files, text)?;
     append_opening(&found.opening, text)?;
     append_verdict(found, text)
 }

@@ -1,20 +1,19 @@
 //! What a check of the files of both queues finds.
 
-ghost use Rattle.std.specs.Prelude.{◌≡◌, ◌↔◌, true};
-ghost use Rattle.raft_inspect.specs.Verdicts.{IsNothingWrong};
+ghost use Rattle.std.specs.Prelude.{◌≡◌, ◌↔◌, length, true};
+ghost use Rattle.raft_inspect.specs.Openings.{CutsNothing};
 ghost use Rattle.raft_inspect.specs.Printed.{verdict_word};
 
 use crate::opening::Opening;
-use raft_listing::FileScan;
-use raft_survey::are_undamaged;
+use raft_survey::BothSizes;
 
-/// What a check of the files of both queues finds.
+/// What a check of the files of both queues finds, but for the damage, which is printed file by file.
 #[derive(Drop)]
 pub struct Findings {
-    /// What scans of the append queue's files find, oldest first.
-    pub append: Vec<FileScan>,
-    /// What scans of the rewrite queue's files find, oldest first.
-    pub rewrite: Vec<FileScan>,
+    /// How many files the append queue has.
+    pub append_files: usize,
+    /// How many files the rewrite queue has.
+    pub rewrite_files: usize,
     /// What an opening would do with the files.
     pub opening: Opening,
     /// Whether nothing is wrong: an opening accepts the files and cuts nothing off, and each batch of each file can be read, with
@@ -22,17 +21,28 @@ pub struct Findings {
     pub is_sound: bool,
 }
 
+/// Of which queues everything can be read, by scans of their files.
+#[derive(Clone, Copy, PartialEq, Eq, Debug)]
+pub(crate) struct UndamagedQueues {
+    /// Whether it is so of the append queue.
+    pub append: bool,
+    /// Whether it is so of the rewrite queue.
+    pub rewrite: bool,
+}
+
 impl Findings {
-    /// Puts what scans find together with what an opening would do.
-    pub(crate) fn new(append: Vec<FileScan>, rewrite: Vec<FileScan>, opening: Opening) -> Findings
-        ensures scans { (result.append.items ≡ append.items) × (result.rewrite.items ≡ rewrite.items) }
+    /// Puts what scans of all files find together with what an opening would do.
+    pub(crate) fn new(sizes: &BothSizes, undamaged: UndamagedQueues, opening: Opening) -> Findings
+        ensures append { result.append_files ≡ length sizes.now.append.items }
+        ensures rewrite { result.rewrite_files ≡ length sizes.now.rewrite.items }
         ensures opening { result.opening ≡ opening }
-        ensures verdict { (result.is_sound ≡ true) ↔ IsNothingWrong result.append.items result.rewrite.items result.opening }
+        ensures verdict { (result.is_sound ≡ true)
+            ↔ ((undamaged.append ≡ true) × (undamaged.rewrite ≡ true) × CutsNothing result.opening) }
     {
-        let is_sound = is_nothing_wrong(&append, &rewrite, &opening);
+        let is_sound = is_nothing_wrong(undamaged, &opening);
         Findings {
-            append,
-            rewrite,
+            append_files: sizes.append.len(),
+            rewrite_files: sizes.rewrite.len(),
             opening,
             is_sound,
         }
@@ -42,7 +52,7 @@ impl Findings {
     pub fn verdict(&self) -> &'static str
         ensures { result.now ≡ verdict_word self.now }
     {
-        if self.append.is_empty() && self.rewrite.is_empty() {
+        if self.append_files == 0 && self.rewrite_files == 0 {
             "empty"
         } else if self.is_sound {
             "sound"
@@ -53,8 +63,9 @@ impl Findings {
 }
 
 /// Tests whether nothing is wrong with the files of either queue, and nothing is cut off from them.
-fn is_nothing_wrong(append: &Vec<FileScan>, rewrite: &Vec<FileScan>, opening: &Opening) -> bool
-    ensures { (result ≡ true) ↔ IsNothingWrong append.now.items rewrite.now.items opening.now }
+fn is_nothing_wrong(undamaged: UndamagedQueues, opening: &Opening) -> bool
+    ensures { (result ≡ true)
+        ↔ ((undamaged.append ≡ true) × (undamaged.rewrite ≡ true) × CutsNothing opening.now) }
 {
-    are_undamaged(append.as_slice()) && are_undamaged(rewrite.as_slice()) && opening.cuts_nothing()
+    undamaged.append && undamaged.rewrite && opening.cuts_nothing()
 }

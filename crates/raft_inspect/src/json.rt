@@ -10,7 +10,6 @@ use crate::findings::Findings;
 use crate::opening::Opening;
 use raft_base::{AllocResult, Error, LogQueue};
 use raft_engine::CutTail;
-use raft_listing::FileScan;
 use raft_report::{QueueName, append_json_no_files, quoted_reason};
 use std::alloc::Global;
 
@@ -101,21 +100,17 @@ pub(crate) fn append_json_ending(
 ) -> AllocResult<()>
     ensures { OnOk result (string_bytes text.new ≡ string_bytes text.old ++ ending_json found.now) }
 {
-    append_json_if_empty(LogQueue::Append, &found.append, text)?;
-    append_json_if_empty(LogQueue::Rewrite, &found.rewrite, text)?;
+    append_json_if_empty(LogQueue::Append, found.append_files, text)?;
+    append_json_if_empty(LogQueue::Rewrite, found.rewrite_files, text)?;
     append_json_opening(alloc, &found.opening, text)?;
     append_json_verdict(found, text)
 }
 
-/// Appends the line of a queue without files, where it has no scans.
-fn append_json_if_empty(
-    queue: LogQueue,
-    scans: &Vec<FileScan>,
-    text: &mut String,
-) -> AllocResult<()>
-    ensures { OnOk result (string_bytes text.new ≡ string_bytes text.old ++ empty_json queue scans.now.items) }
+/// Appends the line of a queue without files, where it has none of them: `files` says how many.
+fn append_json_if_empty(queue: LogQueue, files: usize, text: &mut String) -> AllocResult<()>
+    ensures { OnOk result (string_bytes text.new ≡ string_bytes text.old ++ empty_json queue files) }
 {
-    if scans.is_empty() {
+    if files == 0 {
         return append_json_no_files(queue, text);
     }
     Ok(())

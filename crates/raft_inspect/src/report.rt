@@ -1,9 +1,10 @@
 //! The lines of what an opening would do, and of a queue without files. Each call that appends fails for want of memory alone, and a part
 //! may then be appended.
 
-ghost use Rattle.std.specs.Prelude.{◌≡◌, ◌++◌, codes, string_bytes, None, Some, IfErr, OnOk};
+ghost use Rattle.std.specs.Prelude.{◌≡◌, ◌++◌, codes, string_bytes, None, Some, IfErr, OnErr, OnOk};
 ghost use Rattle.std.specs.Io.KnownBytes.{Appends};
 ghost use Rattle.raft_listing.specs.Reasons.{reason_text};
+ghost use Rattle.raft_inspect.specs.CutShort.{IsCutShort};
 ghost use Rattle.raft_inspect.specs.Faults.{IsUnprinted};
 ghost use Rattle.raft_inspect.specs.Printed.{cut_line, empty_line, opening_text, refused_line, tail_words};
 ghost use Rattle.raft_inspect.specs.PrintedForms.{opening_lines};
@@ -12,7 +13,7 @@ use crate::json::append_json_opening;
 use crate::opening::Opening;
 use raft_base::{AllocResult, Error, LogQueue};
 use raft_engine::CutTail;
-use raft_listing::{FileScan, append_reason};
+use raft_listing::append_reason;
 use raft_replay::segment::queue_name;
 use raft_report::{Form, PrintResult, write_text};
 use raft_survey::append_no_files;
@@ -23,7 +24,7 @@ use std::io::Write;
 ///
 /// # Errors
 ///
-/// `Output` where the output takes no more, `Files` with `Memory`. Some of it may then be printed.
+/// `Output` where the output takes no more, `Files` with `Memory`. Nothing is printed then, or a prefix, but not all of it.
 pub fn print_opening<W: Write>(
     form: Form,
     alloc: Global,
@@ -31,6 +32,7 @@ pub fn print_opening<W: Write>(
     out: &mut W,
 ) -> PrintResult<()>
     ensures ok { OnOk result (Appends (W.contents out.old) (W.contents out.new) (opening_lines form opening.now)) }
+    ensures cut_short { OnErr result (IsCutShort (W.contents out.old) (W.contents out.new) (opening_lines form opening.now)) }
     ensures fault { IfErr result IsUnprinted }
 {
     let mut text = String::new(alloc);
@@ -131,19 +133,15 @@ fn append_reason_line(reason: &Error, text: &mut String) -> AllocResult<()>
     text.push_str("\n")
 }
 
-/// Appends the line of a queue without files, where it has no scans.
+/// Appends the line of a queue without files, where it has none of them: `files` says how many.
 ///
 /// # Errors
 ///
 /// Want of memory. Some of it may then be appended.
-pub(crate) fn append_if_empty(
-    queue: LogQueue,
-    scans: &Vec<FileScan>,
-    text: &mut String,
-) -> AllocResult<()>
-    ensures { OnOk result (string_bytes text.new ≡ string_bytes text.old ++ empty_line queue scans.now.items) }
+pub(crate) fn append_if_empty(queue: LogQueue, files: usize, text: &mut String) -> AllocResult<()>
+    ensures { OnOk result (string_bytes text.new ≡ string_bytes text.old ++ empty_line queue files) }
 {
-    if scans.is_empty() {
+    if files == 0 {
         return append_no_files(queue, text);
     }
     Ok(())

@@ -1,10 +1,12 @@
 //! Why something isn't printed to its end.
 
-ghost use Rattle.std.specs.Prelude.{◌≡◌, IfErr, OnOk};
+ghost use Rattle.std.specs.Prelude.{◌≡◌, IfErr, OnErr, OnOk};
 ghost use Rattle.std.specs.Io.KnownBytes.{Appends};
+ghost use Rattle.raft_records.specs.Lines.{AppendsFront};
 ghost use Rattle.raft_report.specs.Faults.{IsOutputFault};
 
 use raft_base::Error;
+use raft_records::write_whole;
 use std::alloc::{AllocError, AllocFailed};
 use std::io;
 use std::io::Write;
@@ -60,13 +62,15 @@ impl<T: Drop> From<AllocFailed<T>> for PrintError {
 ///
 /// # Errors
 ///
-/// `Output`. Some of the text may then be written.
+/// `Output`. A prefix of the text, but not all of it, is then written.
 pub fn write_text<W: Write>(out: &mut W, text: &str) -> PrintResult<()>
     ensures ok { OnOk result (Appends (W.contents out.old) (W.contents out.new) text.now) }
+    ensures err { OnErr result (AppendsFront (W.contents out.old) (W.contents out.new) text.now) }
     ensures fault { IfErr result IsOutputFault }
 {
-    match out.write_all(text.as_bytes()) {
+    match write_whole(out, text.as_bytes()) {
         Ok(()) => Ok(()),
-        Err(error) => Err(PrintError::Output(error)),
+        Err(Error::Io(error)) => Err(PrintError::Output(error)),
+        Err(_) => unreachable!(),
     }
 }

@@ -1,5 +1,5 @@
 -- Files of which scans say nothing are sound.
-use Rattle.raft_survey.proofs.Common.{◌≡◌, ◌⊎◌, inl, inr, ℕ, ◌+◌, ◌-◌, arith, List, [], ◌∷◌, ◌++◌, length, refl, sym, ap, ◌∙◌, subst, append_assoc, append-nil, AllByRecursion, FileId, LogFileContext, LogQueue, Version, Part, part_of, Item, Content, entries, command, pair}
+use Rattle.raft_survey.proofs.Common.{◌≡◌, ◌⊎◌, inl, inr, ℕ, ◌+◌, ◌-◌, arith, List, [], ◌∷◌, ◌++◌, length, refl, sym, ap, ◌∙◌, subst, AllByRecursion, FileId, LogFileContext, LogQueue, Version, Part, part_of, Item, Content, entries, command, pair}
 use Rattle.raft_survey.proofs.Common.{framed_at, batch_inside, batch_header, header_ends, file_of, FileSize, AreSaidOf, IsSaidOfContent, IsScanned, AreRead, IsContentRead, AreSoundBetween, IsSoundPart, AreVisited, IsWalkFrom, Met, batch, damage, Batch, FileScan, AreScansOf}
 use Rattle.raft_survey.proofs.Common.{IsScanOf, AreWalkedFrom, HasWalkedFile, LeadsNowhere, AreSoundFiles, AreSoundParts, IsSoundFile}
 
@@ -129,13 +129,3 @@ module _ (Gives : FileId → ℕ → List ℕ → Type 0) (queue : LogQueue) (ve
   files_sound [] (scan ∷ scans) are none = absurd are
   files_sound (size ∷ sizes) [] are none = absurd are
   files_sound (size ∷ sizes) (scan ∷ scans) are none = (file_sound size scan are.0 none.0, files_sound sizes scans are.1 none.1)
-
-  -- the scans so far are those of the first files: with scans of those that are left they are all
-  abbrev pub AreBegun : List FileSize → List FileSize → List FileScan → Type 0
-  AreBegun all left scans = (rest : List FileScan) → AreScansOf Gives queue version left rest → AreScansOf Gives queue version all (scans ++ rest)
-
-  pub one_more : (all left : List FileSize) (size : FileSize) (scans : List FileScan) (scan : FileScan) → AreBegun all (size ∷ left) scans → IsScanOf Gives queue version size scan → AreBegun all left (scans ++ scan ∷ [])
-  one_more all left size scans scan begun is rest are = subst (AreScansOf Gives queue version all) (sym (append_assoc scans (scan ∷ []) rest)) (begun (scan ∷ rest) (is, are))
-
-  pub all_scanned : (all : List FileSize) (scans : List FileScan) → AreBegun all [] scans → AreScansOf Gives queue version all scans
-  all_scanned all scans begun = subst (AreScansOf Gives queue version all) (append-nil scans) (begun [] tt)

@@ -98,11 +98,6 @@ abbrev pub scan_text : LogQueue → Option ℕ → FileScan → List ℕ
 scan_text queue last scan =
     missing_line queue (missing_between last scan.seq) ++ (file_line queue scan ++ (flat_map (damage_line queue scan.seq scan.len) scan.damages.items ++ unseen_line queue scan))
 
--- the lines of scans, in order
-abbrev pub scans_text : LogQueue → Option ℕ → List FileScan → List ℕ
-scans_text queue last [] = []
-scans_text queue last (scan ∷ scans) = scan_text queue last scan ++ scans_text queue (Some scan.seq) scans
-
 -- the line of a queue that has no files
 abbrev pub no_files_line : LogQueue → List ℕ
 no_files_line queue = queue_text queue ++ codes ": no files\n"

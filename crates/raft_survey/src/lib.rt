@@ -10,5 +10,5 @@ pub mod sizes;
 pub use dumps::print_dump;
 pub use file_walk::{walk_file, walk_files};
 pub use report::{append_missing_files, append_no_files, append_scan};
-pub use scans::{are_undamaged, scan_file};
+pub use scans::scan_file;
 pub use sizes::BothSizes;

@@ -1,7 +1,6 @@
 //! Scans of files.
 
-ghost use Rattle.std.specs.Prelude.{◌≡◌, ◌≢◌, ◌↔◌, [], IfErr, IfOk, IsTrue};
-ghost use Rattle.std.specs.List.{AllByRecursion};
+ghost use Rattle.std.specs.Prelude.{◌≡◌, ◌≢◌, IfErr, IfOk};
 ghost use Rattle.raft_records.specs.Lines.{IsIoError};
 ghost use Rattle.raft_survey.specs.FileScans.{IsScanOf};
 ghost use Rattle.raft_survey.specs.FileWalks.{IsFileUnread};
@@ -33,16 +32,4 @@ pub fn scan_file<S: ReadFiles>(
     let mut scan = FileScan::new(alloc, size.seq, size.len);
     walk_file(alloc, source, &file, size.len, &mut scan)?;
     Ok(scan)
-}
-
-/// Tests whether no scan has found damage.
-pub fn are_undamaged(scans: &[FileScan]) -> bool
-    ensures { IsTrue result ↔ AllByRecursion (λ s. s.damages.items ≡ []) scans.now }
-{
-    for scan in scans {
-        if !scan.damages.is_empty() {
-            return false;
-        }
-    }
-    true
 }

@@ -1,36 +1,42 @@
 use Rattle.raft_inspect.proofs.Common.{◌+◌, List, drop, subst, drop_more, drop_all, Contains-get_or, on_passed, FileSize}
 use Rattle.raft_inspect.proofs.FaultLemmas.{of_queue}
-use Rattle.raft_inspect.proofs.PrintedLemmas.{IsPrinting, all_printed, all_written, one_printed}
+use Rattle.raft_inspect.proofs.PrintedLemmas.{IsPrinting, all_printed, none_printed, one_printed, scans_cut}
 use Rattle.raft_inspect.proofs.check.print_scans.Goals as goal
+
+pub loop-size-init : goal.loop-size-init
+loop-size-init g c = none_printed (g.S.ReadFiles.gives c.args.source.now) c.args.queue c.args.version c.args.form c.args.sizes.now (g.W.Write.contents c.args.out.now)
 
 pub loop-size-preserved : goal.loop-size-preserved
 loop-size-preserved g c =
     let gives = g.S.ReadFiles.gives c.args.source.now in
     let first = g.W.Write.contents c.args.out.now in
     let now = g.W.Write.contents c.loop-size.out in
-    one_printed gives c.args.queue c.args.version c.args.form c.args.sizes.now (drop (c.loop-size.size-index + 1) c.args.sizes.now) _ c.loop-size.scans.items c.push.new.self.items c.in_ok-scan.scan c.loop-size.last first now
+    one_printed gives c.args.queue c.args.version c.args.form c.args.sizes.now (drop (c.loop-size.size-index + 1) c.args.sizes.now) _ c.in_ok-scan.scan c.loop-size.are_undamaged c.stay_undamaged-are_undamaged.result c.loop-size.last first now
     (g.W.Write.contents c.scan_and_print.new.out)
-    (subst (λ (l : List FileSize). IsPrinting gives c.args.queue c.args.version c.args.form c.args.sizes.now l c.loop-size.scans.items c.loop-size.last first now)
+    (subst (λ (l : List FileSize). IsPrinting gives c.args.queue c.args.version c.args.form c.args.sizes.now l c.loop-size.are_undamaged c.loop-size.last first now)
     (drop_more c.args.sizes.now c.loop-size.size-index _ c.loop-size-test.true) c.loop-size.invariant)
-    c.in_ok-scan.ensures.scanned c.in_ok-scan.ensures.printed c.in_ok-push.ensures.items
+    c.in_ok-scan.ensures.scanned c.in_ok-scan.ensures.printed c.stay_undamaged-are_undamaged.ensures
 
-pub returns-clause-scanned : goal.returns-clause-scanned
-returns-clause-scanned g c =
+pub returns-clause-ok : goal.returns-clause-ok
+returns-clause-ok g c =
     let gives = g.S.ReadFiles.gives c.args.source.now in
     let first = g.W.Write.contents c.args.out.now in
     let now = g.W.Write.contents c.loop-size.out in
-    all_printed gives c.args.queue c.args.version c.args.form c.args.sizes.now c.loop-size.scans.items c.loop-size.last first now
-    (subst (λ (l : List FileSize). IsPrinting gives c.args.queue c.args.version c.args.form c.args.sizes.now l c.loop-size.scans.items c.loop-size.last first now)
+    all_printed gives c.args.queue c.args.version c.args.form c.args.sizes.now c.loop-size.are_undamaged c.loop-size.last first now
+    (subst (λ (l : List FileSize). IsPrinting gives c.args.queue c.args.version c.args.form c.args.sizes.now l c.loop-size.are_undamaged c.loop-size.last first now)
     (drop_all c.loop-size.size-index c.args.sizes.now c.loop-size-test.false) c.loop-size.invariant)
 
-pub returns-clause-printed : goal.returns-clause-printed
-returns-clause-printed g c =
+pub returns-in_err-scan-clause-cut_short : goal.returns-in_err-scan-clause-cut_short
+returns-in_err-scan-clause-cut_short g c =
     let gives = g.S.ReadFiles.gives c.args.source.now in
     let first = g.W.Write.contents c.args.out.now in
     let now = g.W.Write.contents c.loop-size.out in
-    all_written gives c.args.queue c.args.version c.args.form c.args.sizes.now c.loop-size.scans.items c.loop-size.last first now
-    (subst (λ (l : List FileSize). IsPrinting gives c.args.queue c.args.version c.args.form c.args.sizes.now l c.loop-size.scans.items c.loop-size.last first now)
-    (drop_all c.loop-size.size-index c.args.sizes.now c.loop-size-test.false) c.loop-size.invariant)
+    on_passed _ _ c.from_residual.ensures.1
+    (scans_cut gives c.args.queue c.args.version c.args.form c.args.sizes.now (drop (c.loop-size.size-index + 1) c.args.sizes.now) _ c.loop-size.are_undamaged c.loop-size.last first now
+    (g.W.Write.contents c.scan_and_print.new.out)
+    (subst (λ (l : List FileSize). IsPrinting gives c.args.queue c.args.version c.args.form c.args.sizes.now l c.loop-size.are_undamaged c.loop-size.last first now)
+    (drop_more c.args.sizes.now c.loop-size.size-index _ c.loop-size-test.true) c.loop-size.invariant)
+    c.in_err-scan.ensures.cut_short)
 
 pub returns-in_err-scan-clause-fault : goal.returns-in_err-scan-clause-fault
 returns-in_err-scan-clause-fault g c =

@@ -1,5 +1,5 @@
 -- What the commands do with found files.
-use Rattle.std.specs.Prelude.{◌≡◌, ◌↔◌, ⊤, ℕ, List, codes, Option, Bool}
+use Rattle.std.specs.Prelude.{◌≡◌, ◌↔◌, ◌⊎◌, ⊤, ℕ, List, codes, Option, Bool}
 use Rattle.std.specs.Io.KnownBytes.{Appends, Keeps}
 use Rattle.raft_base.specs.declared.pipe_log.FileId.{FileId}
 use Rattle.raft_base.specs.declared.pipe_log.Version.{Version}
@@ -8,10 +8,12 @@ use Rattle.raft_reading.specs.IoErrors.{IoError}
 use Rattle.raft_reading.specs.declared.queue_files.FileSize.{FileSize}
 use Rattle.raft_recover.specs.FileRecovery.{AreSizesOf, NamedGives}
 use Rattle.raft_recover.specs.Requests.{NumberedPath}
-use Rattle.raft_recover.specs.TableLines.{PrintsTables}
+use Rattle.raft_recover.specs.TableLines.{PrintsFrontOfTables, PrintsTables}
 use Rattle.raft_records.specs.FilePart.{Part}
+use Rattle.raft_records.specs.Lines.{AppendsFront}
 use Rattle.raft_listing.specs.Dumped.{IsMetText}
 use Rattle.raft_listing.specs.Walks.{Met}
+use Rattle.raft_listing.specs.declared.scan.FileScan.{FileScan}
 use Rattle.raft_listing.specs.declared.selection.Selection.{Selection}
 use Rattle.raft_report.specs.JsonItems.{IsMetJson}
 use Rattle.raft_report.specs.JsonLines.{IsJsonOfTables}
@@ -21,7 +23,7 @@ use Rattle.raft_survey.specs.DumpedFiles.{AreDumped}
 use Rattle.raft_inspect.specs.Checked.{IsChecked}
 use Rattle.raft_inspect.specs.Openings.{AreTablesOf, HoldsOfRead}
 use Rattle.raft_inspect.specs.Printed.{verdict_word}
-use Rattle.raft_inspect.specs.PrintedForms.{check_lines}
+use Rattle.raft_inspect.specs.PrintedChecks.{IsCheckPrinted}
 use Rattle.raft_inspect.specs.declared.findings.Findings.{Findings}
 use Rattle.raft_inspect.specs.declared.opening.Opening.{Opening}
 use Rattle.raft_inspect.specs.declared.opening.Opening.TheVariants.{Opens, Refuses}
@@ -30,8 +32,7 @@ use Rattle.raftlog.specs.Sources.{of_queue}
 -- files of these sizes were checked, the lines of what was found were written and nothing else, and the status is 0 exactly where the last word is `sound`
 pub record IsCheckDone (Gives : FileId → ℕ → List ℕ → Type 0) (Fails : FileId → ℕ → IoError → Type 0) (version : Version) (workers : ℕ) (append rewrite : List FileSize) (form : Form) (before after : Option (List ℕ)) (status : ℕ) : Type 0 where
   pub found : Findings
-  pub checked : IsChecked Gives Fails version workers append rewrite found
-  pub written : Appends before after (check_lines form found)
+  pub printed : IsCheckPrinted Gives Fails version workers append rewrite form before after found
   pub verdict : (status ≡ 0) ↔ (verdict_word found ≡ codes "sound")
 
 -- files of both queues were found at paths, and were checked, by the bytes that reads at these paths gave; the status is 0 exactly where the last word is `sound`
@@ -42,10 +43,12 @@ pub record AreFilesChecked (Gives : List ℕ → ℕ → List ℕ → Type 0) (s
   pub rewrite_sizes : List FileSize
   pub version : Version
   pub workers : ℕ
+  pub append_scans : List FileScan
+  pub rewrite_scans : List FileScan
   pub found : Findings
   pub of_append : AreSizesOf append append_sizes
   pub of_rewrite : AreSizesOf rewrite rewrite_sizes
-  pub checked : IsChecked (λ file. NamedGives Gives (of_queue file.queue append rewrite) file) (λ file offset e. Unit {0}) version workers append_sizes rewrite_sizes found
+  pub checked : IsChecked (λ file. NamedGives Gives (of_queue file.queue append rewrite) file) (λ file offset e. Unit {0}) version workers append_sizes rewrite_sizes append_scans rewrite_scans found
   pub verdict : (status ≡ 0) ↔ (verdict_word found ≡ codes "sound")
 
 -- this text says, in a form, what is met at a byte of a part, as far as it is selected
@@ -70,11 +73,27 @@ abbrev pub PrintsTablesIn : Form → Accessor → Option (List ℕ) → Option (
 PrintsTablesIn Text = PrintsTables
 PrintsTablesIn Json = PrintsTablesAsJson
 
+-- a prefix of the lines of JSON of tables, and not all of them, was written after the old bytes, where those are known
+pub record PrintsPrefixOfTablesAsJson (accessor : Accessor) (old new : Option (List ℕ)) : Type 0 where
+  pub text : List ℕ
+  pub of_tables : IsJsonOfTables accessor text
+  pub written : AppendsFront old new text
+
+-- so it is in either form
+abbrev pub PrintsPrefixOfTablesIn : Form → Accessor → Option (List ℕ) → Option (List ℕ) → Type 0
+PrintsPrefixOfTablesIn Text = PrintsFrontOfTables
+PrintsPrefixOfTablesIn Json = PrintsPrefixOfTablesAsJson
+
 -- tables that an engine would have of files of these sizes were written, and nothing else
 pub record AreRegionsPrinted (form : Form) (Gives : FileId → ℕ → List ℕ → Type 0) (version : Version) (append rewrite : List FileSize) (before after : Option (List ℕ)) : Type 0 where
   pub tables : Accessor
   pub read : HoldsOfRead Gives append rewrite (AreTablesOf version tables)
   pub written : PrintsTablesIn form tables before after
+
+-- nothing was written, or a prefix of the lines of such tables, and not all of them
+abbrev pub AreRegionsCutShort : Form → (FileId → ℕ → List ℕ → Type 0) → Version → List FileSize → List FileSize → Option (List ℕ) → Option (List ℕ) → Type 0
+AreRegionsCutShort form Gives version append rewrite before after =
+    Keeps before after ⊎ ((tables : Accessor) × HoldsOfRead Gives append rewrite (AreTablesOf version tables) × PrintsPrefixOfTablesIn form tables before after)
 
 -- files are opened, and not refused
 abbrev pub IsOpened : Opening → Type 0

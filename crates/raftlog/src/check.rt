@@ -1,6 +1,7 @@
 //! `raftlog check`.
 
-ghost use Rattle.std.specs.Prelude.{◌≡◌, ◌↔◌, ◌<◌, ◌≤◌, codes, IfOk};
+ghost use Rattle.std.specs.Prelude.{◌≡◌, ◌↔◌, ◌<◌, ◌≤◌, codes, IfOk, OnErr};
+ghost use Rattle.raft_inspect.specs.CutShort.{IsCheckCutShort};
 ghost use Rattle.raft_inspect.specs.Printed.{verdict_word};
 ghost use Rattle.raftlog.specs.Commands.{AreFilesChecked, IsCheckDone};
 
@@ -50,7 +51,7 @@ pub(crate) fn check<'a, R: Host, W: Write>(
 ///
 /// # Errors
 ///
-/// Those of the files and of the output, `Memory`.
+/// Those of the files and of the output, `Memory`. A prefix of the lines, but not all of them, is then printed.
 fn check_files<R: Threads + Sync + AllocGlobal, S: ReadFiles, W: Write>(
     rt: &R,
     source: &S,
@@ -61,8 +62,10 @@ fn check_files<R: Threads + Sync + AllocGlobal, S: ReadFiles, W: Write>(
     out: &mut W,
 ) -> ToolResult<u8>
     requires { (0 < workers) × (workers ≤ 256) }
-    ensures { IfOk result (IsCheckDone (S.gives source.now) (S.may_fail source.now) version workers sizes.now.append.items
+    ensures done { IfOk result (IsCheckDone (S.gives source.now) (S.may_fail source.now) version workers sizes.now.append.items
         sizes.now.rewrite.items form (W.contents out.old) (W.contents out.new)) }
+    ensures cut_short { OnErr result (IsCheckCutShort (S.gives source.now) (S.may_fail source.now) version workers
+        sizes.now.append.items sizes.now.rewrite.items form (W.contents out.old) (W.contents out.new)) }
 {
     let findings = print_check(rt, rt.alloc(), source, version, sizes, workers, form, out)?;
     Ok(status_of(&findings))

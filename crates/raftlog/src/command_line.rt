@@ -55,7 +55,7 @@ behind it can't follow then. So all files may be empty, or the last batches of a
 have no entries. Of files named one by one what isn't named isn't looked for.
 
 Files are read in pieces: besides the tables some MiB for each worker are in memory, what stands in
-a queue's last file behind the first batch that can't be read, and what is said of damage.";
+a queue's last file behind the first batch that can't be read, and what is said of one file.";
 
 /// What `regions --help` says behind the options.
 const REGIONS_HELP: &str = "\

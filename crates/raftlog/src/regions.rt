@@ -1,8 +1,9 @@
 //! `raftlog regions`.
 
-ghost use Rattle.std.specs.Prelude.{◌≡◌, ◌<◌, ◌≤◌, IfOk, OnOk};
-ghost use Rattle.raft_recover.specs.TableLines.{PrintsTables};
-ghost use Rattle.raftlog.specs.Commands.{AreRegionsPrinted, PrintsTablesAsJson, PrintsTablesIn};
+ghost use Rattle.std.specs.Prelude.{◌≡◌, ◌⊎◌, ◌<◌, ◌≤◌, IfOk, OnErr, OnOk};
+ghost use Rattle.std.specs.Io.KnownBytes.{Keeps};
+ghost use Rattle.raft_recover.specs.TableLines.{PrintsFrontOfTables, PrintsTables};
+ghost use Rattle.raftlog.specs.Commands.{AreRegionsCutShort, AreRegionsPrinted, PrintsPrefixOfTablesAsJson, PrintsPrefixOfTablesIn, PrintsTablesAsJson, PrintsTablesIn};
 
 use crate::errors::{ToolError, ToolResult};
 use crate::host::Host;
@@ -80,7 +81,7 @@ pub(crate) fn tables_of<R: Host>(
 ///
 /// # Errors
 ///
-/// Those of the files, of an opening, and of the output; `Memory`.
+/// Those of the files, of an opening, and of the output; `Memory`. Nothing is printed then, or a prefix, but not all of it.
 fn print_regions<R: Threads + Sync + AllocGlobal, S: ReadFiles, W: Write>(
     rt: &R,
     source: &S,
@@ -91,7 +92,9 @@ fn print_regions<R: Threads + Sync + AllocGlobal, S: ReadFiles, W: Write>(
     out: &mut W,
 ) -> ToolResult<u8>
     requires { (0 < workers) × (workers ≤ 256) }
-    ensures { OnOk result (AreRegionsPrinted form (S.gives source.now) version sizes.now.append.items
+    ensures printed { OnOk result (AreRegionsPrinted form (S.gives source.now) version sizes.now.append.items
+        sizes.now.rewrite.items (W.contents out.old) (W.contents out.new)) }
+    ensures cut_short { OnErr result (AreRegionsCutShort form (S.gives source.now) version sizes.now.append.items
         sizes.now.rewrite.items (W.contents out.old) (W.contents out.new)) }
 {
     let tables = read_tables(rt, rt.alloc(), source, version, sizes, workers)?;
@@ -102,7 +105,7 @@ fn print_regions<R: Threads + Sync + AllocGlobal, S: ReadFiles, W: Write>(
 ///
 /// # Errors
 ///
-/// `Output` where the output takes no more; `Raft` with `Memory`.
+/// `Output` where the output takes no more; `Raft` with `Memory`. Nothing is printed then, or a prefix, but not all of it.
 fn print_all_regions<W: Write>(
     alloc: Global,
     accessor: &MemTableAccessor,
@@ -111,6 +114,8 @@ fn print_all_regions<W: Write>(
 ) -> ToolResult<u8>
     ensures done { IfOk result (λ status. status ≡ 0) }
     ensures printed { OnOk result (PrintsTablesIn form accessor.now (W.contents out.old) (W.contents out.new)) }
+    ensures cut_short { OnErr result (Keeps (W.contents out.old) (W.contents out.new)
+        ⊎ PrintsPrefixOfTablesIn form accessor.now (W.contents out.old) (W.contents out.new)) }
 {
     match form {
         Form::Text => print_text_regions(alloc, accessor, out),
@@ -122,7 +127,7 @@ fn print_all_regions<W: Write>(
 ///
 /// # Errors
 ///
-/// `Output` where the output takes no more; `Raft` with `Memory`.
+/// `Output` where the output takes no more; `Raft` with `Memory`. Nothing is printed then, or a prefix, but not all of it.
 fn print_text_regions<W: Write>(
     alloc: Global,
     accessor: &MemTableAccessor,
@@ -130,6 +135,8 @@ fn print_text_regions<W: Write>(
 ) -> ToolResult<u8>
     ensures done { IfOk result (λ status. status ≡ 0) }
     ensures printed { OnOk result (PrintsTables accessor.now (W.contents out.old) (W.contents out.new)) }
+    ensures cut_short { OnErr result (Keeps (W.contents out.old) (W.contents out.new)
+        ⊎ PrintsFrontOfTables accessor.now (W.contents out.old) (W.contents out.new)) }
 {
     match print_recovered(alloc, accessor, out) {
         Ok(()) => Ok(DONE),
@@ -142,7 +149,7 @@ fn print_text_regions<W: Write>(
 ///
 /// # Errors
 ///
-/// `Output` where the output takes no more; `Raft` with `Memory`.
+/// `Output` where the output takes no more; `Raft` with `Memory`. Nothing is printed then, or a prefix, but not all of it.
 fn print_json_regions<W: Write>(
     alloc: Global,
     accessor: &MemTableAccessor,
@@ -150,6 +157,8 @@ fn print_json_regions<W: Write>(
 ) -> ToolResult<u8>
     ensures done { IfOk result (λ status. status ≡ 0) }
     ensures printed { OnOk result (PrintsTablesAsJson accessor.now (W.contents out.old) (W.contents out.new)) }
+    ensures cut_short { OnErr result (Keeps (W.contents out.old) (W.contents out.new)
+        ⊎ PrintsPrefixOfTablesAsJson accessor.now (W.contents out.old) (W.contents out.new)) }
 {
     let text = tables_as_json(alloc, accessor)?;
     write_text(out, text.as_str())?;

@@ -21,10 +21,12 @@ returns g c =
       rewrite_sizes = found.sizes.rewrite.items;
       version = version;
       workers = workers;
+      append_scans = done.printed.append_scans;
+      rewrite_scans = done.printed.rewrite_scans;
       found = done.found;
       of_append = c.in_ok-found.ensures.sizes.0;
       of_rewrite = c.in_ok-found.ensures.sizes.1;
-      checked = subst (λ rt. IsChecked (λ file. NamedGives (g.R.SharedFiles.gives rt) (of_queue file.queue append rewrite) file) (λ file offset e. Unit {0}) version workers found.sizes.append.items found.sizes.rewrite.items done.found) c.in_ok-found.ensures.machine done.checked;
+      checked = subst (λ rt. IsChecked (λ file. NamedGives (g.R.SharedFiles.gives rt) (of_queue file.queue append rewrite) file) (λ file offset e. Unit {0}) version workers found.sizes.append.items found.sizes.rewrite.items done.printed.append_scans done.printed.rewrite_scans done.found) c.in_ok-found.ensures.machine done.printed.checked;
       verdict = done.verdict;
     })
-    c.check_files-checked.ensures
+    c.check_files-checked.ensures.done

@@ -1,2 +1,3 @@
 pub mod SourceLemmas
 pub mod RegionLemmas
+pub mod WordLemmas

@@ -1,13 +1,5 @@
 -- Tables that weren't printed to their end.
 use Rattle.std.proofs.Common.{◌⊎◌, inl, inr, Result, Ok, Err, OnErr}
-use Rattle.raft_base.specs.declared.errors.Error.{Error}
-use Rattle.raft_base.specs.declared.errors.Error.TheVariants as errors
-use Rattle.raft_records.specs.Lines.{IsIoError}
-
--- nothing is printed, or a prefix, by the error
-pub kept_or_cut : (Kept Cut : Type 0) (e : Error) → ((IsIoError e → ⊥) → Kept) → (IsIoError e → Cut) → Kept ⊎ Cut
-kept_or_cut Kept Cut (errors.Io x) silent cut = inr (cut tt)
-kept_or_cut Kept Cut e silent cut = inl (silent (λ io. io))
 
 -- of tables that were read
 pub tables_cut : {A Kept : Type 0} {Read Cut : A → Type 0} (tables : A) → Read tables → Kept ⊎ Cut tables → Kept ⊎ ((a : A) × Read a × Cut a)

@@ -1,6 +1,7 @@
 -- What the commands do with found files.
 use Rattle.std.specs.Prelude.{◌≡◌, ◌↔◌, ◌⊎◌, ⊤, ℕ, List, codes, Option, Bool}
 use Rattle.std.specs.Io.KnownBytes.{Appends, Keeps}
+use Rattle.clap.specs.declared.parser.matches.ArgMatches.{ArgMatches}
 use Rattle.raft_base.specs.declared.pipe_log.FileId.{FileId}
 use Rattle.raft_base.specs.declared.pipe_log.Version.{Version}
 use Rattle.raft_accessor.specs.Accessor.{Accessor}
@@ -28,6 +29,7 @@ use Rattle.raft_inspect.specs.declared.findings.Findings.{Findings}
 use Rattle.raft_inspect.specs.declared.opening.Opening.{Opening}
 use Rattle.raft_inspect.specs.declared.opening.Opening.TheVariants.{Opens, Refuses}
 use Rattle.raftlog.specs.Sources.{of_queue}
+use Rattle.raftlog.specs.Words.{IsVersionAsked}
 
 -- files of these sizes were checked, the lines of what was found were written and nothing else, and the status is 0 exactly where the last word is `sound`
 pub record IsCheckDone (Gives : FileId → ℕ → List ℕ → Type 0) (Fails : FileId → ℕ → IoError → Type 0) (version : Version) (workers : ℕ) (append rewrite : List FileSize) (form : Form) (before after : Option (List ℕ)) (status : ℕ) : Type 0 where
@@ -35,13 +37,14 @@ pub record IsCheckDone (Gives : FileId → ℕ → List ℕ → Type 0) (Fails :
   pub printed : IsCheckPrinted Gives Fails version workers append rewrite form before after found
   pub verdict : (status ≡ 0) ↔ (verdict_word found ≡ codes "sound")
 
--- files of both queues were found at paths, and were checked, by the bytes that reads at these paths gave; the status is 0 exactly where the last word is `sound`
-pub record AreFilesChecked (Gives : List ℕ → ℕ → List ℕ → Type 0) (status : ℕ) : Type 0 where
+-- files of both queues were found at paths, and were checked in the version that words ask for, by the bytes that reads at these paths gave; the status is 0 exactly where the last word is `sound`
+pub record AreFilesChecked (words : ArgMatches) (Gives : List ℕ → ℕ → List ℕ → Type 0) (status : ℕ) : Type 0 where
   pub append : List NumberedPath
   pub rewrite : List NumberedPath
   pub append_sizes : List FileSize
   pub rewrite_sizes : List FileSize
   pub version : Version
+  pub asked : IsVersionAsked words version
   pub workers : ℕ
   pub append_scans : List FileScan
   pub rewrite_scans : List FileScan

@@ -29,7 +29,7 @@ pub(crate) fn check<'a, R: Host, W: Write>(
     words: &ArgMatches<'a>,
     out: &mut W,
 ) -> ToolResult<u8>
-    ensures { IfOk result (AreFilesChecked (R.gives rt.now)) }
+    ensures { IfOk result (AreFilesChecked words.now (R.gives rt.now)) }
 {
     let found = find_files(rt, words, 2)?;
     let (version, workers, form) = (version_of(words), workers_of(rt, words), form_of(words));

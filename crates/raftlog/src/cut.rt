@@ -5,7 +5,7 @@ ghost use Rattle.raftlog.specs.Commands.{IsOpened};
 
 use crate::errors::{ToolError, ToolResult};
 use crate::host::Host;
-use crate::options::{form_of, version_of, workers_of};
+use crate::options::{form_of, has_flag, version_of, workers_of};
 use crate::source::{Found, files_in_folder, files_in_open_folder, refuse_file};
 use crate::streams::hold_streams;
 use crate::tools::{DONE, WRONG};
@@ -29,7 +29,7 @@ pub(crate) fn cut<'a, R: Host, W: Write>(
     let Some(path) = words.get_str("folder") else {
         return Err(ToolError::Misused("name a folder"));
     };
-    match (words.get_flag("dry-run"), words.get_flag("yes")) {
+    match (has_flag(words, "dry-run"), has_flag(words, "yes")) {
         (true, false) => print_cut(rt, words, path, out),
         (false, true) => cut_folder(rt, words, path, out),
         (true, true) => Err(ToolError::Misused("say --dry-run or --yes, and not both")),

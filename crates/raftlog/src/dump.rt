@@ -1,13 +1,14 @@
 //! `raftlog dump`.
 
-ghost use Rattle.std.specs.Prelude.{IfOk};
+ghost use Rattle.std.specs.Prelude.{◌<◌, IfOk};
 ghost use Rattle.raft_survey.specs.DumpedFiles.{AreDumped};
 ghost use Rattle.raftlog.specs.Commands.{IsDumpDone, IsSaidIn};
+ghost use Rattle.raftlog.specs.Words.{IsSelectionAsked};
 
 use crate::errors::{ToolError, ToolResult};
 use crate::host::Host;
 use crate::lost::LostEntries;
-use crate::options::{form_of, version_of};
+use crate::options::{form_of, has_flag, number_of, version_of};
 use crate::output::Lines;
 use crate::source::{Found, find_files};
 use crate::tools::{DONE, WRONG};
@@ -45,12 +46,15 @@ pub(crate) fn dump<'a, R: Host, W: Write>(
 /// # Errors
 ///
 /// `Misused` where they select no index at all.
-fn selection_of(words: &ArgMatches<'_>) -> ToolResult<Selection> {
+fn selection_of(words: &ArgMatches<'_>) -> ToolResult<Selection>
+    ensures asked { IfOk result (IsSelectionAsked words.now) }
+    ensures some { IfOk result (λ selection. selection.from < selection.to) }
+{
     let selection = Selection {
-        region: words.get_one::<u64>("region"),
-        from: words.get_one::<u64>("from").unwrap_or(0),
-        to: words.get_one::<u64>("to").unwrap_or(u64::MAX),
-        values: words.get_flag("values"),
+        region: number_of(words, "region"),
+        from: number_of(words, "from").unwrap_or(0),
+        to: number_of(words, "to").unwrap_or(u64::MAX),
+        values: has_flag(words, "values"),
     };
     if selection.from >= selection.to {
         return Err(ToolError::Misused("no index is at or above --from and below --to"));

@@ -1,6 +1,7 @@
 //! What the words of all commands say.
 
 ghost use Rattle.std.specs.Prelude.{◌<◌, ◌≤◌};
+ghost use Rattle.raftlog.specs.Words.{IsFlag, IsFormAsked, IsNumberIfNamed, IsVersionAsked};
 
 use crate::host::Host;
 use clap::ArgMatches;
@@ -9,17 +10,35 @@ use raft_recover::MAX_WORKERS;
 use raft_report::Form;
 use std::thread::available_parallelism;
 
+/// Returns the number that words name by an option, `None` where they name none.
+pub(crate) fn number_of(words: &ArgMatches<'_>, name: &str) -> Option<u64>
+    ensures { IsNumberIfNamed words.now name.now result }
+{
+    words.get_one::<u64>(name)
+}
+
+/// Tests whether words have a flag.
+pub(crate) fn has_flag(words: &ArgMatches<'_>, name: &str) -> bool
+    ensures { IsFlag words.now name.now result }
+{
+    words.get_flag(name)
+}
+
 /// Returns the format version that words name, 2 where they name none.
-pub(crate) fn version_of(words: &ArgMatches<'_>) -> Version {
-    match words.get_one::<u64>("format") {
+pub(crate) fn version_of(words: &ArgMatches<'_>) -> Version
+    ensures { IsVersionAsked words.now result }
+{
+    match number_of(words, "format") {
         Some(1) => Version::V1,
         _ => Version::V2,
     }
 }
 
 /// Returns the form that words ask for: JSON where they have `--json`, else text.
-pub(crate) fn form_of(words: &ArgMatches<'_>) -> Form {
-    if words.get_flag("json") {
+pub(crate) fn form_of(words: &ArgMatches<'_>) -> Form
+    ensures { IsFormAsked words.now result }
+{
+    if has_flag(words, "json") {
         Form::Json
     } else {
         Form::Text
@@ -30,7 +49,7 @@ pub(crate) fn form_of(words: &ArgMatches<'_>) -> Form {
 pub(crate) fn workers_of<R: Host>(rt: &R, words: &ArgMatches<'_>) -> usize
     ensures { (0 < result) × (result ≤ 256) }
 {
-    let count = match words.get_one::<u64>("workers") {
+    let count = match number_of(words, "workers") {
         Some(count) => count.min(MAX_WORKERS as u64) as usize,
         None => match available_parallelism(rt) {
             Ok(count) => count.get(),

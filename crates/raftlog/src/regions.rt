@@ -7,7 +7,7 @@ ghost use Rattle.raftlog.specs.Commands.{AreRegionsCutShort, AreRegionsPrinted, 
 
 use crate::errors::{ToolError, ToolResult};
 use crate::host::Host;
-use crate::options::{form_of, version_of, workers_of};
+use crate::options::{form_of, has_flag, number_of, version_of, workers_of};
 use crate::source::{Found, find_files};
 use crate::tools::DONE;
 use clap::ArgMatches;
@@ -31,7 +31,7 @@ pub(crate) fn show_regions<'a, R: Host, W: Write>(
     words: &ArgMatches<'a>,
     out: &mut W,
 ) -> ToolResult<u8> {
-    let (region, values) = (words.get_one::<u64>("region"), words.get_flag("values"));
+    let (region, values) = (number_of(words, "region"), has_flag(words, "values"));
     if values && region.is_none() {
         return Err(ToolError::Misused("--values is of the keys of a region: say --region"));
     }

@@ -20,6 +20,7 @@ returns g c =
       append_sizes = found.sizes.append.items;
       rewrite_sizes = found.sizes.rewrite.items;
       version = version;
+      asked = c.version_of-version.ensures;
       workers = workers;
       append_scans = done.printed.append_scans;
       rewrite_scans = done.printed.rewrite_scans;

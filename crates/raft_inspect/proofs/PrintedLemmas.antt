@@ -1,6 +1,6 @@
 -- Scans that are printed one behind another.
 use Rattle.raft_inspect.proofs.Common.{◌≡◌, ◌↔◌, inl, inr, ℕ, Bool, true, List, [], ◌∷◌, ◌++◌, Option, Some, None, refl, sym, ap, ◌∙◌, subst, append_assoc, append-nil, AllByRecursion, Appends, Keeps, AppendsFront, FileId, LogQueue, Version, FileSize, FileScan, AreScansOf, IsScanOf}
-use Rattle.raft_inspect.proofs.Common.{Form, AreScansCutShort, AreScansPrinted, IsCutShort, IsScanCutShort, IsUndamaged, scan_lines, scans_lines}
+use Rattle.raft_inspect.proofs.Common.{Form, IoError, AreScansCutShort, AreScansPrinted, IsCutShort, IsOpeningCutShort, IsOpeningOf, IsScanCutShort, IsUndamaged, Opening, opening_lines, scan_lines, scans_lines}
 
 -- ---- bytes behind bytes, where they are known
 
@@ -32,6 +32,16 @@ appends_front a b c x y first second = record {
   unfinished = second.unfinished;
   written = appends_both a b c x second.front first second.written;
 }
+
+-- ---- what an opening would do
+
+module _ (Gives : FileId → ℕ → List ℕ → Type 0) (Fails : FileId → ℕ → IoError → Type 0) (version : Version) (workers : ℕ) (append rewrite : List FileSize) (form : Form) (opening : Opening) (opens : IsOpeningOf Gives Fails version workers append rewrite opening) where
+  pub opening_cut : (old new : Option (List ℕ)) → IsCutShort old new (opening_lines form opening) → IsOpeningCutShort Gives Fails version workers append rewrite form old new
+  opening_cut old new (inl kept) = inl kept
+  opening_cut old new (inr front) = inr (opening, opens, record { prefix = front.front; rest = front.rest; split = front.split; written = front.written })
+
+  pub opening_whole : (old new : Option (List ℕ)) → Appends old new (opening_lines form opening) → IsOpeningCutShort Gives Fails version workers append rewrite form old new
+  opening_whole old new written = inr (opening, opens, record { prefix = opening_lines form opening; rest = []; split = sym (append-nil (opening_lines form opening)); written = written })
 
 -- ---- scans
 

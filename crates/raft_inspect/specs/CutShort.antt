@@ -12,9 +12,11 @@ use Rattle.raft_listing.specs.declared.scan.FileScan.{FileScan}
 use Rattle.raft_report.specs.declared.form.Form.{Form}
 use Rattle.raft_survey.specs.FileScans.{AreScansOf, IsScanOf}
 use Rattle.raft_inspect.specs.Checked.{IsChecked}
+use Rattle.raft_inspect.specs.Openings.{IsOpeningOf}
 use Rattle.raft_inspect.specs.PrintedChecks.{AreScansPrinted}
-use Rattle.raft_inspect.specs.PrintedForms.{check_lines, scan_lines, scans_lines}
+use Rattle.raft_inspect.specs.PrintedForms.{check_lines, opening_lines, scan_lines, scans_lines}
 use Rattle.raft_inspect.specs.declared.findings.Findings.{Findings}
+use Rattle.raft_inspect.specs.declared.opening.Opening.{Opening}
 
 -- nothing of a text was written, or a prefix of it, and not all
 abbrev pub IsCutShort : Option (List ℕ) → Option (List ℕ) → List ℕ → Type 0
@@ -59,3 +61,8 @@ pub record IsWholeCheckCutShort (Gives : FileId → ℕ → List ℕ → Type 0)
 abbrev pub IsCheckCutShort : (FileId → ℕ → List ℕ → Type 0) → (FileId → ℕ → IoError → Type 0) → Version → ℕ → List FileSize → List FileSize → Form → Option (List ℕ) → Option (List ℕ) → Type 0
 IsCheckCutShort Gives Fails version workers append rewrite form old new =
     AreBothScansCutShort Gives version append rewrite form old new ⊎ IsWholeCheckCutShort Gives Fails version workers append rewrite form old new
+
+-- nothing was written, or a prefix of the lines of what an opening of files of these sizes would do, perhaps all of them
+abbrev pub IsOpeningCutShort : (FileId → ℕ → List ℕ → Type 0) → (FileId → ℕ → IoError → Type 0) → Version → ℕ → List FileSize → List FileSize → Form → Option (List ℕ) → Option (List ℕ) → Type 0
+IsOpeningCutShort Gives Fails version workers append rewrite form old new =
+    Keeps old new ⊎ ((opening : Opening) × IsOpeningOf Gives Fails version workers append rewrite opening × AppendsPrefix old new (opening_lines form opening))

@@ -1,8 +1,9 @@
 //! The cut of torn tails, as an opening would do it.
 
-ghost use Rattle.std.specs.Prelude.{◌≡◌, ◌++◌, ◌<◌, ◌≤◌, IfErr, IfOk, OnOk};
+ghost use Rattle.std.specs.Prelude.{◌≡◌, ◌++◌, ◌<◌, ◌≤◌, IfErr, IfOk, OnErr, OnOk};
 ghost use Rattle.std.specs.Io.KnownBytes.{Appends};
 ghost use Rattle.raft_engine.specs.OpeningAsks.{FailsAmong};
+ghost use Rattle.raft_inspect.specs.CutShort.{IsOpeningCutShort};
 ghost use Rattle.raft_inspect.specs.Cuts.{IsCutAsOpened, IsCutFault, cut_asked, opening_cuts};
 ghost use Rattle.raft_inspect.specs.PrintedForms.{opening_lines};
 
@@ -24,7 +25,8 @@ use std::thread::Threads;
 /// # Errors
 ///
 /// `Output` where the output takes no more, and `Files` with `Memory`, or with `Io` where the system refuses a read: nothing is asked of the
-/// files then. `Files` with the error of [`EngineFiles::truncate`]; the tail of the append queue may be cut off then.
+/// files then, and nothing is printed, or a prefix of what the opening would do. `Files` with the error of [`EngineFiles::truncate`]; the
+/// tail of the append queue may be cut off then, and all is printed.
 pub fn cut_as_opened<R: Threads + Sync, S: ReadFiles, F: EngineFiles, W: Write>(
     rt: &R,
     alloc: Global,
@@ -41,6 +43,8 @@ pub fn cut_as_opened<R: Threads + Sync, S: ReadFiles, F: EngineFiles, W: Write>(
         sizes.now.append.items sizes.now.rewrite.items (F.asked files.old) (F.asked files.new)) }
     ensures printed { IfOk result (λ opening. Appends (W.contents out.old) (W.contents out.new)
         (opening_lines form opening)) }
+    ensures cut_short { OnErr result (IsOpeningCutShort (S.gives source.now) (S.may_fail source.now) version workers
+        sizes.now.append.items sizes.now.rewrite.items form (W.contents out.old) (W.contents out.new)) }
     ensures fault { IfErr result (IsCutFault F.may_fail (S.gives source.now) (S.may_fail source.now) version workers
         sizes.now.append.items sizes.now.rewrite.items (F.asked files.old) (F.asked files.new)) }
 {

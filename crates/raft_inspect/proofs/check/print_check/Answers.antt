@@ -1,6 +1,6 @@
 use Rattle.raft_inspect.proofs.Common.{inl, inr, on_passed, IsUnchecked}
 use Rattle.raft_inspect.proofs.FaultLemmas.{for_none, of_scans}
-use Rattle.raft_inspect.proofs.FoundLemmas.{IsFound, ending_cut, ends_with_scans, printed_so}
+use Rattle.raft_inspect.proofs.FoundLemmas.{ending_cut, ends_with_scans, printed_so}
 use Rattle.raft_inspect.proofs.PrintedLemmas.{keeps_same}
 use Rattle.raft_inspect.proofs.check.print_check.Goals as goal
 

@@ -1,6 +1,5 @@
-use Rattle.std.proofs.Common.{inl, inr, subst}
+use Rattle.std.proofs.Common.{inl, inr}
 use Rattle.raft_inspect.proofs.PrintedLemmas.{keeps_same}
-use Rattle.raft_records.specs.Lines.{AppendsFront}
 use Rattle.raftlog.proofs.RegionLemmas.{on_any_error}
 use Rattle.raftlog.proofs.regions.print_json_regions.Goals as goal
 

@@ -44,7 +44,10 @@ const REGIONS: [u64; 2] = [7, 8];
 fn main(rt: HostRuntime) -> Result<()> {
     match env::args(&rt)?.nth(1) {
         Some(word) if is_help(word.as_str()) => Ok(println!(rt; "{USAGE}")?),
-        Some(word) if word.as_str().starts_with('-') => Err(Error::invalid_argument(rt.alloc(), USAGE)),
+        Some(word) if word.as_str().starts_with('-') => Err(Error::invalid_argument(
+            rt.alloc(),
+            USAGE,
+        )),
         Some(folder) => run_example(&rt, folder.as_str()),
         None => {
             remove_folder(&rt)?;

@@ -12,7 +12,7 @@ pub record IsFound (append rewrite : List FileSize) (undamaged : UndamagedQueues
   pub verdict : (found.is_sound ≡ true) ↔ ((undamaged.append ≡ true) × (undamaged.rewrite ≡ true) × CutsNothing found.opening)
 
 module _ (Gives : FileId → ℕ → List ℕ → Type 0) (Fails : FileId → ℕ → IoError → Type 0) (version : Version) (workers : ℕ) (append rewrite : List FileSize) (form : Form) (old now : Option (List ℕ)) (undamaged : UndamagedQueues)
-  (scans : AreBothScansPrinted Gives version append rewrite form old now undamaged) where
+    (scans : AreBothScansPrinted Gives version append rewrite form old now undamaged) where
   -- where nothing more is printed
   pub ends_with_scans : (new : Option (List ℕ)) → Keeps now new → IsCheckCutShort Gives Fails version workers append rewrite form old new
   ends_with_scans new kept = inl (inr (scans.between, undamaged.append, scans.of_append, nothing_behind Gives Rewrite version form rewrite undamaged.rewrite scans.between now new scans.of_rewrite kept))

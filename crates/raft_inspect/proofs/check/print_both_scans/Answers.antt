@@ -35,9 +35,12 @@ returns-in_err-rewrite-clause-cut_short g c =
     let between = g.W.Write.contents c.print_scans.new.out in
     let after = g.W.Write.contents c.print_scans-2.new.out in
     on_passed _ _ c.from_residual-in_err-rewrite.ensures.1
-    (inr (between, c.in_ok-append.append,
+    (inr (
+      between,
+      c.in_ok-append.append,
       subst (λ (files : List FileSize). AreScansPrinted gives Append c.args.version files c.args.form before between c.in_ok-append.append) c.deref.ensures.value c.in_ok-append.ensures.ok,
-      subst (λ (files : List FileSize). AreScansCutShort gives Rewrite c.args.version files c.args.form between after) c.deref-2.ensures.value c.in_err-rewrite.ensures.cut_short))
+      subst (λ (files : List FileSize). AreScansCutShort gives Rewrite c.args.version files c.args.form between after) c.deref-2.ensures.value c.in_err-rewrite.ensures.cut_short,
+    ))
 
 pub returns-in_err-rewrite-clause-fault : goal.returns-in_err-rewrite-clause-fault
 returns-in_err-rewrite-clause-fault g c =

@@ -474,11 +474,17 @@ def look_at_words(looker, folder):
                           [["check", "--colour", room.path], 2], [["check", "--format", "3", room.path], 2], [["check", "--workers", "0", room.path], 2],
                           [["check", room.path, *files], 2], [["check", "--append", "x"], 2], [["check", "--append", "1="], 2], [["help"], 0],
                           [["cut", "--dry-run", "--yes", room.path], 2], [["regions", "--values", room.path], 2], [["dump", "--from", "11", "--to", "9", room.path], 2],
-                          [["dump", "--region", "-1", room.path], 2]):
+                          [["dump", "--region", "-1", room.path], 2], [["dump", "--workers", "2", room.path], 2]):
         looker.expect(" ".join(map(str, words)), looker.run(*words), status, [])
     for words in ([], ["chek", room.path], ["--json", "check", room.path]):
         looker.expect("no command", looker.run(*words), 2, ["raftlog batch ", "raftlog recover ", "raftlog check|regions|dump|files <folder>", "raftlog cut "])
     looker.expect("a word that isn't UTF-8", looker.run("check", os.fsencode(room.path) + b"\xff"), 2, ["raftlog: a word isn't UTF-8: ", "\nusage: raftlog "])
+    if looker.opener:
+        for word, status in (("--help", 0), ("--version", 2)):
+            ended = subprocess.run([looker.opener, word], cwd=room.path, stdin=subprocess.DEVNULL, capture_output=True, text=True, timeout=SECONDS)
+            looker.expect(f"raft_example {word}", ended, status, [])
+            if (room.path / word).exists():
+                looker.wrong(f"raft_example {word} makes a folder")
     for word in ("dump", "regions"):
         looker.expect(f"{word} of a region that isn't there", looker.run(word, "--region", "99", room.path), 1, ["raftlog: region 99: "])
     looker.expect("check of a file", looker.run("check", room.file(1)), 1, [f"raftlog: {room.file(1)}: it is a file: "])

@@ -4,7 +4,7 @@
 //! one of the program's own, which is removed at the end.
 #![tactic(auto)]
 
-use raft_base::{Error, FileId, FileSeq, LogQueue, Result, Version};
+use raft_base::{FileId, FileSeq, LogQueue, Result, Version};
 use raft_engine::{Engine, RecoveryMode};
 use raft_folder::{FolderError, FolderFiles, FolderHost};
 use raft_opening::open_folder;
@@ -12,6 +12,7 @@ use raft_records::{Command, LogBatch};
 use raft_recover::SharedFiles;
 use raft_samples::{Proposals, proposals_from};
 use std::fs::OpenOptions;
+use std::process::ExitCode;
 use std::thread::Threads;
 use std::{env, fs};
 
@@ -35,26 +36,27 @@ const WORKERS: usize = 2;
 /// The regions that are written to.
 const REGIONS: [u64; 2] = [7, 8];
 
-/// Prints the usage for `--help`, and for another word that begins like an option; else runs the example over the folder that the first
-/// word names, or over one of its own.
+/// Prints the usage for `--help`; refuses any other option, with status 2; else runs the example over the folder that the first word names, or
+/// over one of its own.
 ///
 /// # Errors
 ///
 /// Those of [`run_example`]; `Io` for the words, the output or the folder.
-fn main(rt: HostRuntime) -> Result<()> {
+fn main(rt: HostRuntime) -> Result<ExitCode> {
     match env::args(&rt)?.nth(1) {
-        Some(word) if is_help(word.as_str()) => Ok(println!(rt; "{USAGE}")?),
-        Some(word) if word.as_str().starts_with('-') => Err(Error::invalid_argument(
-            rt.alloc(),
-            USAGE,
-        )),
-        Some(folder) => run_example(&rt, folder.as_str()),
+        Some(word) if is_help(word.as_str()) => println!(rt; "{USAGE}")?,
+        Some(word) if word.as_str().starts_with('-') => {
+            eprintln!(rt; "{USAGE}")?;
+            return Ok(ExitCode::from(2));
+        }
+        Some(folder) => run_example(&rt, folder.as_str())?,
         None => {
             remove_folder(&rt)?;
             run_example(&rt, FOLDER)?;
-            remove_folder(&rt)
+            remove_folder(&rt)?;
         }
     }
+    Ok(ExitCode::SUCCESS)
 }
 
 /// Tests whether `word` asks for the usage.

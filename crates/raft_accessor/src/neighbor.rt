@@ -1,10 +1,10 @@
-//! Which tables are merged into those that are there.
+//! The two kinds of tables that can be merged into those that are there.
 
-/// Which kind of tables is merged into those that are there.
+/// What tables are that are merged into those that are there.
 #[derive(Clone, Copy, PartialEq, Eq, Debug)]
 pub enum Neighbor {
-    /// Those of the steps that follow, in the same queue.
+    /// Tables of the steps that follow directly, in the same queue.
     Newer,
-    /// Those of the append queue, into those of the rewrite queue.
+    /// Tables of the append queue, merged into those of the rewrite queue.
     Appended,
 }

@@ -1,10 +1,10 @@
-//! A seat at which numbers are drawn.
+//! A seat, by which a thread draws numbers.
 
 use crate::drawing::Lists;
 use atomic_table::Seat;
 use std::marker::Model;
 
-/// The right to draw numbers of one `Tickets`. A thread draws with a seat of its own.
+/// The right to draw numbers of one `Tickets`. Each thread draws with a seat of its own.
 #[derive(Drop)]
 pub struct TicketSeat {
     pub(crate) seat: Seat<(), Lists>,

@@ -47,8 +47,11 @@ fn lent<'a>(table: AllocResult<&'a MemTable>) -> Result<&'a MemTable>
 /// cleaned. The tables stand in 128 hash maps (slots), by the hash of their region's id.
 #[derive(Drop)]
 pub struct MemTableAccessor {
+    /// The tables of the 128 slots, slot n at index n.
     slots: Vec<RegionTables>,
+    /// How many records of all tables are live in each queue.
     stats: GlobalStats,
+    /// The ids of the regions that were cleaned, in order.
     cleaned: Vec<u64>,
 }
 

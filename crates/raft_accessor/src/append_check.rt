@@ -138,13 +138,13 @@ impl AppendCheck {
         }
     }
 
-    /// Checks the next item, and takes in what it does to the entries of its region. `table` is the table
-    /// that this region had before all items, or `None` if it had none.
+    /// Checks the next item, and notes where the entries of its region begin and end after it. `table` is the
+    /// table that this region had before all items, or `None` if it had none.
     ///
     /// # Errors
     ///
-    /// `Corruption` if the tables would refuse the item, with the region and the reason; `Memory`. Nothing
-    /// was taken in then.
+    /// `Corruption` if the tables would refuse the item, with the region and the reason; `Memory`. Nothing is
+    /// noted then.
     pub(crate) fn take(&mut self, item: &LogItem, table: Option<&MemTable>) -> Result<()>
         ensures ok { OnOk result (TakesNext (known_extents self.old.extents)
             (option_map (λ t. t.now) table.entry) (item_of item.now) (known_extents self.new.extents)) }

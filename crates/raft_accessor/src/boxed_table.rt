@@ -11,6 +11,7 @@ use std::marker::Model;
 /// A table in a box of its own. So a map of many tables is small, and moves little when it grows.
 #[derive(Drop)]
 pub struct BoxedTable {
+    /// The box with the table.
     pub(crate) boxed: Box<MemTable>,
 }
 

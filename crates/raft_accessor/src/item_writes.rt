@@ -19,9 +19,8 @@ pub enum Writing {
     Appending,
     /// As ones that were read again from this queue.
     Replaying(LogQueue),
-    /// As ones that were rewritten to the file of the rewrite queue that has the second number. The first,
-    /// the gate, limits which places move: those in append files numbered at or below it; without one, those
-    /// that are rewritten already.
+    /// As ones that were rewritten to the file of the rewrite queue that has the second number. The first is
+    /// the gate, which limits what moves ([`RegionTables::rewrite_item`]).
     Rewriting(Option<FileSeq>, FileSeq),
 }
 
@@ -141,9 +140,10 @@ impl RegionTables {
     }
 
     /// Writes an item that was rewritten to the file numbered `seq` of the rewrite queue to the table of its
-    /// region: entries get their new places, or a key its new file. `gate` limits what moves: records in
-    /// append files numbered at or below it; without one, those that are rewritten already. A `Clean` and a
-    /// group marker change nothing. `stats` are the live counts, which follow the change.
+    /// region: entries get their new places, or a key its new file. `gate` limits what moves. With one,
+    /// entries move whose file is numbered at or below it; without one, those that are rewritten already. A
+    /// key value in an append file moves only with a gate at or above that file, a rewritten one always. A
+    /// `Clean` and a group marker change nothing. `stats` are the live counts, which follow the change.
     ///
     /// # Errors
     ///
@@ -208,9 +208,9 @@ impl RegionTables {
         self.append_run(id, run, stats)
     }
 
-    /// Gives entries of the region `id` the places of `run`, which was written to the rewrite queue. `gate`
-    /// limits which ones move: those in append files numbered at or below it; without one, those that are
-    /// rewritten already.
+    /// Gives entries of the region `id` the places of `run`, which was written to the rewrite queue. With a
+    /// `gate`, entries move whose file is numbered at or below it; without one, those that are rewritten
+    /// already.
     ///
     /// # Errors
     ///
@@ -307,8 +307,9 @@ impl RegionTables {
         }
     }
 
-    /// Moves the value of a key of the region `id` to the file numbered `seq` of the rewrite queue, if `gate`
-    /// lets it ([`MemTable::rewrite_key`]). A group marker changes nothing.
+    /// Moves the value of a key of the region `id` to the file numbered `seq` of the rewrite queue. One in an
+    /// append file moves only with a `gate` at or above that file, a rewritten one always. A group marker
+    /// changes nothing.
     ///
     /// # Errors
     ///

@@ -12,7 +12,9 @@ use std::collections::HashMap;
 /// map of the others, so that items of one region alone need no map.
 #[derive(Drop)]
 pub(crate) struct KnownExtents {
+    /// The first region that was noted, with its extent.
     first: Option<(u64, Extent)>,
+    /// The extents of the other regions.
     others: HashMap<u64, Extent>,
 }
 

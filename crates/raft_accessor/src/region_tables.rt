@@ -25,7 +25,9 @@ use std::marker::Model;
 #[doc(hidden)]
 #[derive(Drop)]
 pub struct RegionTables {
+    /// The tables, each under its region's id.
     tables: HashMap<u64, BoxedTable>,
+    /// The allocator of new tables.
     pub(crate) alloc: Global,
 }
 

@@ -25,7 +25,9 @@ use std::alloc::Global;
 /// the one that its table implies, if it has a table: that of one run of all its entries.
 #[derive(Drop)]
 pub(crate) struct MarkedTables {
+    /// The tables of all regions.
     pub(crate) accessor: MemTableAccessor,
+    /// The region marks that the tables don't imply.
     pub(crate) marks: RegionMarks,
 }
 

@@ -22,8 +22,11 @@ use std::alloc::Global;
 /// of the batches.
 #[derive(Drop)]
 pub(crate) struct ReadState {
+    /// The tables and region marks of all regions.
     pub(crate) regions: MarkedTables,
+    /// The atomic groups that aren't whole yet.
     pub(crate) groups: WaitingGroups,
+    /// The files of the batches, or `None` before the first batch.
     pub(crate) files: Option<FileRange>,
     alloc: Global,
 }

@@ -12,7 +12,9 @@ const HEADER_LEN: usize = 16;
 /// What a crash leaves of the files of both queues. What is left of one says nothing of the other.
 #[derive(Clone, Copy)]
 pub(crate) struct Crash {
+    /// What is left of the append queue.
     append: Rest,
+    /// What is left of the rewrite queue.
     rewrite: Rest,
 }
 

@@ -40,7 +40,9 @@ pub(crate) enum Tail {
 /// says.
 #[derive(Clone, Copy)]
 pub(crate) struct Rest {
+    /// How many of the oldest files are gone.
     gone: usize,
+    /// What is left of the last file.
     tail: Tail,
 }
 

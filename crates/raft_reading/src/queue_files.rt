@@ -13,7 +13,9 @@ use std::thread::{Threads, join};
 /// The number of a file, and its length in bytes.
 #[derive(Clone, Copy, PartialEq, Eq, Debug)]
 pub struct FileSize {
+    /// The number of the file.
     pub seq: FileSeq,
+    /// How many bytes it has.
     pub len: u64,
 }
 

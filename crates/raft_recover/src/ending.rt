@@ -47,8 +47,9 @@ impl Program {
         Status::Refused as u8
     }
 
-    /// Prints on `err` that the words of a command line can't be had, for the reason `error`. Returns the
-    /// status: 1 for lack of memory, which is printed as a refusal; else 2, with the hint at the words.
+    /// Reports on `err` that the words of a command line couldn't be read, and returns the status. If `error`
+    /// is lack of memory, it prints that as a refusal, and returns 1; else it prints the hint at the words,
+    /// and returns 2.
     pub(crate) fn without_words<E: Write>(&self, error: &io::Error, err: &mut E) -> u8
         ensures memory { error_kind error.now ≡ ErrorKind.OutOfMemory → result ≡ 1 }
         ensures misused { error_kind error.now ≢ ErrorKind.OutOfMemory → result ≡ 2 }

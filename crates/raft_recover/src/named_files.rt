@@ -17,7 +17,9 @@ use std::thread::Threads;
 /// Files by their numbers, which rise, and their paths.
 #[derive(Drop)]
 pub(crate) struct NamedFiles<'a, D: SharedFiles> {
+    /// What reads the files.
     disk: &'a D,
+    /// The number and the path of each file. The numbers rise.
     paths: &'a [(FileSeq, &'a str)],
 }
 

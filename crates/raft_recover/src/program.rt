@@ -79,9 +79,10 @@ pub fn command_words<S: Env + AllocGlobal>(rt: &S) -> io::Result<Vec<String>> {
     Ok(words)
 }
 
-/// Prints on `err` that the words of the command line can't be had, where [`command_words`] failed with
-/// `error`. Returns the status with which to end the process: 1 for lack of memory, which is printed like any
-/// other refusal; 2 for a word that isn't UTF-8, with a hint at the words.
+/// Reports on `err` that the words of the command line couldn't be read, and returns the status with which to
+/// end the process. `error` is that of [`command_words`]. If it is lack of memory, it is printed as a
+/// refusal, and 1 is returned; else, as for a word that isn't UTF-8, a hint at the words is printed, and 2 is
+/// returned.
 pub fn run_without_words<E: Write>(error: &io::Error, err: &mut E) -> u8
     ensures memory { error_kind error.now ≡ ErrorKind.OutOfMemory → result ≡ 1 }
     ensures misused { error_kind error.now ≢ ErrorKind.OutOfMemory → result ≡ 2 }

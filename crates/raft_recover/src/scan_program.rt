@@ -67,9 +67,9 @@ pub fn run_scan<S: Files + AllocGlobal, W: Write, E: Write>(
     }
 }
 
-/// Prints on `err` that the words of the command line can't be had, where reading them failed with `error`.
-/// Returns the status with which to end the process: 1 for lack of memory, 2 for a word that isn't UTF-8,
-/// with a hint at the words.
+/// Reports on `err` that the words of the command line couldn't be read, and returns the status with which to
+/// end the process. If `error` is lack of memory, it prints that as a refusal, and returns 1; else, as for a
+/// word that isn't UTF-8, it prints a hint at the words, and returns 2.
 pub fn scan_without_words<E: Write>(error: &io::Error, err: &mut E) -> u8
     ensures memory { error_kind error.now ≡ ErrorKind.OutOfMemory → result ≡ 1 }
     ensures misused { error_kind error.now ≢ ErrorKind.OutOfMemory → result ≡ 2 }

@@ -139,7 +139,9 @@ pub(crate) static DIRECT: [Call; 9] = [
 /// A table, and the live counts of its records alone.
 #[derive(Drop)]
 struct Counted {
+    /// The table.
     table: MemTable,
+    /// How many of its records are live in each queue.
     stats: GlobalStats,
     ghost counted: { IsCounted table stats },
 }

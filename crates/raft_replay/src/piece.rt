@@ -12,8 +12,11 @@ use std::alloc::Global;
 /// so that sorting pieces moves pointers alone.
 #[derive(Drop)]
 pub(crate) struct Piece<M> {
+    /// The number of the first segment.
     from: usize,
+    /// How many segments were replayed.
     count: usize,
+    /// The machine that replayed them.
     machine: Box<M>,
 }
 

@@ -193,7 +193,9 @@ fn gather<M: ReplayMachine>(worked: Vec<Worked<M>>) -> Result<(Vec<TicketSeat>, 
 /// in the contract of the closure that workers run (`IsWork`).
 #[derive(Drop)]
 struct Worked<M: ReplayMachine> {
+    /// The seat by which the worker drew.
     seat: TicketSeat,
+    /// What it made of the segments that it drew, or the error that ended it.
     pieces: Result<Vec<Piece<M>>>,
 }
 

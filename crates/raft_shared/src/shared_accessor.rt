@@ -19,6 +19,7 @@ use std::sync::{RwLock, RwLockWriteGuard, Wait};
 /// of what other threads write meanwhile.
 #[derive(Drop)]
 pub struct SharedAccessor {
+    /// The slots, slot n at index n.
     slots: [RwLock<Slot>; 128],
     alloc: Global,
 }
@@ -235,8 +236,9 @@ impl SharedAccessor {
 
     /// Writes `items` to the tables of their regions, in order, as items that were rewritten to the file
     /// numbered `new_file` of the rewrite queue. They must come to an end. The lock of a slot is taken anew
-    /// for each item. `watermark` limits which places move: with one, those in append files numbered at or
-    /// below it; without one, those that are rewritten already.
+    /// for each item. `watermark` limits what moves. With one, entries move whose file is numbered at or
+    /// below it; without one, those that are rewritten already. A key value in an append file moves only with
+    /// a watermark at or above that file, a rewritten one always.
     ///
     /// # Errors
     ///
@@ -266,9 +268,9 @@ impl SharedAccessor {
     /// lists, slot by slot.
     ///
     /// Write the batch to the rewrite queue, once the append queue is synced: a recovery would else bring
-    /// back rewritten records of these regions. Other changes that take rewritten records away have to be
-    /// told to the rewrite queue too, but aren't listed here: compactions, truncations, deletions of keys,
-    /// and each run that replaces entries, as a truncation at its first index.
+    /// back rewritten records of these regions. Other changes that take rewritten records away belong there
+    /// too, but aren't listed here: compactions, truncations, deletions of keys, and each run that replaces
+    /// entries, as a truncation at its first index.
     ///
     /// # Errors
     ///

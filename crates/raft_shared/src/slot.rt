@@ -19,9 +19,12 @@ use std::marker::Model;
 /// may name only a region of this slot ([`slot_of`](raft_accessor::slot_of)).
 #[derive(Drop)]
 pub struct Slot {
+    /// The number of the slot, from 0 to 127.
     number: usize,
     tables: RegionTables,
+    /// How many records of the slot's tables are live in each queue.
     stats: GlobalStats,
+    /// The ids of the slot's regions that were cleaned, in order.
     cleaned: Vec<u64>,
 }
 
@@ -304,8 +307,9 @@ impl Slot {
     }
 
     /// Writes `item`, which was rewritten to the file numbered `new_file` of the rewrite queue, to the table
-    /// of its region. `watermark` limits which places move: with one, those in append files numbered at or
-    /// below it; without one, those that are rewritten already.
+    /// of its region. `watermark` limits what moves. With one, entries move whose file is numbered at or
+    /// below it; without one, those that are rewritten already. A key value in an append file moves only with
+    /// a watermark at or above that file, a rewritten one always.
     ///
     /// # Errors
     ///
@@ -345,9 +349,9 @@ impl Slot {
     /// empties the list.
     ///
     /// Write the batch to the rewrite queue, once the append queue is synced: a recovery would else bring
-    /// back rewritten records of these regions. Other changes that take rewritten records away have to be
-    /// told to the rewrite queue too, but aren't listed here: compactions, truncations, deletions of keys,
-    /// and each run that replaces entries, as a truncation at its first index.
+    /// back rewritten records of these regions. Other changes that take rewritten records away belong there
+    /// too, but aren't listed here: compactions, truncations, deletions of keys, and each run that replaces
+    /// entries, as a truncation at its first index.
     ///
     /// # Errors
     ///

@@ -11,10 +11,12 @@ use std::collections::LinkedList;
 /// The numbers that seats drew, a list for each seat. It is a type for proofs alone: no value of it is made.
 pub(crate) type Lists = LinkedList<LinkedList<u64>>;
 
-/// The sizes of tickets: how many numbers are returned (`total`), and how many seats draw.
+/// The sizes of tickets.
 #[derive(Drop)]
 pub(crate) struct Sizes {
+    /// The number that drawn numbers must stay below to be returned.
     pub(crate) total: u64,
+    /// How many seats draw.
     pub(crate) seats: u64,
 }
 

@@ -22,9 +22,9 @@ impl MemTableAccessor {
     /// the list.
     ///
     /// Write the batch to the rewrite queue, once the append queue is synced: a recovery would else bring
-    /// back rewritten records of these regions. Other changes that take rewritten records away have to be
-    /// told to the rewrite queue too, but aren't listed here: compactions, truncations, deletions of keys,
-    /// and each run that replaces entries, as a truncation at its first index.
+    /// back rewritten records of these regions. Other changes that take rewritten records away belong there
+    /// too, but aren't listed here: compactions, truncations, deletions of keys, and each run that replaces
+    /// entries, as a truncation at its first index.
     ///
     /// # Errors
     ///

@@ -93,9 +93,10 @@ impl MemTableAccessor {
     }
 
     /// Writes `items` to the tables of their regions, in order, as items that were rewritten to the file
-    /// numbered `new_file` of the rewrite queue. They must come to an end. `watermark` limits which places
-    /// move: with one, those in append files numbered at or below it; without one, those that are rewritten
-    /// already.
+    /// numbered `new_file` of the rewrite queue. They must come to an end. `watermark` limits what moves.
+    /// With one, entries move whose file is numbered at or below it; without one, those that are rewritten
+    /// already. A key value in an append file moves only with a watermark at or above that file, a rewritten
+    /// one always.
     ///
     /// # Errors
     ///

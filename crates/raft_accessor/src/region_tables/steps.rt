@@ -120,8 +120,8 @@ impl RegionTables {
     }
 
     /// Gives entries of the region `id` the places of `run`, which was written to the rewrite queue
-    /// ([`MemTable::rewrite`]). `gate` limits which ones move: those in append files numbered at or below it;
-    /// without one, those that are rewritten already. A region without a table gets an empty one first.
+    /// ([`MemTable::rewrite`]). With a `gate`, entries move whose file is numbered at or below it; without
+    /// one, those that are rewritten already. A region without a table gets an empty one first.
     ///
     /// # Errors
     ///
@@ -147,8 +147,9 @@ impl RegionTables {
         })
     }
 
-    /// Moves the value of `key` of the region `id` to the file numbered `seq` of the rewrite queue, if `gate`
-    /// lets it ([`MemTable::rewrite_key`]). A region without a table gets an empty one first.
+    /// Moves the value of `key` of the region `id` to the file numbered `seq` of the rewrite queue
+    /// ([`MemTable::rewrite_key`]). One in an append file moves only with a `gate` at or above that file, a
+    /// rewritten one always. A region without a table gets an empty one first.
     ///
     /// # Errors
     ///

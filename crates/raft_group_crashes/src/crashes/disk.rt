@@ -17,7 +17,9 @@ pub(crate) struct DiskNotes {
     alloc: Global,
     /// The number of the first file of the append queue, and of the rewrite queue.
     least: (FileSeq, FileSeq),
+    /// The last append file.
     append: Tail,
+    /// The last rewrite file.
     rewrite: Tail,
     /// The text of what the store had at the last sync of the append queue, and after each batch since then.
     prefix_texts: Vec<String>,

@@ -29,10 +29,15 @@ fn replacing_steps() -> &'static [u64] {
 #[derive(Drop)]
 pub(crate) struct History<'a, R: Host> {
     rt: &'a R,
+    /// How many bytes a file must have before a new one is begun.
     file_size: u64,
+    /// The store.
     store: Store<'a, R>,
+    /// The records that it must have.
     kept: Contents,
+    /// What the disk holds.
     disk: DiskNotes,
+    /// What draws the steps, the changes and the crashes.
     dice: Dice,
     /// How many steps of [`REPLACED`] were taken.
     taken: usize,

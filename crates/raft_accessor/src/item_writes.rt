@@ -148,9 +148,9 @@ impl RegionTables {
     /// # Errors
     ///
     /// `Corruption` for a `Compact`, a `Truncate`, a deletion and a put without a value, if the entries
-    /// aren't a run of the rewrite queue, and if [`MemTable::rewrite`] or [`MemTable::rewrite_key`] refuses
-    /// the change so; `Full` if more than 2^64 - 1 records would be live in the rewrite queue; `Memory`.
-    /// Tables and counts are unchanged then.
+    /// aren't a run of the rewrite queue, and where [`MemTable::rewrite`] or [`MemTable::rewrite_key`]
+    /// returns it; `Full` if more than 2^64 - 1 records would be live in the rewrite queue; `Memory`. Tables
+    /// and counts are unchanged then.
     pub fn rewrite_item(
         &mut self,
         item: LogItem,
@@ -187,8 +187,8 @@ impl RegionTables {
     ///
     /// # Errors
     ///
-    /// `Corruption` if they aren't a run of the append queue or [`MemTable::append`] refuses where they
-    /// start; `Full` and `Memory`, as that call has them. Tables and counts are unchanged then.
+    /// `Corruption` if they aren't a run of the append queue; those of [`MemTable::append`]. Tables and
+    /// counts are unchanged then.
     fn append_entries(
         &mut self,
         id: u64,
@@ -214,8 +214,8 @@ impl RegionTables {
     ///
     /// # Errors
     ///
-    /// `Corruption` if `run` isn't a run of the rewrite queue or [`MemTable::rewrite`] refuses it so; `Full`
-    /// and `Memory`, as that call has them. Tables and counts are unchanged then.
+    /// `Corruption` if `run` isn't a run of the rewrite queue; those of [`MemTable::rewrite`]. Tables and
+    /// counts are unchanged then.
     fn rewrite_entries(
         &mut self,
         id: u64,
@@ -313,8 +313,8 @@ impl RegionTables {
     ///
     /// # Errors
     ///
-    /// `Corruption` for a deletion and a put without a value, and if [`MemTable::rewrite_key`] refuses the
-    /// change so; `Full`; `Memory`. Tables and counts are unchanged then.
+    /// `Corruption` for a deletion and a put without a value; those of [`MemTable::rewrite_key`]. Tables and
+    /// counts are unchanged then.
     fn rewrite_pair(
         &mut self,
         id: u64,

@@ -1,10 +1,10 @@
-//! The two kinds of tables that can be merged into those that are there.
+//! The two ways in which tables are merged into others.
 
-/// What tables are that are merged into those that are there.
+/// How tables that are merged into others are related to these.
 #[derive(Clone, Copy, PartialEq, Eq, Debug)]
 pub enum Neighbor {
-    /// Tables of the steps that follow directly, in the same queue.
+    /// They have the steps that follow directly, in the same queue.
     Newer,
-    /// Tables of the append queue, merged into those of the rewrite queue.
+    /// They are those of the append queue; the others are those of the rewrite queue.
     Appended,
 }

@@ -50,7 +50,7 @@ impl MarkedTables {
     }
 
     /// Applies the items of a batch of the file `file`, in order, each to the table and the region mark of
-    /// its region. They were checked to stand in that file.
+    /// its region. The caller has checked that they may stand in that file.
     ///
     /// # Errors
     ///

@@ -111,8 +111,8 @@ impl ReadState {
         Ok(())
     }
 
-    /// Applies the items of `batch`, which takes effect at once, to the tables and region marks. It has no
-    /// group marker that counts, and was checked to be of the file `file`.
+    /// Applies the items of `batch`, which takes effect at once, to the tables and region marks. The caller
+    /// has checked that it may stand in the file `file`, and has no group marker that counts.
     ///
     /// # Errors
     ///
@@ -129,7 +129,8 @@ impl ReadState {
     }
 
     /// Keeps the items of `batch`, a batch with a marker of the group `id`, until the group is whole. If this
-    /// batch makes it whole, all its items are applied. `batch` was checked to be of the file `file`.
+    /// batch makes it whole, all its items are applied. `status` is that of the marker. The caller has
+    /// checked that the batch may stand in the file `file`.
     ///
     /// # Errors
     ///

@@ -9,8 +9,8 @@ use raft_base::{AllocResult, FileSeq};
 use raft_records::AtomicGroupStatus;
 use std::alloc::Global;
 
-/// What a history has of a group before its first `Begin`: items that belong to a stretch that began in an
-/// older history.
+/// What a history has of a group before its first `Begin`: items of a stretch that may have begun in an older
+/// history.
 #[doc(hidden)]
 #[derive(Debug, Drop)]
 pub enum GroupFront {

@@ -19,7 +19,7 @@ const DONE: u8 = 0;
 /// The status if all cuttings are refused, or the files can't be read or the lines printed.
 const REFUSED: u8 = 1;
 
-/// The status for words that ask for nothing.
+/// The status for words that ask for nothing or can't be read.
 const MISUSED: u8 = 2;
 
 /// The status if a cutting gives something else than the batches uncut.
@@ -32,7 +32,7 @@ const USAGE: &str =
 /// Does what the words of the command line ask for, and returns the status with which the process ends. The
 /// status is 0 if all cuttings give the same tables, and for `--help`; 1 if they are all refused, the files
 /// can't be read or have more than 16 batches, or the lines can't be printed; 2 for words that ask for
-/// nothing; 3 if one cutting gives something else.
+/// nothing or can't be read; 3 if one cutting gives something else.
 fn main(rt: HostRuntime) -> ExitCode {
     let Ok(words) = command_words(&rt) else {
         return ExitCode::from(MISUSED);

@@ -66,7 +66,7 @@ impl Found {
     ///
     /// # Errors
     ///
-    /// `Memory` if `error` is that, which ends the row, and has no line; or if there is none for the line.
+    /// `Memory` if `error` is that, which ends the row without a line; or if there is none for the line.
     pub(crate) fn add_refusal(&mut self, error: Error) -> Result<()> {
         if matches!(error, Error::Memory) {
             return Err(error);

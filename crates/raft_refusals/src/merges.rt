@@ -214,7 +214,7 @@ impl Counted {
 ///
 /// # Errors
 ///
-/// `Memory`, and those of the changes. Other errors of the merge have the line.
+/// `Memory`, and those of the changes. Any other error of the merge is the result in the line.
 pub(crate) fn merge_tables(
     found: &mut Found,
     older: &[Change],

@@ -84,7 +84,7 @@ pub(crate) static CHANGES: [Call; 8] = [
 ///
 /// # Errors
 ///
-/// `Memory` alone. Other errors have lines.
+/// `Memory` alone. Any other error is a result in its line.
 pub(crate) fn make_all_changes(found: &mut Found, changes: &[Change]) -> Result<()> {
     let mut tables = MemTableAccessor::new(found.alloc)?;
     for change in changes {
@@ -313,7 +313,8 @@ fn table_of_lengths(alloc: Global, lengths: &[u32]) -> Result<MemTableAccessor> 
 ///
 /// # Errors
 ///
-/// `Memory`; `Failed` if a table that was made isn't there. Other errors of a fetch of entries have its line.
+/// `Memory`; `Failed` if a table that was made isn't there. Any other error of a fetch of entries is the
+/// result in its line.
 pub(crate) fn fetch_all(found: &mut Found) -> Result<()> {
     let tables = fetched_table(found.alloc)?;
     let Some(table) = tables.get(REGION) else {
@@ -350,7 +351,7 @@ fn fetch_of_lengths(found: &mut Found, lengths: &[u32], fetch: Fetch) -> Result<
 ///
 /// # Errors
 ///
-/// `Memory` alone. Other errors have the line.
+/// `Memory` alone. Any other error is the result in the line.
 fn fetch_entries(found: &mut Found, table: &MemTable, fetch: Fetch) -> Result<()> {
     let mut vec = vec![in found.alloc; EntryIndex::default()]?;
     let answer = match fetch {

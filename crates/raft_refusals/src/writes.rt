@@ -104,7 +104,7 @@ pub(crate) static WRITES: [calls::Call; 3] = [
 ///
 /// # Errors
 ///
-/// `Memory` alone. Other errors have lines.
+/// `Memory` alone. Any other error is a result in its line.
 pub(crate) fn make_write_calls(found: &mut Found, calls: &[Call]) -> Result<()> {
     let mut tables = MemTableAccessor::new(found.alloc)?;
     for call in calls {
@@ -319,7 +319,7 @@ pub(crate) static MERGES: [calls::Call; 6] = [
 ///
 /// # Errors
 ///
-/// `Memory`, and those of the calls. Other errors of the merge have a line.
+/// `Memory`, and those of the calls. Any other error of the merge is the result in the line.
 pub(crate) fn merge_accessors(
     found: &mut Found,
     older: &[Call],

@@ -12,7 +12,7 @@ use raft_table::Mark;
 impl MemTableAccessor {
     /// Puts the newer table of the region `id`, or its absence, over the older one that stands here, as the
     /// newer region mark `mark` says. Returns two indexes: that of the first older entry, and the one after
-    /// the last older entry that the mark's first run meets. Both are 0 if there are no such entries.
+    /// the last older entry that the mark's first run meets. Each is 0 if there is no such entry.
     ///
     /// # Errors
     ///

@@ -13,7 +13,7 @@ use raft_table::{GlobalStats, Mark, MemTable};
 impl RegionTables {
     /// Puts the newer table of the region `id`, or its absence, over the older one that stands here, as the
     /// newer region mark `mark` says. Returns two indexes: that of the first older entry, and the one after
-    /// the last older entry that the mark's first run meets. Both are 0 if there are no such entries.
+    /// the last older entry that the mark's first run meets. Each is 0 if there is no such entry.
     ///
     /// # Errors
     ///
@@ -123,7 +123,7 @@ impl RegionTables {
 
 /// Puts `newer` over the table `older` of the same region, as the newer region mark `mark` says. Returns two
 /// indexes: that of the first older entry, and the one after the last older entry that the mark's first run
-/// meets. Both are 0 if there are no such entries.
+/// meets. Each is 0 if there is no such entry.
 ///
 /// # Errors
 ///

@@ -114,8 +114,8 @@ impl SlotMarks {
     }
 
     /// Adds a run that starts at index `start` to the region mark of the region `id`, or to that of no step
-    /// if none is kept, and keeps the result. `end` is the index after the region's last own entry before the
-    /// run, or 0 if there were none.
+    /// if none is kept, and keeps the result. `end` is the index after the last entry that the context gave
+    /// the region before the run, or 0 if it gave none.
     ///
     /// # Errors
     ///
@@ -140,8 +140,8 @@ impl SlotMarks {
     }
 
     /// Adds `step` to the region mark of the region `id`, or to that of no step if none is kept, and keeps
-    /// the result. If the step is a run, `end` is the index after the region's last own entry before it, or 0
-    /// if there were none. The key of a deletion is copied.
+    /// the result. If the step is a run, `end` is the index after the last entry that the context gave the
+    /// region before it, or 0 if it gave none. The key of a deletion is copied.
     ///
     /// # Errors
     ///
@@ -163,8 +163,8 @@ impl SlotMarks {
     }
 
     /// Joins `newer`, the region mark of the steps that follow, to that of the region `id`, or to that of no
-    /// step if none is kept, and keeps the result. `end_at_reach` is the index after the last own entry of
-    /// the region that the first newer run meets.
+    /// step if none is kept, and keeps the result. `end_at_reach` is the index after the last entry of the
+    /// region in the older context that the first newer run meets.
     ///
     /// # Errors
     ///

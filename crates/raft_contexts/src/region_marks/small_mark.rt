@@ -124,8 +124,8 @@ impl SmallMark {
         }
     }
 
-    /// Adds a newer run, which starts at index `start`, to the region mark. `end` is the index after the
-    /// region's last own entry before the run, or 0 if there were none.
+    /// Adds a newer run, which starts at index `start`, to the region mark. `end` is the index after the last
+    /// entry that the context gave the region before the run, or 0 if it gave none.
     ///
     /// # Errors
     ///
@@ -191,8 +191,8 @@ impl SmallMark {
     }
 
     /// Tests, at little cost, whether a newer run, which starts at index `start`, leaves the region mark as
-    /// it is, where the region's own entries end before index `end`. `false` doesn't say that it changes it.
-    /// So most runs need no larger mark.
+    /// it is, where the entries that the context gave the region end before index `end`. `false` doesn't say
+    /// that it changes it. So most runs need no larger mark.
     fn covers(&self, end: u64, start: u64) -> bool
         ensures { MatchBool result ((queue : LogQueue) → joined_at queue end self.now
             (record fresh { reach = Some start; cut = Some start }) ≡ self.now) (Unit {0}) }

@@ -118,7 +118,7 @@ impl MemTableAccessor {
         self.slots[slot_of(id)].get(id)
     }
 
-    /// Returns the table of the region `id`. If it has none, an empty one is made and stays in the accessor.
+    /// Returns the table of the region `id`, for which an empty one is made first if it has none.
     ///
     /// # Errors
     ///
@@ -185,8 +185,8 @@ impl MemTableAccessor {
         self.slots[slot_of(id)].make(id, &mut self.stats)
     }
 
-    /// Makes one change of the table of the region `id`. If the region has no table, an empty one is made
-    /// first. Returns how many entries a compaction or a truncation dropped, and 0 for any other change.
+    /// Makes one change of the table of the region `id`, for which an empty one is made first if it has none.
+    /// Returns how many entries a compaction or a truncation dropped, and 0 for any other change.
     ///
     /// # Errors
     ///

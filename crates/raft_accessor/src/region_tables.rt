@@ -181,8 +181,8 @@ impl RegionTables {
         self.update(id, stats, |_, _| Ok(()))
     }
 
-    /// Makes one change of the table of the region `id`. If the region has no table, an empty one is made
-    /// first. Returns how many entries a compaction or a truncation dropped, and 0 for any other change.
+    /// Makes one change of the table of the region `id`, for which an empty one is made first if it has none.
+    /// Returns how many entries a compaction or a truncation dropped, and 0 for any other change.
     ///
     /// # Errors
     ///

@@ -19,9 +19,9 @@ pub struct FileSize {
     pub len: u64,
 }
 
-/// Replays `files` of `queue`, in order, by 1 to 256 workers, and returns one machine. The files are all of
-/// `version`, and are read from `source`. Each worker replays some neighboring files, of about the same
-/// number of bytes in all, into a machine of its own, as [`replay_file`](crate::replay_file) does;
+/// Replays `files` of `queue`, in order, by `workers` workers, 1 to 256, and returns one machine. The files
+/// are all of `version`, and are read from `source`. Each worker replays some neighboring files, of about the
+/// same number of bytes in all, into a machine of its own, as [`replay_file`](crate::replay_file) does;
 /// neighboring machines are then merged. The result is that of one worker. The caller does the work of one
 /// for which no thread can be started. The machines that `factory` makes must stand for no batch.
 ///

@@ -13,9 +13,9 @@ use std::io::Write;
 use std::thread::Threads;
 
 /// Recovers the tables of `files` of `queue`, with their cleaned regions and live counts, as
-/// [`recover`](crate::recover) does from bytes. The files are all of `version`, and are read from `source`. 1
-/// to 256 workers read them, each some neighboring files, piece by piece, so that each has no more than a
-/// piece and the longest batch in memory.
+/// [`recover`](crate::recover) does from bytes. The files are all of `version`, and are read from `source`.
+/// `workers` workers, 1 to 256, read them, each some neighboring files, piece by piece, so that each has no
+/// more than a piece and the longest batch in memory.
 ///
 /// # Errors
 ///

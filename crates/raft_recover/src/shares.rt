@@ -41,7 +41,8 @@ pub fn equal_shares(
     shares_of(short_parts(alloc, segments, share)?, share, count)
 }
 
-/// Returns how many bytes all parts of all segments have together, at most 2^64 - 1.
+/// Returns how many bytes all parts hold, capped at 2^64 - 1.
+/// The parts are those of all `segments`.
 pub(crate) fn bytes_of(segments: &[Segment]) -> usize {
     let mut bytes = 0usize;
     for segment in segments {

@@ -118,8 +118,8 @@ impl SharedAccessor {
         change_by(&mut *self.lock(rt, id)?, self.alloc, id, f)
     }
 
-    /// Makes one change of the table of the region `id`. If the region has no table, an empty one is made
-    /// first. Returns how many entries a compaction or a truncation dropped, and 0 for any other change.
+    /// Makes one change of the table of the region `id`, for which an empty one is made first if it has none.
+    /// Returns how many entries a compaction or a truncation dropped, and 0 for any other change.
     ///
     /// # Errors
     ///
@@ -139,8 +139,8 @@ impl SharedAccessor {
         )
     }
 
-    /// Makes an empty table for the region `id`, unless it has one. It returns no table, unlike the call of
-    /// this name of an accessor: only [`SharedAccessor::with_table`] shows one.
+    /// Makes an empty table for the region `id`, unless it has one. Unlike the call of this name of an
+    /// accessor it returns no table: [`SharedAccessor::with_table`] shows it.
     ///
     /// # Errors
     ///

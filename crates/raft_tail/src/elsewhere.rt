@@ -20,8 +20,8 @@ const SEQ_LIMIT: FileSeq = 1 << 24;
 const LOG_BATCH_CHECKSUM_LEN: usize = 4;
 
 /// Returns the first position from `from` on at which a batch stands that can't be read in the part's file,
-/// but in another file, numbered below 2^24. Returns it with the number of that file, or `None` if there is
-/// no such position. In version 1 there is none: a batch doesn't say which file it was written for.
+/// but in another file, numbered 1 to 2^24 - 1. Returns it with the number of that file, or `None` if there
+/// is no such position. In version 1 there is none: a batch doesn't say which file it was written for.
 ///
 /// At each position it looks at 16 bytes. If these can be the header of a batch that ends within the part, it
 /// computes the checksum of its items.
@@ -46,7 +46,8 @@ pub fn signed_elsewhere(part: &FilePart, from: usize) -> Result<Option<(usize, F
 }
 
 /// Returns the number of the other file that the batch at position `at` of `part` was signed for. Returns
-/// `None` if no batch stands there, or it can be read in the part's file, whose signature is `own`.
+/// `None` if no batch stands there, it can be read in the part's file, whose signature is `own`, or the
+/// number isn't 1 to 2^24 - 1.
 ///
 /// # Errors
 ///

@@ -15,7 +15,7 @@ use std::marker::Model;
 /// it can't wrap.
 const LIMIT: usize = 1 << 62;
 
-/// The numbers from 0 on, each of which some seat draws, once. A draw returns those below a total.
+/// The numbers from 0 on, each of which is drawn once, by some seat. A draw returns those below a total.
 #[derive(Drop)]
 pub struct Tickets {
     table: Table<(), Lists, Sizes, Drawing, Global>,

@@ -11,9 +11,9 @@ use raft_base::{EntryIndex, FileBlockHandle, FileId, LogQueue, Result};
 use raft_table::{Mark, Run, Step};
 
 impl MemTableAccessor {
-    /// Applies `step`, which was read from `queue`, to the table of the region `id`. A region without a table
-    /// gets an empty one first. A clean removes the table; in the append queue it also appends the region to
-    /// the cleaned ones.
+    /// Applies `step`, which was read from `queue`, to the table of the region `id`, for which an empty one
+    /// is made first if it has none. A clean removes the table; in the append queue it also appends the
+    /// region to the cleaned ones.
     ///
     /// # Errors
     ///
@@ -29,9 +29,9 @@ impl MemTableAccessor {
         self.slots[slot_of(id)].take_step(queue, id, step, &mut self.stats, &mut self.cleaned)
     }
 
-    /// Puts `run`, which was read from `queue`, into the table of the region `id`. A region without a table
-    /// gets an empty one first. Returns the index after the last entry that the table had before, or 0 if it
-    /// had none.
+    /// Puts `run`, which was read from `queue`, into the table of the region `id`, for which an empty one is
+    /// made first if it has none. Returns the index after the last entry that the table had before, or 0 if
+    /// it had none.
     ///
     /// Returns `None`, and changes nothing, if [`MemTableAccessor::take_step`] would refuse the run, for lack
     /// of memory too. Recovery tries this first, and gets the error from the slower call.

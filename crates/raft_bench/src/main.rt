@@ -48,8 +48,9 @@ fn main(rt: HostRuntime) -> io::Result<()> {
     }
 }
 
-/// Prints `times`, what was timed of a log, or the error for which nothing was. `before` is what the usage
-/// has before `recover`.
+/// Prints the two times of `times` in milliseconds, or its error on standard error. For `Ok(None)` it prints
+/// on standard error which words the program takes: those of `raftlog recover`, after the word or words
+/// `before`.
 ///
 /// # Errors
 ///

@@ -134,7 +134,7 @@ impl WaitingGroup {
     ///
     /// # Errors
     ///
-    /// `AllocError` if there is no memory to put the newer items behind the older ones. All that is known of
+    /// `AllocError` if there is no memory to append the newer items to the older ones. All that is known of
     /// the group is dropped then.
     pub fn join(self, newer: WaitingGroup) -> AllocResult<(WaitingGroup, Option<WholeGroup>)>
         ensures known { IfOk result (λ r. group_shown r.0 ≡ joined_group (group_shown self)
@@ -155,8 +155,8 @@ impl WaitingGroup {
     }
 }
 
-/// Returns `stretch` with `items` behind its own. Returns `None` if no stretch is open, and drops the items:
-/// no `Begin` came before them.
+/// Returns `stretch` with `items` after its own. Returns `None` if no stretch is open, and drops the items: no
+/// `Begin` came before them.
 ///
 /// # Errors
 ///

@@ -62,7 +62,7 @@ impl WaitingItems {
         self.steps.len()
     }
 
-    /// Moves the steps of `more` behind these.
+    /// Moves the steps of `more` to the end of these.
     ///
     /// # Errors
     ///

@@ -1,5 +1,6 @@
 //! Laws of atomic groups in the rewrite files: batches that take effect together, from one with a `Begin` to
-//! one with the `End`. Two effects are *apart* if they don't overlap or name no common region.
+//! one with the `End`. An *effect* is a whole group, or a batch without a group marker. Two effects are
+//! *apart* if they don't overlap or name no common region.
 
 ghost use Rattle.std.specs.Prelude.{◌≡◌, ◌⊎◌, ℕ, List, [], ◌∷◌, ◌++◌, flat_map};
 ghost use Rattle.std.specs.List.{AllByRecursion};

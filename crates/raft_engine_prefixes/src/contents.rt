@@ -9,9 +9,8 @@ ghost use Rattle.raft_files.specs.Disk.{begun};
 ghost use Rattle.raft_files.specs.Places.{bytes_at};
 ghost use Rattle.raft_engine_prefixes.specs.Contents.{AddedEntriesAreTold, AreBothTold, AreBothTrueReads, AreTold, KeepsBytes, ReadEntryIsTold, WrittenEntryIsTold, content_of};
 
-/// States that what was asked of files says the contents of entries without contradiction: if the sound
-/// blocks that were read are in the files, no two places say different things of an entry. This is a law: it
-/// computes nothing.
+/// States that what was asked of files never gives one entry two different contents, if the sound blocks that
+/// were read are in the files. This is a law: it computes nothing.
 pub fn files_tell_contents()
     ensures { (asks : List Ask) → AreBothTrueReads asks → AreBothTold asks (content_of asks) }
 {}

@@ -147,7 +147,7 @@ pub(crate) fn paths_named(alloc: Global, words: &[String]) -> Result<Option<Vec<
     Ok(Some(paths?))
 }
 
-/// Returns `paths` with `path` behind them. If there was no memory for an earlier path, it returns that error
+/// Returns `paths` with `path` after them. If there was no memory for an earlier path, it returns that error
 /// again: so all words are looked at first, and words that name no file are reported before lack of memory.
 ///
 /// # Errors

@@ -23,8 +23,9 @@ pub const SEGMENT_LIMIT: usize = 1 << 62;
 /// Replays all segments by `workers` workers, 1 to 256, and returns one machine. Each worker draws the next
 /// segment that is left, calls `gate` with its number, and replays it. The machines, or pieces, are then
 /// merged by halves. The result is the same however the batches are divided into segments, and whatever turns
-/// the workers take: the machine stands for all batches in order, and exactly so if effects are apart. The
-/// machines that `factory` makes must stand for no batch.
+/// the workers take: the machine stands for all batches in order, as [`ReplayMachine`] defines it. It does so
+/// exactly if no group shares a region with a batch or a group that it overlaps. The machines that `factory`
+/// makes must stand for no batch.
 ///
 /// No more workers are started than there are segments. The caller does the work of one for which no thread
 /// can be started. A worker that draws two segments in a row replays both into one machine; otherwise it

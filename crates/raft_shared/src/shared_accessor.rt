@@ -455,8 +455,7 @@ fn share_tables(alloc: Global, core: &mut MemTableAccessor) -> Result<Vec<Slot>>
     Ok(slots)
 }
 
-/// Moves the tables of a slot into `core`, and lists the slot's cleaned regions there, behind those that are
-/// listed.
+/// Moves the tables of a slot into `core`, and appends the slot's cleaned regions to the list of `core`.
 ///
 /// # Errors
 ///

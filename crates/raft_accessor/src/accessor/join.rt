@@ -51,7 +51,7 @@ impl MemTableAccessor {
         self.slots[slot].make_room(count)
     }
 
-    /// Moves the cleaned regions of `rhs` behind those of this accessor. `rhs` has an empty list then; its
+    /// Moves the cleaned regions of `rhs` to the end of this accessor's list. That of `rhs` is empty then; its
     /// tables stay with it.
     ///
     /// # Errors

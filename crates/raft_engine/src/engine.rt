@@ -64,9 +64,13 @@ mod round_trip;
 /// The logs of many regions: files that the machine keeps, and the tables of all batches that were written to them.
 ///
 /// Whenever the machine crashes, the files that are left hold what was synced, and a prefix of the batches that were written
-/// since ([`Engine::nothing_synced_is_lost`]); what a disk has to do for it stands at [`EngineFiles`]. After an `Err` of a call
-/// that writes, the files may hold a batch that the tables don't: such an engine isn't intact, and takes no further one. Its
-/// files must be opened again ([`Engine::open`]).
+/// since ([`Engine::nothing_synced_is_lost`]); what a disk has to do for it stands at [`EngineFiles`]. After an `Err` of a
+/// call that writes, the files may hold a batch that the tables don't: such an engine isn't intact, and takes no further call
+/// that writes. Its files must be opened again ([`Engine::open`]).
+///
+/// A batch may take records away that have moved to rewrite files: by a command, the deletion of a key, or entries that
+/// replace others. The rewrite queue has to say so too, by a batch of commands and deletions, before the append file of that
+/// batch is deleted. This is written when records move or files are deleted, and until then the engine keeps it ready.
 #[derive(Drop)]
 pub struct Engine<F: EngineFiles> {
     /// The files of both queues, which take the bytes.

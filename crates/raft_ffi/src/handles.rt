@@ -23,7 +23,9 @@ use std::{mem, ptr};
 
 /// A box that was taken apart: its pointer and its allocator.
 pub struct Parts<T, A: Allocator> {
+    /// The pointer to the value.
     pub(crate) ptr: *mut T,
+    /// The allocator of the box.
     pub(crate) alloc: A,
     pub ghost value: { T },
 }
@@ -204,11 +206,13 @@ impl Handle for Batch {
 
     ghost value = { λ h. h.value };
 
+    /// Makes a handle of no batch. It keeps `alloc`, and allocates nothing.
     fn empty(alloc: Global) -> Batch {
         let at = ptr::null_mut();
         Batch { at, alloc }
     }
 
+    /// Makes the handle of the batch, whose box was taken apart.
     fn of_parts(parts: Parts<LogBatch, Global>) -> Batch
         ensures { result.value ≡ Some parts.value }
     {
@@ -217,6 +221,7 @@ impl Handle for Batch {
         Batch { at, alloc }
     }
 
+    /// Returns the box of the batch, taken apart. The handle must hold one.
     fn into_parts(self) -> Parts<LogBatch, Global> {
         let Batch { at, alloc } = self;
         let ptr = at as *mut LogBatch;
@@ -244,11 +249,13 @@ impl Handle for Context {
 
     ghost value = { λ h. h.value };
 
+    /// Makes a handle of no context. It keeps `alloc`, and allocates nothing.
     fn empty(alloc: Global) -> Context {
         let at = ptr::null_mut();
         Context { at, alloc }
     }
 
+    /// Makes the handle of the context, whose box was taken apart.
     fn of_parts(parts: Parts<MemTableRecoverContext, Global>) -> Context
         ensures { result.value ≡ Some parts.value }
     {
@@ -257,6 +264,7 @@ impl Handle for Context {
         Context { at, alloc }
     }
 
+    /// Returns the box of the context, taken apart. The handle must hold one.
     fn into_parts(self) -> Parts<MemTableRecoverContext, Global> {
         let Context { at, alloc } = self;
         let ptr = at as *mut MemTableRecoverContext;
@@ -284,11 +292,13 @@ impl Handle for Engine {
 
     ghost value = { λ h. h.value };
 
+    /// Makes a handle of no engine. It keeps `alloc`, and allocates nothing.
     fn empty(alloc: Global) -> Engine {
         let at = ptr::null_mut();
         Engine { at, alloc }
     }
 
+    /// Makes the handle of the engine, whose box was taken apart.
     fn of_parts(parts: Parts<HeldEngine, Global>) -> Engine
         ensures { result.value ≡ Some parts.value }
     {
@@ -297,6 +307,7 @@ impl Handle for Engine {
         Engine { at, alloc }
     }
 
+    /// Returns the box of the engine, taken apart. The handle must hold one.
     fn into_parts(self) -> Parts<HeldEngine, Global> {
         let Engine { at, alloc } = self;
         let ptr = at as *mut HeldEngine;
@@ -324,11 +335,13 @@ impl Handle for Items {
 
     ghost value = { λ h. h.value };
 
+    /// Makes a handle of no list of items. It keeps `alloc`, and allocates nothing.
     fn empty(alloc: Global) -> Items {
         let at = ptr::null_mut();
         Items { at, alloc }
     }
 
+    /// Makes the handle of the list of items, whose box was taken apart.
     fn of_parts(parts: Parts<ItemList, Global>) -> Items
         ensures { result.value ≡ Some parts.value }
     {
@@ -337,6 +350,7 @@ impl Handle for Items {
         Items { at, alloc }
     }
 
+    /// Returns the box of the list of items, taken apart. The handle must hold one.
     fn into_parts(self) -> Parts<ItemList, Global> {
         let Items { at, alloc } = self;
         let ptr = at as *mut ItemList;
@@ -364,11 +378,13 @@ impl Handle for Reader {
 
     ghost value = { λ h. h.value };
 
+    /// Makes a handle of no reader. It keeps `alloc`, and allocates nothing.
     fn empty(alloc: Global) -> Reader {
         let at = ptr::null_mut();
         Reader { at, alloc }
     }
 
+    /// Makes the handle of the reader, whose box was taken apart.
     fn of_parts(parts: Parts<QueueReader, Global>) -> Reader
         ensures { result.value ≡ Some parts.value }
     {
@@ -377,6 +393,7 @@ impl Handle for Reader {
         Reader { at, alloc }
     }
 
+    /// Returns the box of the reader, taken apart. The handle must hold one.
     fn into_parts(self) -> Parts<QueueReader, Global> {
         let Reader { at, alloc } = self;
         let ptr = at as *mut QueueReader;
@@ -404,11 +421,13 @@ impl Handle for Tables {
 
     ghost value = { λ h. h.value };
 
+    /// Makes a handle of no tables. It keeps `alloc`, and allocates nothing.
     fn empty(alloc: Global) -> Tables {
         let at = ptr::null_mut();
         Tables { at, alloc }
     }
 
+    /// Makes the handle of the tables, whose box was taken apart.
     fn of_parts(parts: Parts<MemTableAccessor, Global>) -> Tables
         ensures { result.value ≡ Some parts.value }
     {
@@ -417,6 +436,7 @@ impl Handle for Tables {
         Tables { at, alloc }
     }
 
+    /// Returns the box of the tables, taken apart. The handle must hold some.
     fn into_parts(self) -> Parts<MemTableAccessor, Global> {
         let Tables { at, alloc } = self;
         let ptr = at as *mut MemTableAccessor;

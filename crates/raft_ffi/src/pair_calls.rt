@@ -13,10 +13,10 @@ use std::alloc::Global;
 /// Keys with their values.
 type Pairs = Vec<(Vec<u8>, Vec<u8>)>;
 
-/// Lists the pairs of a region whose file in the append queue is numbered at or below `gate`, in the order of the keys. `lens`
-/// gets the length of each key and of its value in turn, and `bytes` their bytes, one after another, each as far as there is
-/// room. `count` is set to how many lengths there are, and `len` to how many bytes, which may be more. With a gate of 2^64 - 1
-/// it lists all appended pairs. Returns 0, or 11 (`Memory`): nothing is set then.
+/// Lists the pairs of a region that are in append files numbered at or below `gate`, in the order of the keys. `lens` gets the
+/// length of each key and of its value in turn, and `bytes` their bytes, one after another, each as far as there is room.
+/// `count` is set to how many lengths there are, and `len` to how many bytes, which may be more. With a gate of 2^64 - 1 it
+/// lists all appended pairs. Returns 0, or 11 (`Memory`): nothing is set then.
 #[unsafe(no_mangle)]
 pub extern "C" fn raft_ffi_tables_pairs_before(
     alloc: Global,

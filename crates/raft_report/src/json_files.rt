@@ -31,7 +31,8 @@ pub fn append_json_scan(
     append_json_file(alloc, queue, scan, text)
 }
 
-/// Appends the line of the scan of one file: its length, its number of batches, and its damage, as a list.
+/// Appends the line of the scan of one file: its queue, number and length, how many batches can be read and up to which offset, how many
+/// bytes at its end weren't searched, and its damage, as a list.
 fn append_json_file(
     alloc: Global,
     queue: LogQueue,

@@ -94,7 +94,7 @@ fn append_missing(
 }
 
 /// Prints the selected items of found files, batch by batch. Returns whether a batch can't be read, or with `--values` a selected entry
-/// can't be. Entries are looked at in a second walk, which is left out if a batch couldn't be read.
+/// can't be. For the latter the files are walked through once more, unless a batch couldn't be read anyway.
 ///
 /// # Errors
 ///

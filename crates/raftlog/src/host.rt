@@ -23,6 +23,8 @@ pub(crate) trait Screen: Sync {
 }
 
 impl Screen for HostRuntime {
+    /// Returns the milliseconds of the machine's monotonic clock. `None` if standard error isn't a terminal, `TERM` isn't set or is `dumb`,
+    /// or the clock can't be read.
     fn millis(&self) -> Option<u64> {
         if !self.stderr().is_terminal() || is_dumb(self) {
             return None;
@@ -31,6 +33,7 @@ impl Screen for HostRuntime {
         u64::try_from(since.as_millis()).ok()
     }
 
+    /// Writes text to standard error. That it can't be written is no error.
     fn show(&self, text: &str) {
         let _ = self.stderr().write_all(text.as_bytes());
     }

@@ -26,8 +26,9 @@ impl<F: EngineFiles> Engine<F> {
     ///
     /// # Errors
     ///
-    /// The files are handed back with each error. Nothing was asked of them if they are refused as [`Engine::open`] refuses
-    /// files, though never for a batch that can't be read or for the number of workers; nor for `Memory`.
+    /// The files are handed back with each error. Nothing was asked of them after `Memory`, or if they are refused for a
+    /// reason that [`Engine::open`] names. A batch that can't be read or can't follow, and the number of workers, are never
+    /// the reason here.
     ///
     /// If a call of `EngineFiles` fails, what was asked before stays done, and whatever is left of the files has the records
     /// that were found. They may be listed and opened again.

@@ -32,7 +32,7 @@ pub struct BothRead {
 }
 
 /// Reads the files of both queues, a segment each, by `workers` threads. Each byte is read once, but for those of a long last
-/// file that doesn't end with a batch, which are read twice.
+/// file with a tail that can't be read, which are read twice.
 ///
 /// # Errors
 ///

@@ -91,8 +91,8 @@ fn missing_file(alloc: Global, queue: LogQueue, last: FileSeq, next: FileSeq) ->
     }
 }
 
-/// Returns the tail of a whole file: its bytes from the first one on at which no batch can be read. `None` if the file ends
-/// with a batch.
+/// Returns the tail of a whole file: its bytes from the first one on at which no batch can be read. `None` if all of the file
+/// can be read.
 ///
 /// # Errors
 ///

@@ -68,8 +68,8 @@ impl FoundQueue {
         Ok(FoundQueue { segments, known })
     }
 
-    /// Returns the tail of the last file: its bytes from the first one on at which no batch can be read. `None` if it ends
-    /// with a batch, or there is no file.
+    /// Returns the tail of the last file: its bytes from the first one on at which no batch can be read. `None` if all of it
+    /// can be read, or there is no file.
     ///
     /// # Errors
     ///

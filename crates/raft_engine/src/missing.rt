@@ -12,7 +12,7 @@ use raft_files::EngineFiles;
 /// What is missing in a queue's found files before anything can be put after them.
 #[derive(Drop)]
 pub enum Missing {
-    /// Nothing: the last file ends with a batch.
+    /// Nothing: all of the last file can be read.
     Nothing,
     /// A first file: the queue has none.
     FirstFile,

@@ -27,7 +27,7 @@ pub const LEAST_SHARE: usize = 1 << 20;
 pub struct QueueRead<M> {
     /// The machine that has replayed their batches, up to the tail of the last file.
     pub machine: M,
-    /// The tail of the last file; `None` if it ends with a batch, or there is no file.
+    /// The tail of the last file; `None` if all of it can be read, or there is no file.
     pub tail: Option<CutTail>,
 }
 
@@ -65,8 +65,8 @@ pub fn read_queue<M: ReplayMachine, F: Factory<M>, R: Threads + Sync>(
     Ok(QueueRead { machine, tail })
 }
 
-/// Replays the last file of a queue into `machine`, which has replayed those before it. Returns its tail, `None` if it ends
-/// with a batch. A long file is first tried by several workers, who can replay it only if it ends with a batch; else it is
+/// Replays the last file of a queue into `machine`, which has replayed those before it. Returns its tail, `None` if all of it
+/// can be read. A long file is first tried by several workers, who can replay it only if all of it can be read; else it is
 /// replayed by the caller's thread, up to the first byte at which no batch can be read.
 ///
 /// # Errors
@@ -102,8 +102,8 @@ fn read_last<M: ReplayMachine, F: Factory<M>, R: Threads + Sync>(
     }
 }
 
-/// Replays segments, which have to end with a batch, in shares of about the same size by `workers` threads, and returns the
-/// machine that has replayed them all.
+/// Replays segments without a tail, in shares of about the same size by `workers` threads, and returns the machine that has
+/// replayed them all.
 ///
 /// # Errors
 ///

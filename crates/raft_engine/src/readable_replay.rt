@@ -16,7 +16,7 @@ use raft_records::{FilePart, ReadBatch};
 use std::alloc::Global;
 
 /// Replays the batches of a whole file up to the first byte at which no batch can be read. Returns the tail from there on;
-/// `None` if the file ends with a batch.
+/// `None` if all of the file can be read.
 ///
 /// # Errors
 ///
@@ -41,7 +41,7 @@ pub fn replay_whole<M: ReplayMachine>(machine: &mut M, file: &FilePart) -> Resul
 
 /// Replays the batches at the start of `bytes`, which stand in `file` from `offset` on, up to the first byte at which no batch
 /// can be read. Returns how many bytes these batches have, and the error for which the next one can't be read, which may be
-/// `Memory`; `None` if `bytes` end with a batch.
+/// `Memory`; `None` if all of `bytes` can be read.
 ///
 /// # Errors
 ///

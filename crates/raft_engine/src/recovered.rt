@@ -46,7 +46,7 @@ pub struct DamagedBatch {
     pub error: Error,
 }
 
-/// What an opening cut off the last file of each queue; `None` if that file ends with a batch, or there is none.
+/// What an opening cut off the last file of each queue; `None` if all of that file can be read, or there is none.
 #[derive(Drop)]
 pub struct Recovered {
     /// The tail that the append queue had.

@@ -15,7 +15,7 @@ use std::alloc::Global;
 /// What was read of a queue's last file.
 #[derive(Drop)]
 pub struct LastRead {
-    /// What stands after its readable prefix; `None` if it ends with a batch.
+    /// What stands after its readable prefix; `None` if all of it can be read.
     pub tail: Option<CutTail>,
     /// The batches of its readable prefix whose entries are damaged, in order; none in a rewrite file.
     pub damaged: Vec<DamagedBatch>,

@@ -155,8 +155,8 @@ fn missing_of<S: ReadFiles>(
     }
 }
 
-/// Returns the tail of a file of `len` bytes: its bytes from the first one on at which no batch can be read. `None` if the file
-/// ends with a batch. `mode` has to allow the cut of the tail. In a rewrite file the entries of each batch before it are checked.
+/// Returns the tail of a file of `len` bytes: its bytes from the first one on at which no batch can be read. `None` if all of the
+/// file can be read. `mode` has to allow the cut of the tail. In a rewrite file the entries of each batch before it are checked.
 ///
 /// # Errors
 ///

@@ -157,13 +157,13 @@ pub fn uncut(file: &FilePart, at: usize) -> Error
     corruption_at(file.allocator(), file.id(), at as u64, UNCUT)
 }
 
-/// Checks that no damage begins at position `at` of a file, at which no batch can be read. It is damage if the bytes from
-/// there on can't be all that a crash left of one batch, and after that position stands a batch that can be read, or one that
-/// is signed for another file.
+/// Checks that no damage begins at position `at` of a file, at which no batch can be read. There is none if the bytes from
+/// there on can be all that a crash left of one batch. There is none either if no batch stands after that position that can be
+/// read, or that is signed for another file.
 ///
 /// # Errors
 ///
-/// `Corruption`, which names both places, if it is damage; `Memory`.
+/// `Corruption`, which names both places, if there is damage; `Memory`.
 fn check_undamaged(file: &FilePart, at: usize) -> Result<()>
     requires { at < length file.now.bytes }
     ensures ok { OnOk result (¬ (IsDamagedAt file.now at)) }

@@ -26,9 +26,9 @@ pub fn written_entries_are_found()
     found_entries_stay();
 }
 
-/// States that over any number of restarts, whenever the machine crashes, an opening asks for what is missing in each queue
-/// and nothing else, and tells the rewrite queue nothing at once, if engines of its version alone wrote the files. This is a
-/// law: it computes nothing.
+/// States that an opening of files that engines of its version alone wrote asks for what is missing in each queue, and for
+/// nothing else: it tells the rewrite queue nothing at once. So it is over any number of restarts, whenever the machine
+/// crashes. This is a law: it computes nothing.
 pub fn own_files_are_told_nothing()
     ensures { OwnFilesAreToldNothing }
 {

@@ -10,7 +10,7 @@ use raft_engine_prefixes::prefixes::asks_put_batches;
 use raft_history::histories::placed_items_are_in_their_file;
 
 /// States that a read leaves what is stored as it is. Once the append queue is synced, and the rewrite queue is told what
-/// batches took away, records of a region may move to the rewrite queue with one batch, or from rewrite files to the last one.
+/// batches took away, records of a region may move in one batch: to the rewrite queue, or from rewrite files to the last one.
 /// This is a law: it computes nothing.
 pub fn moves_are_stored()
     ensures read { ReadsAreStored }

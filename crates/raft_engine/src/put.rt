@@ -12,8 +12,8 @@ use raft_base::{FileBlockHandle, LogFileContext, LogQueue, Result};
 use raft_files::EngineFiles;
 use raft_records::LogBatch;
 
-/// Signs an encoded batch of `len` bytes for `file`, the last one of a queue, puts its bytes after those of the file, which
-/// ends at `offset`, and gives its items their places there.
+/// Puts an encoded batch of `len` bytes after those of `file`, the last one of a queue, which ends at `offset`. The batch is
+/// signed for the file before, and its items get their places there afterwards.
 ///
 /// # Errors
 ///

@@ -2,8 +2,8 @@
 
 /// What an opening does if a queue's last file can't be read to its end: which tails it cuts off, and which it refuses.
 ///
-/// In each mode files are refused if a file is missing between two, if a file but the last one of its queue can't be read, or
-/// if a last file is of the other version.
+/// Each mode refuses files if one is missing between two, if one but the last of its queue can't be read, or if a last file is
+/// of the other version.
 #[derive(Clone, Copy, PartialEq, Eq, Debug)]
 pub enum RecoveryMode {
     /// Nothing is cut off: whatever can't be read is refused, with its place.

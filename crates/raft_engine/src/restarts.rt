@@ -19,11 +19,11 @@ use raft_files::EngineFiles;
 use raft_recover::files_hold_few_records;
 
 /// States that restarts find what lasts, whatever files a crash leaves. Every engine that is opened over them, and every
-/// recovery of both queues, has the records of a prefix of the batches that were written, with the synced ones at least, and
-/// of what there was before them. If the files that were found aren't damaged, these aren't either: they can be read, aren't
-/// of the other version, each group stands in a row, and a mode that refuses no tail of them opens them. `recover_both`
-/// refuses them for want of memory alone. If nothing is lost, what is found has the records of all batches. This is a law: it
-/// computes nothing.
+/// recovery of both queues, has the records of what there was before, and of a prefix of the batches that were written, which
+/// has at least the synced ones. If the files that were found aren't damaged, these aren't either: they can be read, aren't of
+/// the other version, each group stands in a row, and a mode that refuses no tail of them opens them. `recover_both` refuses
+/// them for want of memory alone. If nothing is lost, what is found has the records of all batches. This is a law: it computes
+/// nothing.
 pub fn restarts_find_what_lasts()
     ensures { (content : EntryIndex → List ℕ) (version : Version) (base : ℕ → Records) (asks : List Ask)
         (lasting : IsLastingAfter content version base asks)
@@ -105,9 +105,9 @@ impl<F: EngineFiles> Engine<F> {
     }
 
     /// States what is found again on a disk that writes pages, and the lengths of files, in any order, so that any bytes may
-    /// stand after the synced ones at a crash. An engine that is opened over the files that are left, of which nothing can be
-    /// read that wasn't written, has the records of all batches that were synced by then, and of a prefix of those since, and
-    /// no others. On such a disk `open` may refuse what is left, as damaged. This is a law: it computes nothing.
+    /// stand after the synced ones at a crash. Let nothing be readable in the files that are left but what was written. An
+    /// engine that is opened over them then has the records of all batches that were synced by then, and of a prefix of those
+    /// since, and no others. On such a disk `open` may refuse what is left, as damaged. This is a law: it computes nothing.
     pub fn what_is_left_unordered_is_opened(&self)
         ensures { (content : EntryIndex → List ℕ) → AreBothTold self.now.asks content
             → IsKeptUnordered content self.now }

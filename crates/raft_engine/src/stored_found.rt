@@ -10,9 +10,9 @@ use raft_engine_prefixes::contents::told_contents_last;
 use raft_engine_prefixes::done::{asks_do_deeds, files_that_are_left_hold_what_may_be_left};
 use raft_engine_prefixes::prefixes::asks_put_batches;
 
-/// States that found files still hold the same batches once what is missing in them was asked, and that they store the tables
-/// which a recovery gives of them, once the rewrite queue is told what it is to be told, whoever wrote the files. The records
-/// that there were before are those found ones that no batch of the append files makes. Whenever the machine crashes
+/// States what found files store, whoever wrote them. Once what is missing in them was asked, they still hold the same
+/// batches. Once the rewrite queue is told what it is to be told, they store the tables that a recovery gives of them. The
+/// records that there were before are those found ones that no batch of the append files makes. Whenever the machine crashes
 /// meanwhile, the files that are left have the records that were found. This is a law: it computes nothing.
 pub fn found_files_are_stored()
     ensures ready { FoundFilesAreReady }

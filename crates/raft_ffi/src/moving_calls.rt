@@ -62,8 +62,8 @@ pub extern "C" fn raft_ffi_engine_rewrite_again(
     told!(held in engine, alloc, text; held.rewrite_again())
 }
 
-/// Lists in `places` the blocks, each once, that have to be read if what the tables have in append files numbered at or below
-/// `gate` moves, or without a gate what they have in rewrite files. They are listed region by region, until the listed ones
+/// Lists in `places` the blocks, each once, that have to be read if records move: with a gate those of the append files
+/// numbered at or below it, without one those of the rewrite files. They are listed region by region, until the listed ones
 /// have `max_size` bytes, as many as there is room for. Sets `count` to how many there are, which may be more. Returns 0, or
 /// 11 (`Memory`): nothing is set then. The list is a hint: no promise rests on it.
 #[unsafe(no_mangle)]

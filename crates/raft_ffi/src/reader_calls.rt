@@ -47,8 +47,8 @@ pub extern "C" fn raft_ffi_reader_replay(
     told_or_gone!(held in reader, alloc, text; held.replay(alloc, &file.context(), offset, bytes))
 }
 
-/// Replays the batches at the start of `bytes`, which stand in the last file of a queue from `offset` on, up to the first one
-/// that can't be read, and sets `len` to how many bytes they have. The entries of each batch are checked: the reader notes
+/// Replays the batches at the start of `bytes`, up to the first one that can't be read, and sets `len` to how many bytes they
+/// have. `bytes` stand in the last file of a queue from `offset` on. The entries of each batch are checked: the reader notes
 /// which batches of an append file have damaged ones; in a rewrite file the first such batch is an error.
 ///
 /// The code is 0, or that of the error. After an error `reader` is empty, and `len` isn't set.

@@ -57,8 +57,8 @@ pub trait PartVisitor {
 }
 
 /// Shows `visitor` all that stands in a part, from its first byte on: each batch that can be read, and each byte at which the walk finds
-/// none. From such a byte the walk goes on at the end of the batch that a header there names, and ends if there is no such header, or if
-/// the batch would end after the part.
+/// none. From such a byte the walk goes on at the end of the batch that a header there names. It ends if no header stands there, or if the
+/// batch would end after the part.
 ///
 /// # Errors
 ///

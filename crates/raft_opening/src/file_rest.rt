@@ -34,8 +34,8 @@ pub fn check_rest(mode: RecoveryMode, rest: &FilePart) -> Result<()>
     }
 }
 
-/// Checks that `rest`, at whose first byte no batch can be read, isn't damage. It is damage if it can't be all that a crash left
-/// of one batch, and in it stands a batch that can be read, or one that is signed for another file.
+/// Checks that `rest`, at whose first byte no batch can be read, isn't damage. It isn't if it can be all that a crash left of one
+/// batch, or if no batch stands in it that can be read or is signed for another file.
 ///
 /// # Errors
 ///

@@ -38,8 +38,8 @@ pub struct QueueReplayed<M> {
     pub damaged: Vec<DamagedBatch>,
 }
 
-/// Reads the files of `queue` that `sizes` names, by `workers` threads, into a machine that `factory` makes, and checks that
-/// `mode` accepts what stands in the last one after the batches that can be read.
+/// Reads the files of `queue` that `sizes` names, by `workers` threads, into a machine that `factory` makes. Checks that `mode`
+/// accepts what stands in the last file after the batches that can be read.
 ///
 /// # Errors
 ///

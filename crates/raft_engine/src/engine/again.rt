@@ -34,9 +34,11 @@ impl<F: EngineFiles> Engine<F> {
     /// - `Full` if a batch has 2^31 bytes of entries or 2^56 bytes in all, or would begin past 2^63 in the new file;
     ///   `Corruption` if the bytes of an entry aren't found at its place; `InvalidArgument` if a key is that of the group
     ///   markers; those of `EngineFiles::read`; `Memory`. The records of some regions moved then, and the engine is intact.
-    /// - Any other of `EngineFiles`; and, once all batches of a region were put, `Memory`, `Full` if the live records of the
-    ///   rewrite queue and those that the next item names are 2^64 or more together, or a `Corruption` if the tables don't
-    ///   take it. The engine isn't intact any more. A group of which not all batches were put changes nothing.
+    /// - Any other of `EngineFiles`. The engine isn't intact any more. A group of which not all batches were put changes
+    ///   nothing.
+    /// - Once all batches of a region were put: `Memory`; `Full` if the live records of the rewrite queue and those that the
+    ///   next item names are 2^64 or more together; `Corruption` if the tables don't take an item. The engine isn't intact any
+    ///   more.
     pub fn rewrite_again(&mut self) -> Result<()>
         ensures ok { OnOk result (AreMovedAgain self.old self.new) }
         ensures accepted { OnOk result (self.old.intact ≡ true) }

@@ -92,7 +92,7 @@ fn io_words(error: &io::Error) -> &'static str
     }
 }
 
-/// Appends `name`, and behind it `why` with spaces in place of its line breaks.
+/// Appends `name`, and then `why` with spaces in place of its line breaks.
 ///
 /// # Errors
 ///

@@ -132,7 +132,7 @@ fn append_change(
     Ok(())
 }
 
-/// Returns the word for what is done to a key, and a space behind it.
+/// Returns the word for what is done to a key, and a space.
 fn op_words(op_type: OpType) -> &'static str
     ensures { result.now ≡ op_words op_type }
 {
@@ -180,7 +180,7 @@ pub fn status_of(part: &FilePart, item: &LogItem) -> Result<Option<AtomicGroupSt
     }
 }
 
-/// Returns the words for the place of a batch in an atomic group, with a comma in front; an empty text for `None`.
+/// Returns the words for the place of a batch in an atomic group, after a comma; an empty text for `None`.
 fn status_words(status: Option<AtomicGroupStatus>) -> &'static str
     ensures { result.now ≡ status_words status }
 {

@@ -343,8 +343,8 @@ fn append_entry_list(
     Ok(())
 }
 
-/// Appends the object of an entry if it is selected, with a comma in front if `later` is set: another entry comes before it in the list.
-/// Returns whether an entry comes before the next one.
+/// Appends the object of an entry if it is selected, after a comma if `later` is set: another entry comes before it in the list. Returns
+/// whether an entry comes before the next one.
 fn append_entry_if_selected(
     part: &FilePart,
     entry: &EntryIndex,

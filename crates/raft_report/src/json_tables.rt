@@ -113,7 +113,7 @@ fn pairs_text(alloc: Global, table: &MemTable) -> Result<String>
     }
 }
 
-/// Appends a key with its value as an object; with a comma in front if `later` is set: another pair comes before it.
+/// Appends a key with its value as an object; after a comma if `later` is set: another pair comes before it.
 fn append_pair(
     alloc: Global,
     later: bool,

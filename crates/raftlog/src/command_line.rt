@@ -114,19 +114,19 @@ enum Kind {
     Rest,
     /// An option without a value, as `--json`.
     Flag,
-    /// An option with a text behind it.
+    /// An option with a text after it.
     Text,
-    /// An option with a text behind it, as often as is wanted.
+    /// An option with a text after it, as often as is wanted.
     Texts,
-    /// An option with a number of 64 bits behind it.
+    /// An option with a number of 64 bits after it.
     Number,
-    /// An option with a number behind it, from 1 to this one.
+    /// An option with a number after it, from 1 to this one.
     UpTo(i64),
 }
 
 /// A word of a command: an option, or what is given by its position.
 struct Word {
-    /// Its name: for an option what stands behind `--`.
+    /// Its name: for an option what follows `--`.
     name: &'static str,
     /// What stands for its value in the help.
     value: &'static str,

@@ -93,7 +93,7 @@ impl<W: Write + Drop> Write for Lines<W> {
     }
 }
 
-/// An output that clears the progress bar before something is written, so that no line stands behind what is left of the bar.
+/// An output that clears the progress bar before something is written, so that no line follows what is left of the bar.
 #[derive(Drop)]
 pub(crate) struct OverBar<'a, R: Screen, W: Write> {
     /// The machine, whose standard error has the bar.

@@ -10,7 +10,7 @@ const FIRST: u64 = 1000;
 /// The number of milliseconds between two showings of the bar.
 const NEXT: u64 = 200;
 
-/// The width of the bar in characters: with the numbers behind it, it fits into 40 columns.
+/// The width of the bar in characters: with the numbers after it, it fits into 40 columns.
 const WIDTH: u64 = 12;
 
 /// The text that clears the line of the bar.

@@ -76,8 +76,8 @@ impl<R: SharedFiles + Screen> ReadFiles for Source<'_, R> {
     ///
     /// # Errors
     ///
-    /// Those of the system, with the path in front of their text; of the kind `NotFound` if no file of the queue has the number. Some of
-    /// the bytes may have been appended then.
+    /// Those of the system, with the path at the start of their text; of the kind `NotFound` if no file of the queue has the number. Some
+    /// of the bytes may have been appended then.
     fn read(&self, file: FileId, offset: u64, len: usize, bytes: &mut Vec<u8>) -> io::Result<()> {
         let Some(path) = path_of(paths_of(file.queue, &self.append, &self.rewrite), file.seq) else {
             return Err(io::Error::from(ErrorKind::NotFound));
@@ -113,7 +113,7 @@ fn path_of(paths: &[(FileSeq, String)], seq: FileSeq) -> Option<&str>
     }
 }
 
-/// Returns `error` with `path` in front of its text. If there is no memory for that, it is returned unchanged.
+/// Returns `error` with `path` at the start of its text. If there is no memory for that, it is returned unchanged.
 fn error_with_path(alloc: Global, path: &str, error: io::Error) -> io::Error {
     match format!(in alloc; "{path}: {error}") {
         Ok(text) => io::Error::new(error.kind(), text.as_str()),

@@ -22,9 +22,13 @@ pub enum Part {
     Large(u64, u64),
     /// This value for the key `k`.
     Put(&'static str),
+    /// The deletion of the key `k`.
     Delete,
+    /// The command that drops the entries below this index.
     Compact(u64),
+    /// The command that drops the entries from this index on.
     Truncate(u64),
+    /// The command that drops all records of the region.
     Clean,
     /// The marker that begins the group with this number.
     Begin(u64),

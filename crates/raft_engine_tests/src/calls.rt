@@ -18,7 +18,9 @@ pub type LogFiles = Vec<(FileSeq, Vec<u8>)>;
 /// How files are opened.
 #[derive(Clone, Copy)]
 pub struct Way {
+    /// The version in which the files are read.
     pub version: Version,
+    /// The number of threads.
     pub workers: usize,
 }
 

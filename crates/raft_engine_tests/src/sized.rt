@@ -18,6 +18,7 @@ use std::thread::Threads;
 /// Files of an engine that only note what is asked of them, and refuse reads.
 #[derive(Drop)]
 struct UnreadFiles {
+    /// What was asked so far.
     asked: Asked,
 }
 

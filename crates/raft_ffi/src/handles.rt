@@ -192,7 +192,9 @@ pub(crate) trait Handle: Sized + Drop {
 #[repr(C)]
 #[derive(Drop)]
 pub struct Batch {
+    /// The pointer to the value; null if nothing is held.
     at: *mut u8,
+    /// The allocator of the box.
     alloc: Global,
     pub ghost value: { Option BatchSeen } by { coded_option batch_row.coded },
 }
@@ -235,7 +237,9 @@ unsafe impl Send for Batch {}
 #[repr(C)]
 #[derive(Drop)]
 pub struct Context {
+    /// The pointer to the value; null if nothing is held.
     at: *mut u8,
+    /// The allocator of the box.
     alloc: Global,
     pub ghost value: { Option RecoverContext } by { coded_option recover_context_code },
 }
@@ -278,7 +282,9 @@ unsafe impl Send for Context {}
 #[repr(C)]
 #[derive(Drop)]
 pub struct Engine {
+    /// The pointer to the value; null if nothing is held.
     at: *mut u8,
+    /// The allocator of the box.
     alloc: Global,
     pub ghost value: { Option KeptEngine } by { coded_option engine_code },
 }
@@ -321,7 +327,9 @@ unsafe impl Send for Engine {}
 #[repr(C)]
 #[derive(Drop)]
 pub struct Items {
+    /// The pointer to the value; null if nothing is held.
     at: *mut u8,
+    /// The allocator of the box.
     alloc: Global,
     pub ghost value: { Option (List Item) } by { coded_option items_row.coded },
 }
@@ -364,7 +372,9 @@ unsafe impl Send for Items {}
 #[repr(C)]
 #[derive(Drop)]
 pub struct Reader {
+    /// The pointer to the value; null if nothing is held.
     at: *mut u8,
+    /// The allocator of the box.
     alloc: Global,
     pub ghost value: { Option ReaderSeen } by { coded_option reader_code },
 }
@@ -407,7 +417,9 @@ unsafe impl Send for Reader {}
 #[repr(C)]
 #[derive(Drop)]
 pub struct Tables {
+    /// The pointer to the value; null if nothing is held.
     at: *mut u8,
+    /// The allocator of the box.
     alloc: Global,
     pub ghost value: { Option Accessor } by { coded_option accessor_code },
 }

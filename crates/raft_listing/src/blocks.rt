@@ -51,8 +51,8 @@ fn read_block(part: &FilePart, place: FileBlockHandle) -> Result<ReadBlock<'_>>
     }
 }
 
-/// Reads the entry block that the first entry of an item names, of the first item whose first entry names one. As a rule all items of a
-/// batch share that block. Returns `None` if no item names a block so.
+/// Reads the entry block that the first entry of an item names: of the first item in which it names one. As a rule all items of a batch
+/// share that block. Returns `None` if there is no such item.
 ///
 /// # Errors
 ///

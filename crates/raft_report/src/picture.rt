@@ -18,8 +18,9 @@ const LEFT: u64 = 150;
 /// Where the words to the right of a bar begin, in pixels from the left.
 const BEHIND: u64 = LEFT + WIDTH + 12;
 
-/// Appends the files of both queues as a picture in SVG. Each file has a line with a bar: its length is that of the file beside the largest
-/// one of both queues, its filled part the bytes of live entries. The regions whose oldest file it is stand to its right.
+/// Appends the files of both queues as a picture in SVG. `append` and `rewrite` are each queue's files, with what the tables need of them.
+/// Each file has a line with a bar: its length is that of the file beside the largest one of both queues, its filled part the bytes of live
+/// entries. The regions whose oldest file it is stand to its right.
 ///
 /// # Errors
 ///

@@ -53,7 +53,6 @@ use std::thread::Threads;
 
 mod again;
 mod copies;
-/// Returns the files of both queues.
 mod files;
 mod groups;
 mod over;
@@ -316,7 +315,7 @@ impl<F: EngineFiles> Engine<F> {
         &self.accessor
     }
 
-    /// Returns the files.
+    /// Returns the files of both queues.
     pub fn files(&self) -> &F
         ensures { F.asked result.now ≡ self.now.asks }
     {

@@ -9,8 +9,8 @@ use crate::reading::Reading;
 use raft_base::{FileId, LogFileContext, LogQueue, Result, Version};
 use raft_files::EngineFiles;
 
-/// Asks what a reading of found files says is missing: first of the append queue, then of the rewrite queue. Then it writes to
-/// the rewrite queue what `reading` has to be told at once, and syncs that queue, if there is any.
+/// Asks what a reading of found files says is missing: first of the append queue, then of the rewrite queue. Then it puts the
+/// batch `reading.told`, if it has items, after the bytes of the last rewrite file, and syncs that queue.
 ///
 /// # Errors
 ///

@@ -12,8 +12,8 @@ use raft_base::{Error, FileSeq, LogQueue, Result};
 use raft_files::EngineFiles;
 use raft_table::MemTable;
 
-/// Returns the least file number that a table has in `queue` (`MemTable::min_file_seq`), or `last` if that is less, or no
-/// table has a record there. No table needs a file below it.
+/// Returns the least file number that a table needs in `queue`, or `last` if that is less, or no table needs a file there.
+/// Which file a table needs is said by `MemTable::min_file_seq`.
 ///
 /// # Errors
 ///

@@ -1,4 +1,4 @@
-//! A check of the files of both queues, which is printed as it goes on.
+//! A check of the files of both queues, which is printed while it goes on.
 
 ghost use Rattle.std.specs.Prelude.{◌≡◌, ◌++◌, ◌<◌, ◌≤◌, None, codes, string_bytes, IfErr, IfOk, OnOk};
 ghost use Rattle.std.specs.Io.KnownBytes.{Appends};
@@ -22,12 +22,14 @@ use std::alloc::Global;
 use std::io::Write;
 use std::thread::Threads;
 
-/// Checks the files of both queues, and prints what is found: the lines of each file as soon as it is read, then what an opening
-/// would do, and the verdict. The files are read in pieces, twice: for the scans, and for the opening that is tried.
+/// Checks the files of both queues, and prints what it finds to `out`: the lines of each file as soon as it is read, then what an opening
+/// by `workers` threads, 1 to 256, would do, and the verdict. Returns all that it found. `sizes` names the files, all of `version`;
+/// `source` reads them in pieces, twice: for the scans, and for the opening that is tried.
 ///
 /// # Errors
 ///
-/// `Output` where the output takes no more; `Files` with `Io` where a read fails, or with `Memory`. Some lines may then be printed.
+/// `Output` if the output takes no more; `Files` of `Io` if a read fails, or of `Memory`. Some lines may then be printed. Damage and a
+/// refusal are no errors.
 pub fn print_check<R: Threads + Sync, S: ReadFiles, W: Write>(
     rt: &R,
     alloc: Global,
@@ -51,11 +53,11 @@ pub fn print_check<R: Threads + Sync, S: ReadFiles, W: Write>(
     Ok(found)
 }
 
-/// Scans the files of both queues, prints what is found in each, and finds out what an opening would do.
+/// Scans the files of both queues, prints what is found in each, and finds out what an opening would do. Returns what was found.
 ///
 /// # Errors
 ///
-/// Those of [`print_check`].
+/// Those of [`print_check`]. Some lines may then be printed.
 fn gather_findings<R: Threads + Sync, S: ReadFiles, W: Write>(
     rt: &R,
     alloc: Global,
@@ -82,11 +84,11 @@ fn gather_findings<R: Threads + Sync, S: ReadFiles, W: Write>(
     Ok(Findings::new(append, rewrite, opening))
 }
 
-/// Scans the files of a queue, oldest first, and prints what is found in each.
+/// Scans the files of one queue, in the order of `sizes`, and prints what is found in each as soon as it is read. Returns the scans.
 ///
 /// # Errors
 ///
-/// Those of [`print_check`].
+/// Those of [`print_check`]. Some lines may then be printed.
 fn print_scans<S: ReadFiles, W: Write>(
     form: Form,
     alloc: Global,
@@ -111,11 +113,12 @@ fn print_scans<S: ReadFiles, W: Write>(
     Ok(scans)
 }
 
-/// Scans a file, and prints what is found in it. `last` is the number of the file before it, `None` where it is the first.
+/// Scans one file, prints what is found in it, and returns the scan. `last` is the number of the file before it, `None` if it is the first:
+/// a line says which files are missing between the two.
 ///
 /// # Errors
 ///
-/// Those of [`print_check`].
+/// Those of [`print_check`]. Some lines may then be printed.
 fn scan_and_print<S: ReadFiles, W: Write>(
     form: Form,
     alloc: Global,
@@ -136,11 +139,11 @@ fn scan_and_print<S: ReadFiles, W: Write>(
     Ok(scan)
 }
 
-/// Prints what a scan of a file finds; `last` is the number of the file before it.
+/// Prints the lines of a scan. `last` is the number of the file before it, `None` if it is the first.
 ///
 /// # Errors
 ///
-/// `Output` where the output takes no more, `Files` with `Memory`.
+/// `Output` if the output takes no more; `Files` of `Memory`. Some lines may then be printed.
 fn print_scan<W: Write>(
     form: Form,
     alloc: Global,
@@ -158,11 +161,11 @@ fn print_scan<W: Write>(
     write_text(out, text.as_str())
 }
 
-/// Appends what a scan of a file finds, as text or as JSON; `last` is the number of the file before it.
+/// Appends the lines of a scan, as text or as JSON. `last` is the number of the file before it, `None` if it is the first.
 ///
 /// # Errors
 ///
-/// Want of memory. Some lines may then be appended.
+/// Fails only if there is no memory. Some lines may then be appended.
 fn append_scan_in_form(
     form: Form,
     alloc: Global,
@@ -180,11 +183,11 @@ fn append_scan_in_form(
     }
 }
 
-/// Prints the end of a check: which queue has no files, what an opening would do, and the verdict.
+/// Prints the end of a check: a line for each queue that has no files, what an opening would do, and the verdict.
 ///
 /// # Errors
 ///
-/// `Output` where the output takes no more, `Files` with `Memory`.
+/// `Output` if the output takes no more; `Files` of `Memory`. Some lines may then be printed.
 fn print_ending<W: Write>(
     form: Form,
     alloc: Global,
@@ -203,7 +206,7 @@ fn print_ending<W: Write>(
 ///
 /// # Errors
 ///
-/// Want of memory. Some lines may then be appended.
+/// Fails only if there is no memory. Some lines may then be appended.
 fn append_ending_in_form(
     form: Form,
     alloc: Global,
@@ -218,11 +221,11 @@ fn append_ending_in_form(
     }
 }
 
-/// Appends the end of a check: which queue has no files, what an opening would do, and the verdict.
+/// Appends the end of a check as text: a line for each queue that has no files, what an opening would do, and the verdict.
 ///
 /// # Errors
 ///
-/// Want of memory. Some lines may then be appended.
+/// Fails only if there is no memory. Some lines may then be appended.
 fn append_ending(found: &Findings, text: &mut String) -> AllocResult<()>
     ensures { OnOk result (string_bytes text.new ≡ string_bytes text.old ++ ending_text found.now) }
 {
@@ -232,11 +235,11 @@ fn append_ending(found: &Findings, text: &mut String) -> AllocResult<()>
     append_verdict(found, text)
 }
 
-/// Appends the verdict, as a line.
+/// Appends the verdict as a line: `sound`, `damaged`, or `empty`.
 ///
 /// # Errors
 ///
-/// Want of memory. A part may then be appended.
+/// Fails only if there is no memory. Some of the line may then be appended.
 fn append_verdict(found: &Findings, text: &mut String) -> AllocResult<()>
     ensures { OnOk result (string_bytes text.new ≡ string_bytes text.old ++ (verdict_word found.now ++ codes "\n")) }
 {

@@ -1,4 +1,4 @@
-//! What a check of the files of both queues finds.
+//! What a check of the files of both queues has found.
 
 ghost use Rattle.std.specs.Prelude.{◌≡◌, ◌↔◌, true};
 ghost use Rattle.raft_inspect.specs.Verdicts.{IsNothingWrong};
@@ -8,22 +8,22 @@ use crate::opening::Opening;
 use raft_listing::FileScan;
 use raft_survey::are_undamaged;
 
-/// What a check of the files of both queues finds.
+/// What a check of the files of both queues has found.
 #[derive(Drop)]
 pub struct Findings {
-    /// What scans of the append queue's files find, oldest first.
+    /// The scans of the append queue's files, oldest first.
     pub append: Vec<FileScan>,
-    /// What scans of the rewrite queue's files find, oldest first.
+    /// The scans of the rewrite queue's files, oldest first.
     pub rewrite: Vec<FileScan>,
     /// What an opening would do with the files.
     pub opening: Opening,
-    /// Whether nothing is wrong: an opening accepts the files and cuts nothing off, and each batch of each file can be read, with
-    /// the bytes of all its entries.
+    /// Whether nothing is wrong: an opening accepts the files and cuts nothing off, and each batch of each file can be read, with the bytes
+    /// of all its entries. It is set without files too.
     pub is_sound: bool,
 }
 
 impl Findings {
-    /// Puts what scans find together with what an opening would do.
+    /// Makes the findings of a check from the scans of both queues' files and what an opening would do.
     pub(crate) fn new(append: Vec<FileScan>, rewrite: Vec<FileScan>, opening: Opening) -> Findings
         ensures scans { (result.append.items ≡ append.items) × (result.rewrite.items ≡ rewrite.items) }
         ensures opening { result.opening ≡ opening }
@@ -38,7 +38,7 @@ impl Findings {
         }
     }
 
-    /// Returns the verdict of a check: `empty` where there are no files, `sound` where nothing is wrong with them, else `damaged`.
+    /// Returns the verdict of a check: `empty` if there are no files, `sound` if nothing is wrong with them, else `damaged`.
     pub fn verdict(&self) -> &'static str
         ensures { result.now ≡ verdict_word self.now }
     {
@@ -52,7 +52,7 @@ impl Findings {
     }
 }
 
-/// Tests whether nothing is wrong with the files of either queue, and nothing is cut off from them.
+/// Tests whether no scan has found damage, and an opening accepts the files and cuts nothing off them.
 fn is_nothing_wrong(append: &Vec<FileScan>, rewrite: &Vec<FileScan>, opening: &Opening) -> bool
     ensures { (result ≡ true) ↔ IsNothingWrong append.now.items rewrite.now.items opening.now }
 {

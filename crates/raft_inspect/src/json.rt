@@ -1,5 +1,5 @@
-//! What an opening would do, and the verdict of a check, as lines of JSON. Each call fails for want of memory alone, and a part may then be
-//! appended.
+//! What an opening would do, and the verdict of a check, as lines of JSON. Each call fails for want of memory alone, and some of its text
+//! may then be appended.
 
 ghost use Rattle.std.specs.Prelude.{◌≡◌, ◌++◌, string_bytes, None, Some, OnOk};
 ghost use Rattle.raft_report.specs.JsonData.{json_line};
@@ -14,11 +14,11 @@ use raft_listing::FileScan;
 use raft_report::{QueueName, append_json_no_files, quoted_reason};
 use std::alloc::Global;
 
-/// Appends a line for what an opening would do where it refuses files, else one for each queue.
+/// Appends what an opening would do: a line if it refuses the files, else a line for each queue.
 ///
 /// # Errors
 ///
-/// Want of memory. Some lines may then be appended.
+/// Fails only if there is no memory. Some lines may then be appended.
 pub(crate) fn append_json_opening(
     alloc: Global,
     opening: &Opening,
@@ -35,7 +35,7 @@ pub(crate) fn append_json_opening(
     }
 }
 
-/// Appends that an opening refuses the files, and why.
+/// Appends the line which says that an opening refuses the files, and why.
 fn append_json_refused(alloc: Global, error: &Error, text: &mut String) -> AllocResult<()>
     ensures { OnOk result (string_bytes text.new ≡ string_bytes text.old ++ json_line (refused_data error.now)) }
 {
@@ -43,7 +43,7 @@ fn append_json_refused(alloc: Global, error: &Error, text: &mut String) -> Alloc
     writeln!(text, "{{\"opening\":\"refused\",\"why\":{why}}}")
 }
 
-/// Appends what an opening would cut off from a queue's last file; that it is nothing for `None`.
+/// Appends the line which says what an opening would cut off the last file of `queue`; for `None`, that it is nothing.
 fn append_json_cut(
     alloc: Global,
     queue: LogQueue,
@@ -58,7 +58,7 @@ fn append_json_cut(
     }
 }
 
-/// Appends that nothing is cut off from a queue.
+/// Appends the line which says that an opening would cut nothing off `queue`.
 fn append_json_uncut(queue: LogQueue, text: &mut String) -> AllocResult<()>
     ensures { OnOk result (string_bytes text.new ≡ string_bytes text.old ++ json_line (cut_data queue None)) }
 {
@@ -69,7 +69,7 @@ fn append_json_uncut(queue: LogQueue, text: &mut String) -> AllocResult<()>
     )
 }
 
-/// Appends that a tail is cut off from a queue, and why.
+/// Appends the line which says that an opening would cut a tail off the last file of `queue`: its file, offset, length and reason.
 fn append_json_tail(
     alloc: Global,
     queue: LogQueue,
@@ -89,11 +89,11 @@ fn append_json_tail(
     )
 }
 
-/// Appends the end of a check: which queue has no files, what an opening would do, and the verdict.
+/// Appends the end of a check: a line for each queue that has no files, what an opening would do, and the verdict.
 ///
 /// # Errors
 ///
-/// Want of memory. Some lines may then be appended.
+/// Fails only if there is no memory. Some lines may then be appended.
 pub(crate) fn append_json_ending(
     alloc: Global,
     found: &Findings,
@@ -107,7 +107,7 @@ pub(crate) fn append_json_ending(
     append_json_verdict(found, text)
 }
 
-/// Appends the line of a queue without files, where it has no scans.
+/// Appends the line of a queue without files if there are no scans of its files; else nothing.
 fn append_json_if_empty(
     queue: LogQueue,
     scans: &Vec<FileScan>,
@@ -121,7 +121,7 @@ fn append_json_if_empty(
     Ok(())
 }
 
-/// Appends the line with which a check ends: its verdict.
+/// Appends the last line of a check, its verdict: `sound`, `damaged`, or `empty`.
 fn append_json_verdict(found: &Findings, text: &mut String) -> AllocResult<()>
     ensures { OnOk result (string_bytes text.new ≡ string_bytes text.old ++ json_line (verdict_data (verdict_word found.now))) }
 {

@@ -1,4 +1,4 @@
-//! Why something isn't printed to its end.
+//! The reasons why something isn't printed to its end.
 
 ghost use Rattle.std.specs.Prelude.{◌≡◌, IfErr, OnOk};
 ghost use Rattle.std.specs.Io.KnownBytes.{Appends};
@@ -12,7 +12,7 @@ use std::io::Write;
 /// The reason why something isn't printed to its end.
 #[derive(Debug, Drop)]
 pub enum PrintError {
-    /// The files are refused, or can't be read; or memory is wanting.
+    /// The files are refused or can't be read, or there is no memory.
     Files(Error),
     /// The output takes no more.
     Output(io::Error),
@@ -27,6 +27,7 @@ impl From<Error> for PrintError {
 
     ghost from_gives = { λ e r. r ≡ Files e };
 
+    /// Returns the error as one about the files.
     fn from(e: Error) -> PrintError {
         PrintError::Files(e)
     }
@@ -39,6 +40,7 @@ impl From<AllocError> for PrintError {
 
     ghost from_gives = { λ _ r. r ≡ Files Memory };
 
+    /// Returns `Files` of `Memory`.
     fn from(_e: AllocError) -> PrintError {
         PrintError::Files(Error::Memory)
     }
@@ -51,6 +53,7 @@ impl<T: Drop> From<AllocFailed<T>> for PrintError {
 
     ghost from_gives = { λ _ r. r ≡ Files Memory };
 
+    /// Returns `Files` of `Memory`. What couldn't be stored is dropped.
     fn from(_e: AllocFailed<T>) -> PrintError {
         PrintError::Files(Error::Memory)
     }
@@ -60,7 +63,7 @@ impl<T: Drop> From<AllocFailed<T>> for PrintError {
 ///
 /// # Errors
 ///
-/// `Output`. Some of the text may then be written.
+/// `Output` alone. Some of the text may then be written.
 pub fn write_text<W: Write>(out: &mut W, text: &str) -> PrintResult<()>
     ensures ok { OnOk result (Appends (W.contents out.old) (W.contents out.new) text.now) }
     ensures fault { IfErr result IsOutputFault }

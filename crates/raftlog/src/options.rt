@@ -1,4 +1,4 @@
-//! What the words of all commands say.
+//! The values of the options that several commands have.
 
 ghost use Rattle.std.specs.Prelude.{◌<◌, ◌≤◌};
 
@@ -9,7 +9,7 @@ use raft_recover::MAX_WORKERS;
 use raft_report::Form;
 use std::thread::available_parallelism;
 
-/// Returns the format version that words name, 2 where they name none.
+/// Returns the format version that the words of a command name; version 2 if they name none.
 pub(crate) fn version_of(words: &ArgMatches<'_>) -> Version {
     match words.get_one::<u64>("format") {
         Some(1) => Version::V1,
@@ -17,7 +17,7 @@ pub(crate) fn version_of(words: &ArgMatches<'_>) -> Version {
     }
 }
 
-/// Returns the form that words ask for: JSON where they have `--json`, else text.
+/// Returns the form in which to print: JSON if the words of a command have `--json`, else text.
 pub(crate) fn form_of(words: &ArgMatches<'_>) -> Form {
     if words.get_flag("json") {
         Form::Json
@@ -26,7 +26,8 @@ pub(crate) fn form_of(words: &ArgMatches<'_>) -> Form {
     }
 }
 
-/// Returns how many threads words name, or how many processors there are where they name none: 1 to 256.
+/// Returns how many threads to use, 1 to 256: as many as the words of a command name, or as the machine has processors if they name none; 1
+/// if that isn't known.
 pub(crate) fn workers_of<R: Host>(rt: &R, words: &ArgMatches<'_>) -> usize
     ensures { (0 < result) × (result ≤ 256) }
 {

@@ -1,4 +1,4 @@
-//! `raftlog regions`.
+//! The command `raftlog regions`: the tables that an engine would have.
 
 ghost use Rattle.std.specs.Prelude.{◌≡◌, ◌<◌, ◌≤◌, IfOk, OnOk};
 ghost use Rattle.raft_recover.specs.TableLines.{PrintsTables};
@@ -20,11 +20,13 @@ use std::alloc::Global;
 use std::io::Write;
 use std::thread::Threads;
 
-/// Prints the tables that an engine would have, or one of them with its keys. Returns the status.
+/// Prints the tables that an engine would have which is opened over the files, or with `--region` one of them with its keys. Returns the
+/// status to end with.
 ///
 /// # Errors
 ///
-/// `Misused` where the words ask for values and name no region; `NoTable` where the region has no table; those of the files, of an opening, and of the output; `Memory`.
+/// `Misused` if the words ask for values and name no region; `NoTable` if the region has no table; those of the files, of an opening, and
+/// of the output; `Memory`. Some lines may be printed then.
 pub(crate) fn show_regions<'a, R: Host, W: Write>(
     rt: &'a R,
     words: &ArgMatches<'a>,
@@ -59,11 +61,11 @@ pub(crate) fn show_regions<'a, R: Host, W: Write>(
     }
 }
 
-/// Returns the tables of an engine that would be opened over found files, and takes the bar away.
+/// Returns the tables that an engine would have which is opened over the found files. Clears the progress bar, after an error too.
 ///
 /// # Errors
 ///
-/// Those of the files and of an opening, `Memory`.
+/// Those of the files, the refusals of an opening, and `Memory`, all as `Raft`.
 pub(crate) fn tables_of<R: Host>(
     rt: &R,
     words: &ArgMatches<'_>,
@@ -76,11 +78,12 @@ pub(crate) fn tables_of<R: Host>(
     Ok(tables?)
 }
 
-/// Prints all tables of an engine that would be opened over found files. Returns the status.
+/// Prints all tables that an engine would have which is opened over the files that `sizes` names and `source` reads. Returns the status to
+/// end with.
 ///
 /// # Errors
 ///
-/// Those of the files, of an opening, and of the output; `Memory`.
+/// Those of the files, of an opening, and of the output; `Memory`. Some lines may be printed after an error of the output.
 fn print_regions<R: Threads + Sync + AllocGlobal, S: ReadFiles, W: Write>(
     rt: &R,
     source: &S,
@@ -98,11 +101,11 @@ fn print_regions<R: Threads + Sync + AllocGlobal, S: ReadFiles, W: Write>(
     print_all_regions(rt.alloc(), &tables, form, out)
 }
 
-/// Prints all tables, as text or as lines of JSON. Returns the status.
+/// Prints all tables, as text or as lines of JSON. Returns the status to end with.
 ///
 /// # Errors
 ///
-/// `Output` where the output takes no more; `Raft` with `Memory`.
+/// `Output` if the output takes no more; `Raft` of `Memory`. Some lines may be printed then.
 fn print_all_regions<W: Write>(
     alloc: Global,
     accessor: &MemTableAccessor,
@@ -118,11 +121,11 @@ fn print_all_regions<W: Write>(
     }
 }
 
-/// Prints all tables as text. Returns the status.
+/// Prints all tables as text. Returns the status to end with.
 ///
 /// # Errors
 ///
-/// `Output` where the output takes no more; `Raft` with `Memory`.
+/// `Output` if the output takes no more; `Raft` of `Memory`. Some lines may be printed then.
 fn print_text_regions<W: Write>(
     alloc: Global,
     accessor: &MemTableAccessor,
@@ -138,11 +141,11 @@ fn print_text_regions<W: Write>(
     }
 }
 
-/// Prints all tables as lines of JSON. Returns the status.
+/// Prints all tables as lines of JSON. Returns the status to end with.
 ///
 /// # Errors
 ///
-/// `Output` where the output takes no more; `Raft` with `Memory`.
+/// `Output` if the output takes no more; some lines may be printed then. `Raft` of `Memory`; none is printed then.
 fn print_json_regions<W: Write>(
     alloc: Global,
     accessor: &MemTableAccessor,
@@ -156,11 +159,12 @@ fn print_json_regions<W: Write>(
     Ok(DONE)
 }
 
-/// Prints the table of a region with its keys. Returns the status.
+/// Prints the table of one region, and its keys. As text a key has its value with `values`, else the length of it; as JSON it always has
+/// the value. Returns the status to end with.
 ///
 /// # Errors
 ///
-/// `NoTable` where the region has no table, `Output` where the output takes no more, `Memory`.
+/// `NoTable` if the region has no table; `Memory`; nothing is printed then. `Output` if the output takes no more.
 fn print_region<W: Write>(
     alloc: Global,
     accessor: &MemTableAccessor,

@@ -1,4 +1,4 @@
-//! Entries that were read.
+//! Entries that were read, and how their blocks are read.
 
 use super::Engine;
 use crate::sys::block_entries;
@@ -9,9 +9,9 @@ use std::ops::Range;
 use std::sync::Arc;
 use std::vec;
 
-/// The bytes of entries of a region, in the order of their indexes.
+/// Iterates over the bytes of entries of a region, in the order of their indexes.
 ///
-/// All of them were read, with their checksums, so that nothing written later shows.
+/// All of them were read, and their checksums tested, before the value was returned. What is written later doesn't show.
 ///
 /// ```
 /// use raft_recover::{Engine, LogBatch, MemoryFiles, Options};
@@ -32,26 +32,30 @@ use std::vec;
 /// Each item is a copy of the entry's bytes; [`Entries::iter`] lends them.
 #[derive(Clone, Default)]
 pub struct Entries {
-    /// The entry bytes of the blocks that hold them.
+    /// The entry bytes of the blocks that have the entries.
     blocks: Vec<Arc<Vec<u8>>>,
+    /// The entries that are left.
     rest: vec::IntoIter<Place>,
 }
 
-/// Where the bytes of an entry are.
+/// An entry, and where its bytes are among those of [`Entries`].
 #[derive(Clone)]
 struct Place {
     index: u64,
+    /// The position of its block.
     block: usize,
+    /// Where its bytes are in that block.
     bytes: Range<usize>,
 }
 
 impl Entries {
-    /// Reads entries of a region, which stand in order: the block of neighbors is read once, and the last block is kept.
+    /// Reads the bytes of a region's entries. A block that neighboring entries share is read once, and the last block is kept for
+    /// the next reading.
     ///
     /// # Errors
     ///
-    /// `Corruption` where no sound block with the bytes of an entry stands at its place, `Io`, `Memory`; they name the region and
-    /// the index of the entry.
+    /// `Corruption` where no sound block with the bytes of an entry is at its place; `Io`: both with the region and the index of
+    /// the entry, the file and the offset. `Memory`.
     pub(super) fn read<F: Files>(
         engine: &Engine<F>,
         region: u64,
@@ -88,7 +92,7 @@ impl Entries {
         })
     }
 
-    /// Returns the index of the entry that comes next; `None` behind the last one.
+    /// Returns the index of the entry that `next` will return; `None` where none is left.
     ///
     /// ```
     /// # use raft_recover::{Engine, LogBatch, MemoryFiles, Options};
@@ -107,7 +111,8 @@ impl Entries {
         self.rest.as_slice().first().map(|place| place.index)
     }
 
-    /// Lends the entries that are left, each with its index, from the first one on or from the last. No byte is copied.
+    /// Lends the entries that are left, each as its index and its bytes, forwards or backwards. No byte is copied, and the
+    /// entries stay.
     ///
     /// ```
     /// # use raft_recover::{Engine, LogBatch, MemoryFiles, Options};
@@ -129,7 +134,7 @@ impl Entries {
         places.map(|place| (place.index, self.bytes(place)))
     }
 
-    /// Returns the bytes of the entry at a place.
+    /// Returns the bytes of the entry that `place` describes.
     fn bytes(&self, place: &Place) -> &[u8] {
         &self.blocks[place.block][place.bytes.clone()]
     }
@@ -169,21 +174,24 @@ impl fmt::Debug for Entries {
     }
 }
 
-/// The bytes of one entry, among those of its block.
+/// The bytes of one entry, with those of all of its block.
 pub(super) struct EntryBytes {
+    /// The entry bytes of the block.
     block: Arc<Vec<u8>>,
+    /// Where those of the entry are.
     bytes: Range<usize>,
 }
 
 impl EntryBytes {
-    /// Returns the bytes of an entry; `None` where its block isn't kept, or doesn't have them.
+    /// Returns the bytes of an entry from the kept blocks; `None` where its block isn't kept, or doesn't have these bytes.
     pub(super) fn of_kept<F: Files>(engine: &Engine<F>, entry: &Entry) -> Option<EntryBytes> {
         let block = engine.kept_blocks.get(&entry.block)?;
         let bytes = bytes_of(entry, block.len())?;
         Some(EntryBytes { block, bytes })
     }
 
-    /// Reads an entry of a region with all of its block, which goes to the engine's kept blocks.
+    /// Reads the bytes of an entry of `region`, with its whole block, from the file, and keeps the block for the next reading.
+    /// Whether the block is kept already isn't looked up.
     ///
     /// # Errors
     ///
@@ -209,7 +217,7 @@ impl EntryBytes {
     }
 }
 
-/// Returns `len` bytes that are zero. The only error is `Memory`.
+/// Returns `len` bytes of zero. The only error is `Memory`.
 pub(super) fn zeros(len: usize) -> Result<Vec<u8>> {
     let mut bytes = Vec::new();
     bytes.try_reserve_exact(len).map_err(|_| Error::memory())?;
@@ -217,11 +225,12 @@ pub(super) fn zeros(len: usize) -> Result<Vec<u8>> {
     Ok(bytes)
 }
 
-/// Reads the bytes of a block, with their checksum.
+/// Reads the bytes of a block, its checksum with them, which isn't tested. They may be read from memory, if they aren't written
+/// yet.
 ///
 /// # Errors
 ///
-/// `Io` with the place of the block, `Memory`.
+/// `Io` with the file and the offset of the block; `Memory`.
 pub(super) fn read_block<F: Files>(engine: &Engine<F>, block: Block) -> Result<Vec<u8>> {
     let mut bytes = zeros(block.len)?;
     if block.len > 0 {
@@ -234,7 +243,7 @@ pub(super) fn read_block<F: Files>(engine: &Engine<F>, block: Block) -> Result<V
     Ok(bytes)
 }
 
-/// Returns the entry bytes of a block, which are read unless they are kept.
+/// Returns the entry bytes of a block: the kept ones, or those that it reads.
 ///
 /// # Errors
 ///
@@ -246,11 +255,11 @@ fn entry_bytes<F: Files>(engine: &Engine<F>, block: Block) -> Result<Arc<Vec<u8>
     }
 }
 
-/// Reads the entry bytes of a block, and tests their checksum. A block of no bytes has none.
+/// Reads the entry bytes of a block, and tests their checksum, which isn't among them. A block of no bytes has no checksum.
 ///
 /// # Errors
 ///
-/// `Io`, and `Corruption` where the checksum is another, with the place of the block; `Memory`.
+/// `Io`, or `Corruption` where the checksum is another one, with the file and the offset of the block; `Memory`.
 pub(super) fn read_entry_bytes<F: Files>(engine: &Engine<F>, block: Block) -> Result<Vec<u8>> {
     let mut bytes = read_block(engine, block)?;
     if block.len > 0 {
@@ -260,15 +269,15 @@ pub(super) fn read_entry_bytes<F: Files>(engine: &Engine<F>, block: Block) -> Re
     Ok(bytes)
 }
 
-/// Returns where the bytes of an entry are in the entry bytes of its block, of which there are `len`; `None` where they would end
-/// behind those.
+/// Returns the range in which the bytes of an entry are among the `len` entry bytes of its block; `None` where it would end
+/// behind these.
 fn bytes_of(entry: &Entry, len: usize) -> Option<Range<usize>> {
     let from = entry.offset as usize;
     let end = from.saturating_add(entry.len as usize);
     (end <= len).then_some(from..end)
 }
 
-/// Returns the refusal of an entry whose bytes would end behind those of its block.
+/// Makes the error for an entry whose bytes would end behind those of its block.
 #[cold]
 fn of_lacking(entry: &Entry) -> Error {
     let Block { file, offset, .. } = entry.block;

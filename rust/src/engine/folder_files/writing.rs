@@ -1,14 +1,14 @@
-//! Bytes that are written to a log file, all of them or none.
+//! Writes bytes to a log file: all of them, or none where there is no room.
 
 use std::fs::File;
 use std::io::{self, Write};
 
-/// Writes bytes at the end of a file. Where there is no room for all of them those that were written are cut off again.
+/// Writes bytes at the end of a file. Where there is no room for all of them, those that were written are cut off again.
 ///
 /// # Errors
 ///
-/// Those of the system: as [`Unmade::AsBefore`] where there is no room and the file has none of the bytes, else as
-/// [`Unmade::InPart`].
+/// [`Unmade::AsBefore`] where there is no room, and the file has none of the bytes. [`Unmade::InPart`] for any other error of the
+/// system, or where they couldn't be cut off again: some of the bytes may be in the file then.
 pub(super) fn write_all_or_nothing(
     mut file: &File,
     bytes: &[u8],
@@ -31,12 +31,12 @@ pub(super) fn write_all_or_nothing(
     Ok(())
 }
 
-/// Why a change of the files wasn't made.
+/// Why a change of the files failed, and whether some of it may be made.
 #[derive(Debug)]
 pub(super) enum Unmade {
-    /// All is as it was before.
+    /// Nothing is changed.
     AsBefore(io::Error),
-    /// It may have been made in part.
+    /// Some of the change may be made.
     InPart(io::Error),
 }
 
@@ -46,7 +46,7 @@ impl From<io::Error> for Unmade {
     }
 }
 
-/// Cuts the last `count` bytes off a file, which were just written.
+/// Cuts the last `count` bytes off a file; all of them, if there are fewer.
 ///
 /// # Errors
 ///
@@ -55,7 +55,8 @@ fn cut_last_bytes(file: &File, count: u64) -> io::Result<()> {
     file.set_len(file.metadata()?.len().saturating_sub(count))
 }
 
-/// Tests whether the system refused a write for want of room.
+/// Tests whether an error of the system says that there is no room: on the disk, within a quota, or within the greatest length of
+/// a file.
 pub(super) fn lacks_room(refused: &io::Error) -> bool {
     matches!(
         refused.kind(),

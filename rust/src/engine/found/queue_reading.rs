@@ -19,9 +19,9 @@ const LEAST_SHARE: u64 = 1 << 20;
 /// # Errors
 ///
 /// That of the first batch that is refused, but for the tail of the last file; `Io` with file and offset; `InvalidArgument` where
-/// a file begins with the header of raft-engine; `Memory`. It is always the first error in the order of the files: where several
-/// threads met one, a single thread reads the files once more. Where the error then names no file, it is read once more to name
-/// the batch.
+/// a file begins with the header of raft-engine; `Memory`. Several threads may meet errors in any order. So after one that is
+/// neither `Io` nor `Memory` a single thread reads the files once more, to find the first; and if that one names no file, once
+/// more to name the batch.
 pub(super) fn read_queue(
     files: &impl Files,
     queue: Queue,

@@ -12,13 +12,13 @@ use std::env;
 use std::path::{Path, PathBuf};
 use std::process::Command;
 
-/// Where `rt lib` leaves the archive of the library.
+/// The path at which `rt lib` leaves the archive of the library.
 const LIBRARY: &str = concat!(
     env!("CARGO_MANIFEST_DIR"),
     "/../crates/raft_ffi/out/libraft_ffi.a"
 );
 
-/// What the library is compiled for, as cargo names the parts of a target.
+/// The target that the library is compiled for: the variables in which cargo names its parts, with their values.
 const TARGET: [(&str, &str); 3] = [
     ("CARGO_CFG_TARGET_OS", "linux"),
     ("CARGO_CFG_TARGET_ARCH", "x86_64"),
@@ -56,7 +56,7 @@ fn main() {
     }
 }
 
-/// Returns the path of the toolchain's heap, if there is a toolchain.
+/// Returns the path of the toolchain's heap, `liblibc_c.a`; `None` where there is no `rt`, or no such file beside its page.
 fn of_toolchain() -> Option<PathBuf> {
     println!("cargo::rerun-if-env-changed=PATH");
     let page = Command::new("rt").arg("doc").output().ok()?;
@@ -65,7 +65,8 @@ fn of_toolchain() -> Option<PathBuf> {
     archive.is_file().then_some(archive)
 }
 
-/// Links the archive that a variable names, or another one where it isn't set.
+/// Tells cargo to link the archive that a variable names, or, where the variable isn't set, the one that `otherwise` returns. An
+/// archive that the variable names and that isn't there is an error.
 fn link(variable: &str, otherwise: impl FnOnce() -> PathBuf) {
     println!("cargo::rerun-if-env-changed={variable}");
     let archive = match env::var_os(variable).map(PathBuf::from) {

@@ -11,12 +11,14 @@ const REGIONS: u64 = 100;
 /// How many entries a batch has.
 const ENTRIES: u64 = 8;
 
-/// The step from one entry of a region that is read to the next one: it shares no factor with how many there are.
+/// How far apart, in positions of a region's entries, two entries are that are read one after the other. It shares no factor with
+/// their number, so that each is read once.
 const STEP: u64 = 7_919;
 
 type MemoryEngine = Engine<MemoryFiles>;
 
-/// Prints what a phase took, which returns how many units it had.
+/// Runs a phase, which returns how many units it had, and prints its line: the name, that number, the unit, and how many
+/// nanoseconds each took.
 fn tell(name: &str, unit: &str, phase: impl FnOnce() -> Result<u64>) -> Result<()> {
     let begun = Instant::now();
     let count = phase()?;
@@ -25,12 +27,12 @@ fn tell(name: &str, unit: &str, phase: impl FnOnce() -> Result<u64>) -> Result<(
     Ok(())
 }
 
-/// Adds the entries of a region's batch of this number.
+/// Adds to a batch the entries of the batch numbered `number` of a region.
 fn fill(batch: &mut LogBatch, region: u64, number: u64) -> Result<()> {
     batch.add_entries(region, number * ENTRIES + 1, &[[7; 128]; ENTRIES as usize])
 }
 
-/// Makes batches.
+/// Makes batches, and writes none.
 #[inline(never)]
 fn phase_make(batches: u64) -> Result<u64> {
     for number in 0..batches {
@@ -43,7 +45,7 @@ fn phase_make(batches: u64) -> Result<u64> {
     Ok(batches * REGIONS)
 }
 
-/// Makes batches, and writes each.
+/// Makes batches, and writes each once.
 #[inline(never)]
 fn phase_write(engine: &MemoryEngine, batches: u64) -> Result<u64> {
     for number in 0..batches {
@@ -56,7 +58,7 @@ fn phase_write(engine: &MemoryEngine, batches: u64) -> Result<u64> {
     Ok(batches * REGIONS)
 }
 
-/// Fills one batch again and again, and writes it each time.
+/// Fills a single batch again and again, and writes it each time.
 #[inline(never)]
 fn phase_write_again(engine: &MemoryEngine, batches: u64) -> Result<u64> {
     let mut batch = LogBatch::new()?;
@@ -80,7 +82,7 @@ fn phase_entry_in_order(engine: &MemoryEngine, entries: u64) -> Result<u64> {
     Ok(entries * REGIONS)
 }
 
-/// Reads all entries, each by one call, and none behind its neighbor.
+/// Reads all entries, each by one call, so that no block is still kept when its next entry is read.
 #[inline(never)]
 fn phase_entry(engine: &MemoryEngine, entries: u64) -> Result<u64> {
     for turn in 0..entries {
@@ -91,7 +93,7 @@ fn phase_entry(engine: &MemoryEngine, entries: u64) -> Result<u64> {
     Ok(entries * REGIONS)
 }
 
-/// Reads as many entries of ten blocks in turn, which are kept.
+/// Reads entries of ten blocks in turn, so that each block is kept. There are as many calls as in the other phases.
 #[inline(never)]
 fn phase_entry_kept(engine: &MemoryEngine, entries: u64) -> Result<u64> {
     for turn in 0..entries * REGIONS {
@@ -100,7 +102,7 @@ fn phase_entry_kept(engine: &MemoryEngine, entries: u64) -> Result<u64> {
     Ok(entries * REGIONS)
 }
 
-/// Lends all entries of each region in order, by one call for a region.
+/// Lends all entries of each region in order, by one call for each region.
 #[inline(never)]
 fn phase_for_each_entry(engine: &MemoryEngine, entries: u64) -> Result<u64> {
     for region in 0..REGIONS {
@@ -111,14 +113,14 @@ fn phase_for_each_entry(engine: &MemoryEngine, entries: u64) -> Result<u64> {
     Ok(entries * REGIONS)
 }
 
-/// Moves all records of the first file.
+/// Moves all records to the rewrite queue.
 #[inline(never)]
 fn phase_rewrite(engine: &MemoryEngine, entries: u64) -> Result<u64> {
     engine.rewrite(1)?;
     Ok(entries * REGIONS)
 }
 
-/// Goes through the phases of reading.
+/// Runs the phases that read. `which` is added to their names.
 fn read(engine: &MemoryEngine, entries: u64, which: &str) -> Result<()> {
     tell(&format!("entry{which}"), "entry", || {
         phase_entry(engine, entries)

@@ -1,4 +1,4 @@
-//! Times an engine in a folder, which has to be a new one: `speed <folder> [rounds] [megabytes]`, and says the best of all rounds.
+//! Times an engine in a new folder, which it makes: `speed <folder> [rounds] [megabytes]`. It prints the best of all rounds.
 //!
 //! A round writes batches of eight entries of 128 bytes and a key, each by one call, for half a second: without and with a sync,
 //! from one thread and from four; and it appends as many bytes as such a batch has to a file, each time by one call. Then it
@@ -13,13 +13,13 @@ use std::{env, fs, path::Path, thread};
 
 const HALF_A_SECOND: Duration = Duration::from_millis(500);
 
-/// The threads that write, and whether they sync.
+/// How many threads write, and whether they sync each batch.
 const WRITING: [(u64, bool); 4] = [(1, false), (4, false), (1, true), (4, true)];
 
-/// On how many threads a log is read.
+/// How many threads read a log.
 const READING: [usize; 3] = [1, 2, 4];
 
-/// A batch of a region: eight entries of 128 bytes, and how far it has come.
+/// Makes a batch of a region: eight entries of 128 bytes, the first of them at the index `first`, and a key with the last index.
 fn batch(region: u64, first: u64) -> Result<LogBatch> {
     let mut batch = LogBatch::new()?;
     batch.add_entries(region, first, &[[7; 128]; 8])?;
@@ -27,13 +27,14 @@ fn batch(region: u64, first: u64) -> Result<LogBatch> {
     Ok(batch)
 }
 
-/// Returns how many bytes a batch takes in a file.
+/// Returns how many bytes such a batch has in a file.
 fn encoded_len() -> Result<usize> {
     let mut batch = batch(1, 1)?;
     batch.finish()
 }
 
-/// Writes from so many threads, and returns how many batches a second that were, and how many of them a sync.
+/// Writes batches from so many threads for half a second. Returns how many batches a second that were, and how many shared a sync
+/// on average.
 fn write(folder: &Path, threads: u64, sync: bool) -> Result<(f64, f64)> {
     let engine = Engine::open(folder, Options::new())?;
     let begun = Instant::now();
@@ -59,7 +60,7 @@ fn write(folder: &Path, threads: u64, sync: bool) -> Result<(f64, f64)> {
     Ok((batches / seconds, batches / stats.syncs as f64))
 }
 
-/// Appends so many bytes to a new file again and again, without a sync, and returns how often a second that was.
+/// Appends `len` bytes to a new file again and again for half a second, without a sync, and returns how often a second that was.
 fn append(path: &Path, len: usize) -> io::Result<f64> {
     let (mut file, bytes) = (fs::File::create_new(path)?, vec![7; len]);
     let (begun, mut count) = (Instant::now(), 0.0);
@@ -70,7 +71,7 @@ fn append(path: &Path, len: usize) -> io::Result<f64> {
     Ok(count / begun.elapsed().as_secs_f64())
 }
 
-/// Fills a folder with batches of a thousand regions.
+/// Fills a folder with batches of a thousand regions until its append files have `bytes` bytes.
 fn fill(folder: &Path, bytes: u64) -> Result<()> {
     let engine = Engine::open(folder, Options::new())?;
     for n in 0.. {
@@ -82,7 +83,7 @@ fn fill(folder: &Path, bytes: u64) -> Result<()> {
     engine.sync()
 }
 
-/// Reads the append files of a folder.
+/// Reads the append files of a folder into memory, oldest first.
 fn read(folder: &Path) -> Result<Vec<(LogFile, Vec<u8>)>> {
     let engine = Engine::open(folder, Options::new())?;
     let mut files = Vec::new();
@@ -95,7 +96,7 @@ fn read(folder: &Path) -> Result<Vec<(LogFile, Vec<u8>)>> {
     Ok(files)
 }
 
-/// Reads these entries of regions, each by one call, and returns how many nanoseconds one takes.
+/// Reads entries, given as region and index, each by one call, and returns how many nanoseconds a call takes.
 fn get(engine: &Engine, entries: impl Iterator<Item = (u64, u64)>) -> Result<f64> {
     let (begun, mut count) = (Instant::now(), 0.0);
     for (region, index) in entries {
@@ -105,8 +106,8 @@ fn get(engine: &Engine, entries: impl Iterator<Item = (u64, u64)>) -> Result<f64
     Ok(begun.elapsed().as_secs_f64() * 1e9 / count)
 }
 
-/// Returns how many nanoseconds an entry takes of ten blocks that are read in turn, so that they are kept, and one of a hundred
-/// regions that are read in order: the best of so many rounds.
+/// Returns how many nanoseconds it takes to read an entry: of ten blocks that are read in turn, so that they are kept, and of a
+/// hundred regions that are read in order. Each is the best of so many rounds.
 fn get_all(log: &Path, rounds: u64) -> Result<[f64; 2]> {
     let engine = Engine::open(log, Options::new())?;
     let mut indexes = Vec::new();
@@ -123,8 +124,8 @@ fn get_all(log: &Path, rounds: u64) -> Result<[f64; 2]> {
     Ok(best)
 }
 
-/// Writes to a log of so many bytes while another thread purges it, and returns how many milliseconds the longest write took, and how
-/// many there were.
+/// Writes to a log of `bytes` bytes while another thread purges it. Returns how many milliseconds the longest write took, and how
+/// many writes there were.
 fn write_beside_a_purge(log: &Path, bytes: u64) -> Result<(f64, u64)> {
     let engine = Engine::open(log, Options::new().purge_above(bytes / 2))?;
     engine.rotate()?;
@@ -142,7 +143,7 @@ fn write_beside_a_purge(log: &Path, bytes: u64) -> Result<(f64, u64)> {
     })
 }
 
-/// Returns how many milliseconds a call takes.
+/// Makes a call, and returns how many milliseconds it took.
 fn time<T>(call: impl FnOnce() -> Result<T>) -> Result<f64> {
     let begun = Instant::now();
     let answer = call()?;
@@ -203,7 +204,7 @@ fn main() -> std::result::Result<(), Box<dyn std::error::Error>> {
     Ok(())
 }
 
-/// Cuts files between batches into parts of a megabyte or more.
+/// Cuts files between batches, into parts of a megabyte or more, but for the last part of each.
 fn cut(files: &[(LogFile, Vec<u8>)]) -> Vec<FilePart<'_>> {
     let mut parts = Vec::new();
     for (file, bytes) in files {

@@ -13,18 +13,21 @@ use std::sync::{Condvar, Mutex};
 use std::thread::{self, ThreadId};
 use std::time::Duration;
 
-/// The threads of which a recovery is to consist, and those that came to a request.
+/// A point at which all threads of a recovery wait for one another.
 #[derive(Default)]
 struct Meeting {
+    /// How many threads have to come.
     expected: usize,
+    /// Those that have come.
     come: HashSet<ThreadId>,
+    /// Whether some thread has waited in vain.
     is_missed: bool,
 }
 
 static MEETING: Mutex<Option<Meeting>> = Mutex::new(None);
 static HAS_COME: Condvar = Condvar::new();
 
-/// Comes to the meeting, if there is one, and waits for the others.
+/// Comes to the meeting, if there is one, and waits until all have come, for 20 seconds at most.
 fn meet() {
     let mut meeting = MEETING.lock().unwrap();
     if let Some(meeting) = &mut *meeting {
@@ -43,7 +46,7 @@ fn meet() {
     }
 }
 
-/// Has each thread wait for so many from now on.
+/// Begins a meeting of so many threads, unless there is one.
 fn call_meeting(expected: usize) {
     let meeting = Meeting {
         expected,
@@ -52,7 +55,7 @@ fn call_meeting(expected: usize) {
     MEETING.lock().unwrap().get_or_insert(meeting);
 }
 
-/// Ends the meeting, and returns how many threads came, if none was missed.
+/// Ends the meeting, and returns how many threads came; `None` where one of them waited in vain.
 fn end_meeting() -> Option<usize> {
     let meeting = MEETING.lock().unwrap().take().unwrap();
     (!meeting.is_missed).then_some(meeting.come.len())
@@ -94,7 +97,7 @@ unsafe extern "C" fn rattle_dealloc(p: *mut c_void) {
     unsafe { free(p) }
 }
 
-/// The bytes of eight files, each of which cleans a region, and puts a value of so many bytes.
+/// Returns the bytes of eight files, each of a batch that puts a value of `value` bytes and then cleans its region.
 fn files(value: usize) -> Vec<Vec<u8>> {
     (1..=8)
         .map(|seq| {
@@ -106,7 +109,7 @@ fn files(value: usize) -> Vec<Vec<u8>> {
         .collect()
 }
 
-/// One test at a time has the heap.
+/// The lock of the test that is using the heap.
 static TURN: Mutex<()> = Mutex::new(());
 
 #[test]

@@ -1,4 +1,4 @@
-//! The program of ten lines is killed while it writes, and finds what it wrote.
+//! Kills the program of ten lines while it writes, and tests that it finds what it wrote.
 
 mod common;
 
@@ -9,7 +9,7 @@ use std::io::{BufRead, BufReader};
 use std::path::PathBuf;
 use std::process::{Command, Stdio};
 
-/// The program, which `cargo test` builds beside the tests.
+/// Returns the path of the program, which `cargo test` builds beside the tests.
 fn program() -> PathBuf {
     let tests = env::current_exe().unwrap();
     let path = tests.ancestors().nth(2).unwrap().join("examples/ten_lines");

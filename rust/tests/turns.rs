@@ -1,4 +1,4 @@
-//! Who writes gets in between while records move.
+//! Tests that threads which write get in between while records move.
 
 mod common;
 

@@ -1,4 +1,4 @@
-//! What an engine does where its files fail.
+//! Tests what an engine does where its files fail.
 
 mod common;
 
@@ -16,7 +16,7 @@ use std::{io, thread};
 
 const FIRST: FileId = FileId::new(Queue::Append, 1);
 
-/// A batch that puts a number under a key.
+/// Makes a batch with an entry and a key that have a number.
 fn batch(number: u64) -> LogBatch {
     let mut batch = LogBatch::new().unwrap();
     batch.add_entries(7, number, &[number.to_string()]).unwrap();
@@ -24,15 +24,14 @@ fn batch(number: u64) -> LogBatch {
     batch
 }
 
-/// How far the steps of a run have come: how many batches were written, and how many for certain.
+/// How far a run has come: how many batches were written, and how many of these were synced for certain.
 #[derive(Clone, Copy, Default)]
 struct Come {
     written: u64,
     certain: u64,
 }
 
-/// Steps that make each kind of change: writes with and without a sync, and what moves and deletes. Returns how far they
-/// came, and the refusal.
+/// Makes each kind of change: writes with and without a sync, moves and deletions. Returns how far it came, and the first error.
 fn run<F: Files>(engine: &Engine<F>) -> (Come, Result<()>) {
     let mut come = Come::default();
     let mut steps = || {
@@ -58,7 +57,7 @@ fn run<F: Files>(engine: &Engine<F>) -> (Come, Result<()>) {
     (come, result)
 }
 
-/// The refusals of every change by a failed engine.
+/// Returns the errors of all kinds of changes of an engine that has failed.
 fn changes<F: Files>(engine: &Engine<F>) -> Vec<Error> {
     let results = [
         engine.write(&mut batch(9), false),
@@ -71,7 +70,7 @@ fn changes<F: Files>(engine: &Engine<F>) -> Vec<Error> {
     results.map(Result::unwrap_err).into()
 }
 
-/// The refusals of every read of an engine whose tables may not be whole.
+/// Returns the errors of all kinds of reads of an engine that can't be read.
 fn reads<F: Files>(engine: &Engine<F>) -> Vec<Error> {
     let results = [
         engine.entry(7, 1).map(drop),
@@ -85,14 +84,14 @@ fn reads<F: Files>(engine: &Engine<F>) -> Vec<Error> {
     results.map(Result::unwrap_err).into()
 }
 
-/// What the system said of a call on a file.
+/// Returns the kind of the system's error behind an error.
 fn source_of(e: &Error) -> io::ErrorKind {
     let source = std::error::Error::source(e).unwrap();
     let source: &io::Error = source.downcast_ref().unwrap();
     source.kind()
 }
 
-/// What a change is about that fails: a file, and where in it.
+/// Returns the file and the offset that the error of a call on files has to name.
 fn place_of(call: Call<'_>, files: &MemoryFiles) -> (Option<FileId>, Option<u64>) {
     let end_of = |queue| {
         let (seq, len) = *files.list(queue).unwrap().last().unwrap();
@@ -107,7 +106,7 @@ fn place_of(call: Call<'_>, files: &MemoryFiles) -> (Option<FileId>, Option<u64>
     (Some(file), Some(offset))
 }
 
-/// Each change by an engine fails with its first failure, which asks nothing of the files.
+/// Tests that each change of a failed engine returns `Failed` with the reason `first`, and asks nothing of the files.
 fn assert_every_change_fails<F: Files>(engine: &Engine<F>, first: &Error) {
     for e in changes(engine) {
         assert_eq!(e.kind, ErrorKind::Failed);
@@ -118,7 +117,7 @@ fn assert_every_change_fails<F: Files>(engine: &Engine<F>, first: &Error) {
     assert!(format!("{engine:?}").contains("failure: Some"));
 }
 
-/// An engine has the first ones of the batches that `run` writes. Returns how many.
+/// Tests that an engine has a prefix of the batches that `run` writes, and returns how many.
 fn batches_in<F: Files>(engine: &Engine<F>) -> u64 {
     let region = region_of(engine, 7).unwrap();
     let written = region.entries.len() as u64;
@@ -129,7 +128,8 @@ fn batches_in<F: Files>(engine: &Engine<F>) -> u64 {
     written
 }
 
-/// A failed engine is read on: it has all that was written, and perhaps the batch with which it failed.
+/// Tests that a failed engine can be read: it has the `written` batches, and perhaps one more, with which it failed. `failing`
+/// says which call failed.
 fn assert_reads_go_on<F: Files>(engine: &Engine<F>, written: u64, failing: usize) {
     let found = batches_in(engine);
     let allowed = written..=written + 1;
@@ -150,7 +150,7 @@ fn assert_reads_go_on<F: Files>(engine: &Engine<F>, written: u64, failing: usize
     assert_eq!(engine.summary(7).unwrap().is_some(), found > 0);
 }
 
-/// The files have the first ones of what `run` writes, and at least what is certain.
+/// Tests that files have a prefix of the batches that `run` writes, of at least `certain` ones. `failing` says which call failed.
 fn assert_nothing_is_lost(files: MemoryFiles, certain: u64, failing: usize) {
     let opened = Engine::with_files(files, Options::new()).unwrap();
     let written = batches_in(&opened);

@@ -1,4 +1,4 @@
-//! How an engine is opened: the files are read by several threads and in pieces, and none of them is missing.
+//! Tests how an engine is opened: several threads read the files in pieces, and none of the files may be missing.
 
 mod common;
 
@@ -10,7 +10,7 @@ use std::collections::BTreeSet;
 use std::sync::{Condvar, Mutex};
 use std::time::Duration;
 
-/// The files of an engine with five of each queue: region 7 has an entry in each of them.
+/// Returns the files of an engine, five of each queue: region 7 has an entry in each of them.
 fn five_files() -> MemoryFiles {
     let files = MemoryFiles::new();
     let options = Options::new().target_file_size(1);
@@ -25,7 +25,7 @@ fn five_files() -> MemoryFiles {
     files
 }
 
-/// Files with the bytes of these, but for the one of this number of a queue.
+/// Returns a copy of files without one of them.
 fn without(files: &MemoryFiles, missing: FileId) -> MemoryFiles {
     let [append, rewrite] = [Queue::Append, Queue::Rewrite].map(|queue| {
         let mut held = files.files(queue);
@@ -90,8 +90,8 @@ fn several_threads_read_whole_files_at_once() {
     }
 }
 
-/// How many bytes both queues have at most while an engine does steady work: ten regions keep their last 200 entries of a
-/// hundred bytes. In each of so many lives it does so much of it, and is opened again.
+/// Returns how many bytes both queues have at most while an engine does steady work: ten regions keep their last 200 entries of a
+/// hundred bytes. The engine is opened `lives` times, and does so many `rounds` each time.
 fn most_bytes(lives: u64, rounds: u64) -> u64 {
     let options = Options::new()
         .target_file_size(64 << 10)
@@ -130,7 +130,7 @@ fn files_grow_no_more_where_an_engine_is_often_opened_again() {
     assert!(often < 2 * once, "{often} in 60 lives, {once} in one");
 }
 
-/// Files with an entry of a thousand bytes in each of ten regions, or such a value, all of them in the rewrite queue.
+/// Returns files with ten regions, whose entry of a thousand bytes, or else value, is in the rewrite queue.
 fn ten_moved(is_entry: bool) -> MemoryFiles {
     let files = MemoryFiles::new();
     let engine = Engine::with_files(files.clone(), Options::new()).unwrap();
@@ -165,7 +165,7 @@ fn what_was_found_moves_again_where_half_of_it_isnt_needed() {
     }
 }
 
-/// Files whose append queue takes away rewritten records of four regions, of which the rewrite queue wasn't told.
+/// Returns files whose append queue takes away rewritten records of four regions, while the rewrite queue doesn't have that yet.
 fn untold_files() -> MemoryFiles {
     let files = MemoryFiles::new();
     let engine = Engine::with_files(files.clone(), Options::new()).unwrap();
@@ -184,7 +184,7 @@ fn untold_files() -> MemoryFiles {
     files
 }
 
-/// Tests that of these files an engine finds what is left of the five regions.
+/// Opens an engine over these files, tests that it has what is left of the five regions, and returns it.
 fn assert_taken_away(files: &MemoryFiles) -> Engine<MemoryFiles> {
     let engine = Engine::with_files(files.clone(), Options::new()).unwrap();
     let bounds = |region| {

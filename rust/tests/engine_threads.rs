@@ -1,4 +1,4 @@
-//! An engine that several threads use at the same time.
+//! Tests an engine that several threads use at the same time.
 
 mod common;
 
@@ -9,14 +9,14 @@ use std::sync::{Arc, Condvar, Mutex};
 use std::time::{Duration, Instant};
 use std::{io, thread};
 
-/// A gate at which calls wait while it is closed, and which knows how many came to it.
+/// A gate at which calls wait while it is closed. It counts the calls that came to it.
 #[derive(Default)]
 struct Gate {
     state: Mutex<(bool, usize)>,
     changed: Condvar,
 }
 
-/// Opens a gate where it is dropped, also where a test fails.
+/// A gate that is closed until this is dropped, also where a test fails.
 struct Closed<'a>(&'a Gate);
 
 impl Drop for Closed<'_> {
@@ -32,12 +32,12 @@ impl Gate {
         Closed(self)
     }
 
-    /// Comes to the gate, and passes it once it is open.
+    /// Comes to the gate, and waits until it is open.
     fn pass(&self) {
         self.has_waited();
     }
 
-    /// Comes to the gate, passes it once it is open, and tells whether it was closed.
+    /// Comes to the gate, waits until it is open, and returns whether it was closed.
     fn has_waited(&self) -> bool {
         let mut state = self.state.lock().unwrap();
         let was_closed = state.0;
@@ -51,7 +51,7 @@ impl Gate {
         was_closed
     }
 
-    /// Comes to the open gate, and tells whether it is the first to come.
+    /// Comes to the open gate, and returns whether it is the first call to come.
     fn is_new(&self) -> bool {
         let mut state = self.state.lock().unwrap();
         state.1 += 1;
@@ -59,7 +59,7 @@ impl Gate {
         state.1 == 1
     }
 
-    /// Waits until this many calls came to the gate, which they do soon.
+    /// Waits until `count` calls have come to the gate, which they are to do soon.
     fn wait_for(&self, count: usize) {
         let state = self.state.lock().unwrap();
         let long = Duration::from_secs(60);
@@ -72,7 +72,7 @@ impl Gate {
     }
 }
 
-/// A batch with one entry.
+/// Makes a batch with one entry.
 fn batch(region: u64, index: u64) -> LogBatch {
     let mut batch = LogBatch::new().unwrap();
     batch
@@ -148,7 +148,8 @@ fn nobody_goes_on_before_the_sync_and_all_who_wait_go_on_after_one() {
     assert!((1..4).contains(&syncs), "{syncs}");
 }
 
-/// How many syncs four batches take that are handed in while a new file is begun, one of them before the others.
+/// Returns how many syncs it takes to write four batches with a sync each, which are handed in while a new file is begun, one of
+/// them before the others.
 fn syncs_of_four() -> u64 {
     let gate = Gate::default();
     let hooked = Hooked::new(&MemoryFiles::new(), |call: Call<'_>| {
@@ -180,8 +181,8 @@ fn who_comes_while_the_leader_waits_for_a_turn_is_in_its_group() {
     assert!((0..10).any(|_| syncs_of_four() == 1));
 }
 
-/// How many of seven threads that want no sync go on before that of an eighth one. All of them hand in their batches while another
-/// one syncs.
+/// Returns how many of seven threads that want no sync go on before that of an eighth one is over. All of them hand in their
+/// batches while another sync is made.
 fn going_on_before_a_sync() -> usize {
     let (gates, is_first_over) = ([Gate::default(), Gate::default()], AtomicBool::new(false));
     let hooked = Hooked::new(&MemoryFiles::new(), |call: Call<'_>| {
@@ -226,12 +227,13 @@ fn who_wants_no_sync_goes_on_before_it() {
     assert!((0..10).any(|_| going_on_before_a_sync() == 7));
 }
 
-/// What `Engine::write` takes and returns.
+/// A call that writes a batch, with or without a sync, as [`Engine::write`] does.
 type Write<'a> = &'a dyn Fn(&mut LogBatch, bool) -> Result<()>;
 
-/// Hands in a batch, and behind it one of another thread that wants a sync, while a third thread begins a file, so that the first
-/// one writes both. It is over before that sync, whose result only the other thread is told. Returns whether the two came in this
-/// order, and the first one was told what it should be.
+/// Has a first thread call `write`, which hands in a batch, and a second one hand in a batch with a sync, while a third one
+/// begins a file, so that the first thread writes both batches. Tests that the second thread makes the sync, and alone gets its
+/// result; `fails` says whether the sync fails. Returns false where the first thread wasn't done before that sync, else what
+/// `write` returned.
 fn hands_the_sync_on(fails: bool, write: impl FnOnce(Write<'_>) -> bool + Send) -> bool {
     let [rotating, syncing] = [Gate::default(), Gate::default()];
     let hooked = Hooked::new(&MemoryFiles::new(), |call: Call<'_>| match call {
@@ -322,7 +324,7 @@ fn reading_waits_for_no_sync() {
     });
 }
 
-/// Files whose writes wait at one gate and whose syncs at another one.
+/// Opens an engine over files whose writes wait at one gate, and whose syncs wait at another.
 fn gated(
     writes: &Gate,
     syncs: &Gate,

@@ -1,4 +1,4 @@
-//! Each program of examples/ runs and says what it is to say. `ten_lines` is killed in a test of its own.
+//! Tests that each program of examples/ runs, and prints what it should. `ten_lines` has a test of its own, which kills it.
 
 mod common;
 
@@ -8,7 +8,7 @@ use std::path::{Path, PathBuf};
 use std::process::Command;
 use std::{env, fs};
 
-/// The programs that this file runs, and those of `killed.rs`.
+/// The programs that are tested here and in `killed.rs`.
 const PROGRAMS: [&str; 7] = [
     "look",
     "phases",
@@ -19,7 +19,7 @@ const PROGRAMS: [&str; 7] = [
     "write",
 ];
 
-/// A program, which `cargo test` builds beside the tests.
+/// Returns the path of a program, which `cargo test` builds beside the tests.
 fn program(name: &str) -> PathBuf {
     let tests = env::current_exe().unwrap();
     let path = tests
@@ -36,7 +36,7 @@ fn program(name: &str) -> PathBuf {
     path
 }
 
-/// Runs a program, and returns the lines that it says.
+/// Runs a program with these arguments, and returns the lines that it prints.
 fn said(name: &str, words: &[&Path]) -> Vec<String> {
     let output = Command::new(program(name)).args(words).output().unwrap();
     let error = String::from_utf8_lossy(&output.stderr);

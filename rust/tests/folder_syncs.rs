@@ -1,5 +1,5 @@
-//! Which files of a folder are synced when, and what a sync that fails leaves. The functions of C behind `File::sync_all` and
-//! `File::sync_data` are here this program's own.
+//! Tests which files of a folder are synced when, and what holds after a sync that failed. The C functions behind
+//! `File::sync_all` and `File::sync_data` are replaced by ones of this program.
 
 mod common;
 
@@ -15,9 +15,9 @@ const SECOND: FileId = FileId::new(Queue::Append, 2);
 const REWRITTEN: FileId = FileId::new(Queue::Rewrite, 1);
 
 thread_local! {
-    /// The names of what this thread has synced.
+    /// The names of the files and folders that this thread has synced.
     static SYNCED: RefCell<Vec<String>> = const { RefCell::new(Vec::new()) };
-    /// How many syncs of this thread end well before one fails.
+    /// How many syncs of this thread succeed before one fails.
     static GOOD: Cell<usize> = const { Cell::new(usize::MAX) };
 }
 
@@ -31,7 +31,8 @@ extern "C" fn fdatasync(file: c_int) -> c_int {
     sync(file)
 }
 
-/// Notes a sync, and fails where that is its turn, once: the system may have dropped bytes, and says so of one sync alone.
+/// Notes the name of what is synced. It fails once, when it is that sync's turn; the next one succeeds again, as systems do that
+/// report dropped bytes only once.
 fn sync(file: c_int) -> c_int {
     let path = fs::read_link(format!("/proc/self/fd/{file}")).unwrap();
     let name = path.file_name().unwrap().to_string_lossy();
@@ -41,12 +42,12 @@ fn sync(file: c_int) -> c_int {
     if good == 0 { -1 } else { 0 }
 }
 
-/// The names of what was synced since this was asked before.
+/// Returns the names of what was synced since the last call of this.
 fn synced() -> Vec<String> {
     SYNCED.with_borrow_mut(mem::take)
 }
 
-/// The name of a folder or file.
+/// Returns the last name in a path.
 fn name(path: &Path) -> String {
     path.file_name().unwrap().to_str().unwrap().to_owned()
 }

@@ -1,4 +1,4 @@
-//! What an engine does to its files is told to a listener.
+//! Tests what a listener is told of an engine.
 
 mod common;
 
@@ -14,7 +14,7 @@ use std::sync::{Arc, Mutex, OnceLock, Weak};
 use std::time::Duration;
 use std::{fs, thread};
 
-/// Notes what it is told.
+/// A listener that notes its calls.
 #[derive(Default)]
 struct Noting {
     told: Mutex<Vec<String>>,
@@ -54,7 +54,7 @@ impl Listener for Noting {
     }
 }
 
-/// The changes of files but for those of their bytes.
+/// Returns what was asked of files, as words, without writes.
 fn asked(files: &MemoryFiles) -> Vec<String> {
     let asks = files.asks().into_iter();
     let shown = asks.filter_map(|ask| match ask {
@@ -162,7 +162,7 @@ fn what_is_cut_in_a_folder_is_told_with_its_reason() {
     assert!(engine.stats().opening > Duration::ZERO);
 }
 
-/// Makes calls of the engine that tells it something, and has another thread make some.
+/// A listener that makes calls of the engine which tells it something, and has another thread make some.
 #[derive(Default)]
 struct Calling {
     engine: OnceLock<Weak<Engine<MemoryFiles>>>,

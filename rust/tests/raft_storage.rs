@@ -1,5 +1,5 @@
-//! The log store of examples/ beside plain maps: a log that is drawn, with conflicts, compactions and snapshots. The machine stops
-//! anywhere, and the process is killed: all that was acknowledged is there again.
+//! Compares the log store of examples/ with plain maps: random logs, with conflicts, compactions and snapshots. The machine
+//! crashes anywhere, and the process is killed: all that was acknowledged has to be there again.
 
 mod common;
 
@@ -33,7 +33,7 @@ struct Model {
     snapshot: SnapshotMetadata,
 }
 
-/// What a node does to its log.
+/// A step that a node takes: a change of its log.
 enum Step {
     Append(Vec<Entry>),
     SetHardState(HardState),
@@ -52,12 +52,12 @@ impl Model {
         entry.map_or(self.snapshot.term, |entry| entry.term)
     }
 
-    /// Up to where entries are committed.
+    /// Returns the index up to which entries are committed.
     fn commit(&self) -> u64 {
         self.hard_state.commit.max(self.snapshot.index)
     }
 
-    /// Draws what a node does next.
+    /// Draws the next step of a node.
     fn draw(&self, draw: &mut Draw) -> Step {
         let (first, last, commit) = (self.snapshot.index + 1, self.last(), self.commit());
         let mut below = |end: u64| draw.below(end as usize) as u64;
@@ -132,7 +132,7 @@ fn take<F: Files>(log: &mut RaftStorage<F>, step: Step) -> Result<()> {
     }
 }
 
-/// Whether a log has what it has to have, by its six calls.
+/// Tests, by the six calls of a log, whether it has what it has to have.
 fn has<F: Files>(log: &RaftStorage<F>, model: &Model) -> bool {
     let (first, last) = (model.snapshot.index + 1, model.last());
     if (log.first_index().unwrap(), log.last_index().unwrap()) != (first, last) {
@@ -150,7 +150,7 @@ fn has<F: Files>(log: &RaftStorage<F>, model: &Model) -> bool {
         && log.snapshot(first - 1, 1).unwrap() == model.snapshot
 }
 
-/// Tests what a log refuses, and that the bytes of entries are limited.
+/// Tests what a log refuses, and that it keeps to a limit on the bytes of entries.
 fn assert_refuses<F: Files>(log: &mut RaftStorage<F>) {
     let (first, end) = (log.first_index().unwrap(), log.last_index().unwrap() + 1);
     let entry = |index| Entry {
@@ -198,12 +198,12 @@ fn assert_refuses<F: Files>(log: &mut RaftStorage<F>) {
     log.append(&[]).unwrap();
 }
 
-/// Small files, so that records move, and files go.
+/// Returns options with files so small that records move, and files are deleted.
 fn options() -> Options {
     Options::new().target_file_size(1000).purge_above(2000)
 }
 
-/// The files that a stop leaves once so much was asked of them.
+/// Returns the files that a random crash leaves behind the first `asks` asks.
 fn left(files: &MemoryFiles, asks: usize, draw: &mut Draw) -> MemoryFiles {
     let [append, rewrite] = [Queue::Append, Queue::Rewrite].map(|queue| {
         let Unsynced { steps, deletions } = files.unsynced(asks, queue);
@@ -276,13 +276,13 @@ fn terms_cost_no_read() {
     assert!(reads.load(SeqCst) > 0, "reads are counted");
 }
 
-/// The environment of a process that is killed names its folder.
+/// The environment variable that gives a process that is killed its folder.
 const FOLDER: &str = "RAFT_STORAGE_FOLDER";
 
-/// The environment has the seed of the history too, and how many of its steps were taken already.
+/// The environment variable that gives it the seed of its history, and the number of steps that were taken already.
 const HISTORY: &str = "RAFT_STORAGE_HISTORY";
 
-/// A history that is drawn, the same one for a seed.
+/// A random history, the same one for the same seed.
 struct History {
     draw: Draw,
     model: Model,
@@ -323,7 +323,8 @@ fn writes_until_it_is_killed() {
     }
 }
 
-/// Starts the test that writes, kills it, and returns the number of the last step that it said to have taken.
+/// Starts the test that writes, kills it, and returns the number of the last step that it has printed as taken. `taken` steps of
+/// the history were taken before.
 fn killed(folder: &TempFolder, seed: u64, taken: u64, draw: &mut Draw) -> u64 {
     let mut child = Command::new(env::current_exe().unwrap())
         .args(["--exact", "writes_until_it_is_killed"])
@@ -348,7 +349,8 @@ fn killed(folder: &TempFolder, seed: u64, taken: u64, draw: &mut Draw) -> u64 {
 /// How often a process that writes a history is killed.
 const KILLS: u64 = 10;
 
-/// As `SEED=100 HISTORIES=20` it writes twenty histories of these seeds, and kills their processes two hundred times.
+/// With `SEED=100 HISTORIES=20`, for example, it writes twenty histories from seed 100 on, and kills their processes two hundred
+/// times.
 #[test]
 fn a_log_has_what_was_acknowledged_whenever_its_process_is_killed() {
     let (first, count) = (number("SEED", 0), number("HISTORIES", 3));

@@ -1,4 +1,4 @@
-//! Engines that are opened to be read alone.
+//! Tests engines that are opened to be read alone.
 
 mod common;
 
@@ -19,10 +19,10 @@ use std::process::Command;
 use std::time::Duration;
 use std::{env, fs, io};
 
-/// The variable that names the folder which another user reads.
+/// The environment variable that names the folder which another user reads.
 const FOLDER: &str = "RAFT_RECOVER_READ_ONLY";
 
-/// The refusals of every change by an engine, with their names.
+/// Returns the errors of all kinds of changes of an engine, each with the name of its call.
 fn changes<F: Files>(engine: &Engine<F>) -> [(&'static str, raft_recover::Error); 6] {
     let mut batch = LogBatch::new().unwrap();
     batch.put(7, b"key", b"value").unwrap();
@@ -39,7 +39,7 @@ fn changes<F: Files>(engine: &Engine<F>) -> [(&'static str, raft_recover::Error)
     ]
 }
 
-/// Files with what moved and what didn't, and torn tails of both queues.
+/// Returns files with records that have moved and others that haven't, and torn tails of both queues.
 fn torn_files() -> MemoryFiles {
     let engine = Engine::with_files(MemoryFiles::new(), Options::new()).unwrap();
     for index in 1..=6 {
@@ -60,7 +60,7 @@ fn torn_files() -> MemoryFiles {
     MemoryFiles::found(append, rewrite)
 }
 
-/// What region 7 of these has.
+/// Returns what region 7 of these files has.
 fn expected() -> Region {
     let entries = (1..=6).map(|index: u64| (index, index.to_string().into_bytes()));
     let keys = [(b"a".to_vec(), 6u64.to_le_bytes().to_vec())];
@@ -125,7 +125,7 @@ fn what_an_opening_refuses_is_refused() {
     assert_eq!(e.file, Some(FileId::new(Queue::Append, 2)));
 }
 
-/// The files of a folder, with when each of them was changed last.
+/// Returns the files in a folder by their names: the bytes of each, and when it was changed last.
 fn files_in(folder: &Path) -> BTreeMap<String, (Vec<u8>, i64, i64)> {
     let entries = fs::read_dir(folder).unwrap().map(Result::unwrap);
     let seen = entries.map(|entry| {
@@ -225,7 +225,7 @@ fn files_that_are_read_alone_refuse_every_change() {
     assert_eq!(files_in(room.path()), before);
 }
 
-/// Reads a folder that another test names, which its user may only read.
+/// Reads a folder that another test names, and in which this process may not write.
 #[test]
 #[ignore = "another test starts it"]
 fn reads_a_folder_as_another_user() {

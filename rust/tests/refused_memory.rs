@@ -1,4 +1,4 @@
-//! Each request of the library for memory is refused in turn, by a heap of this test's own.
+//! Refuses each request of the library for memory in turn, by a heap of this test's own.
 //!
 //! The library takes memory by three functions (`rattle_alloc` ..), which the kit's `liblibc_c.a` defines over `malloc`.
 //! A program may define them itself, as here: then nothing of that archive is linked.
@@ -15,11 +15,11 @@ use std::alloc::{Layout, alloc, dealloc, realloc};
 use std::sync::Mutex;
 use std::sync::atomic::{AtomicI64, AtomicU64, Ordering::SeqCst};
 
-/// How many requests are granted before one is refused.
+/// How many requests are granted before one is refused; negative once one was.
 static GRANTED: AtomicI64 = AtomicI64::new(i64::MAX);
 static LIVE: AtomicU64 = AtomicU64::new(0);
 
-/// Which test counts blocks.
+/// The lock of the test that is counting blocks.
 static TURN: Mutex<()> = Mutex::new(());
 
 #[repr(C)]
@@ -48,7 +48,7 @@ fn tried(p: *mut u8, n: usize) -> Tried {
     }
 }
 
-/// What a refusal points to: the library asks for a pointer that leads somewhere, and nothing of it.
+/// What the pointer of a refused request points to. It has to point somewhere, and nobody reads or writes there.
 static NOTHING: AtomicU64 = AtomicU64::new(0);
 
 fn refusal() -> Tried {
@@ -95,8 +95,9 @@ unsafe extern "C" fn rattle_dealloc(p: *mut u8) {
     }
 }
 
-/// Makes a call with each request for memory refused in turn, and returns how often it was refused. An answer shows as `whole`,
-/// and nothing is left of it.
+/// Makes a call again and again, and refuses a later request for memory each time, until none is refused. Tests that it fails
+/// with `Memory`, or returns an answer that `shown` shows as `whole`, and that no block of memory is left. Returns how often it
+/// failed.
 fn refused_in_turn<T>(
     whole: &str,
     call: impl Fn() -> Result<T>,
@@ -126,7 +127,7 @@ fn refused_in_turn<T>(
     refused
 }
 
-/// A batch with entries and keys.
+/// Makes a batch with entries and a key.
 fn batch() -> LogBatch {
     let mut batch = LogBatch::new().unwrap();
     batch.add_entries(7, 10, &["one", "three"]).unwrap();
@@ -134,7 +135,7 @@ fn batch() -> LogBatch {
     batch
 }
 
-/// Tables with entries of a region.
+/// Makes tables with entries of a region in a queue.
 fn tables(queue: Queue) -> Tables {
     let mut tables = Tables::new().unwrap();
     tables.append(7, &run(Queue::Append, 1, 1..9)).unwrap();
@@ -145,7 +146,7 @@ fn tables(queue: Queue) -> Tables {
     tables
 }
 
-/// Makes batches and items, which are let go at each stage.
+/// Makes batches and items, and drops them at each stage.
 fn batches_and_items() {
     drop(batch());
     let mut encoded = batch();
@@ -163,7 +164,7 @@ fn batches_and_items() {
     Tables::new().unwrap().apply_append(items).unwrap();
 }
 
-/// Makes tables, slots and contexts, which are merged.
+/// Makes tables, slots and contexts, and merges them.
 fn tables_and_contexts() {
     let mut older = tables(Queue::Append);
     older.merge_newer(tables(Queue::Append)).unwrap();
@@ -212,7 +213,7 @@ fn every_request_refused_in_turn() {
     );
 }
 
-/// A slot to which its share of a batch was written.
+/// Makes a slot to which its items of a batch were applied.
 fn slot_with_share() -> Result<Slot> {
     let mut batch = LogBatch::new()?;
     batch.add_entries(7, 10, &["one", "three"])?;
@@ -259,7 +260,7 @@ fn what_is_lent_for_moves_is_let_go() {
     assert_eq!(first, later);
 }
 
-/// Does with an engine all that it does. Counts the batches that it took.
+/// Takes all kinds of steps of an engine, and adds to `written` how many batches were written.
 fn engine_steps(engine: &Engine<MemoryFiles>, written: &mut u64) -> Result<()> {
     for index in 1..=4 {
         let mut batch = LogBatch::new()?;
@@ -279,8 +280,8 @@ fn engine_steps(engine: &Engine<MemoryFiles>, written: &mut u64) -> Result<()> {
     engine.sync()
 }
 
-/// Opens an engine over files, and takes the steps, with so many requests granted. Where the engine has failed every call says so.
-/// Returns whether no request was refused.
+/// Opens an engine over files, and takes the steps, with `granted` requests for memory granted. Tests that either all calls of
+/// the engine fail then, or none. Returns whether no request was refused.
 fn engine_run(files: &MemoryFiles, granted: i64, written: &mut u64) -> Result<bool> {
     GRANTED.store(granted, SeqCst);
     let opened = Engine::with_files(files.clone(), Options::new());

@@ -1,4 +1,4 @@
-//! Batches that are written, read again, and applied.
+//! Tests batches that are written, read again, and applied.
 
 use crate::common::{file, run};
 use raft_recover::{
@@ -12,7 +12,7 @@ const APPEND_3: FileId = FileId {
     seq: 3,
 };
 
-/// An open batch with an item of each kind.
+/// Makes an open batch with an item of each kind.
 fn batch() -> LogBatch {
     let mut batch = LogBatch::new().unwrap();
     batch.add_entries(7, 10, &["one", "", "three"]).unwrap();
@@ -24,7 +24,7 @@ fn batch() -> LogBatch {
     batch
 }
 
-/// The items of the batch, their entry block standing at an offset of file 3 of the append queue.
+/// Returns the items that this batch has once it is in file 3 of the append queue, with its entry block at `offset`.
 fn items(offset: u64) -> Vec<Item> {
     let entry = |index, entry_offset, len| Entry {
         index,
@@ -56,7 +56,7 @@ fn items(offset: u64) -> Vec<Item> {
     .to_vec()
 }
 
-/// Makes and signs the bytes of a batch.
+/// Makes the bytes of a batch, signs them for that file, and returns them.
 fn sealed(batch: &mut LogBatch) -> Vec<u8> {
     batch.finish().unwrap();
     batch.sign(file(3)).unwrap();

@@ -1,4 +1,4 @@
-//! The block that was read last is kept, so that its other entries cost no read.
+//! Tests that the block which was read last is kept, so that its other entries cost no read.
 
 use crate::common::engines::{engine, write};
 use crate::common::hooked::{Call, Hooked};
@@ -6,7 +6,7 @@ use raft_recover::{Engine, ErrorKind, Files, MemoryFiles, Options, Queue};
 use std::sync::Arc;
 use std::sync::atomic::{AtomicUsize, Ordering::SeqCst};
 
-/// Runs a test over an engine whose reads of blocks are counted.
+/// Runs a test over an engine. The test also gets a call that returns how often a block was read.
 fn counting(test: impl FnOnce(&Engine<Arc<dyn Files>>, &dyn Fn() -> usize)) {
     let reads = Arc::new(AtomicUsize::new(0));
     let counted = reads.clone();
@@ -19,7 +19,7 @@ fn counting(test: impl FnOnce(&Engine<Arc<dyn Files>>, &dyn Fn() -> usize)) {
     test(&engine, &|| reads.swap(0, SeqCst));
 }
 
-/// The entries of a block: a hundred from an index on.
+/// Returns the texts of the entries of a block: a hundred from an index on.
 fn texts(first: u64) -> Vec<String> {
     (first..first + 100)
         .map(|index| index.to_string())

@@ -1,4 +1,4 @@
-//! The files of an engine in memory, and what a stop of the machine leaves of them.
+//! Tests the files of an engine in memory, and what a crash of the machine leaves of them.
 
 use crate::common::model::{Region, region_of};
 use raft_recover::{Ask, Engine, FileId, Files, LogBatch, MemoryFiles, Options, Queue, Unsynced};
@@ -13,7 +13,7 @@ const NONE: Unsynced = Unsynced {
     deletions: 0,
 };
 
-/// Files of which this was asked.
+/// Makes files, and asks this of them.
 fn asked(asks: &[Ask]) -> MemoryFiles {
     let files = MemoryFiles::new();
     for ask in asks {
@@ -36,7 +36,7 @@ fn write(file: FileId, bytes: &str) -> Ask {
     Ask::Write(file, bytes.as_bytes().to_vec())
 }
 
-/// What each count of unsynced steps leaves of the append queue, all deletions done or none.
+/// Returns what each number of unsynced steps leaves of the append queue, with all deletions done or none.
 fn lefts(files: &MemoryFiles, all_deleted: bool) -> Vec<String> {
     let asks = files.asked();
     let most = files.unsynced(asks, Queue::Append);
@@ -205,8 +205,7 @@ fn a_clone_is_a_handle_of_the_same_files() {
     assert_eq!(format!("{files:?}"), "MemoryFiles { asked: 1, .. }");
 }
 
-/// What a region has after a history with each kind of request, over files that were found with a torn tail, and what was asked of
-/// them.
+/// Makes each kind of change of an engine over files, and returns what its region 7 has then.
 fn history<F: Files>(files: F) -> Region {
     let options = Options::new().target_file_size(300).purge_above(600);
     let engine = Engine::with_files(files, options).unwrap();

@@ -1,4 +1,4 @@
-//! What a purge says: which files went, who needs the oldest one, and whether there is something to do.
+//! Tests what a purge says: which files it deleted, which regions need the oldest one, and whether there is something to do.
 
 use crate::common::engines::{engine, write};
 use crate::common::model::{Change, Draw, Region, region_of};
@@ -11,7 +11,8 @@ fn append(seq: u64) -> FileId {
     FileId::new(Queue::Append, seq)
 }
 
-/// The numbers of a holder: its region, its file, up to where it is compacted, and how many entries that takes.
+/// Returns a holder as numbers: its region, its file, the index up to which it has to be compacted, and how many entries that
+/// takes away.
 fn shown(holder: &Holder) -> (u64, u64, Option<u64>, u64) {
     (
         holder.region,
@@ -123,7 +124,7 @@ fn what_moved_is_held_by_nobody() {
     assert_eq!(engine.purge().unwrap().holders, []);
 }
 
-/// Small files, some of which go by themselves, and some once their records moved.
+/// Draws options with small files, some of which are deleted at once, and some only when their records have moved.
 fn drawn_options(draw: &mut Draw) -> Options {
     Options::new()
         .target_file_size(200 + draw.below(400) as u64)
@@ -131,7 +132,7 @@ fn drawn_options(draw: &mut Draw) -> Options {
         .purge_garbage(20 + draw.below(70) as u8)
 }
 
-/// Makes a drawn change of a drawn region.
+/// Makes a random change of a random region, in the engine and in the model.
 fn change(engine: &Engine<MemoryFiles>, model: &mut BTreeMap<u64, Region>, draw: &mut Draw) {
     let id = draw.below(4) as u64;
     let region = model.entry(id).or_default();
@@ -169,7 +170,7 @@ fn a_purge_asks_something_of_the_files_where_one_is_needed_and_else_nothing() {
     assert!(needed > 100 && needless > 100, "{needed} {needless}");
 }
 
-/// An engine of a drawn history, and who needs its oldest file.
+/// Opens an engine, gives it a random history, and returns it with the regions that need its oldest file.
 fn drawn_holders(seed: u64) -> (Engine<MemoryFiles>, Vec<Holder>) {
     let mut draw = Draw::new(seed);
     let options = Options::new().target_file_size(300);
@@ -186,7 +187,7 @@ fn drawn_holders(seed: u64) -> (Engine<MemoryFiles>, Vec<Holder>) {
     (engine, holders)
 }
 
-/// The regions of holders of a file.
+/// Returns the regions of those holders that need a file.
 fn regions<'a>(holders: impl IntoIterator<Item = &'a Holder>, file: FileId) -> Vec<u64> {
     let of_file = holders.into_iter().filter(|holder| holder.file == file);
     of_file.map(|holder| holder.region).collect()
@@ -232,8 +233,8 @@ fn once_its_holders_let_go_the_oldest_file_goes_and_nothing_moves() {
     assert!(held > 20, "{held}");
 }
 
-/// The rewrite queue of an engine that doesn't need this many of its bytes in a hundred, or some more, and one that has just moved
-/// its records.
+/// Opens an engine, moves a hundred entries to its rewrite queue, and compacts `garbage` of them, so that as many of a hundred
+/// bytes there, or some more, aren't needed.
 fn rewritten_with_garbage(options: Options, garbage: u8) -> Engine<MemoryFiles> {
     let engine = Engine::with_files(MemoryFiles::new(), options).unwrap();
     write(&engine, |batch| {

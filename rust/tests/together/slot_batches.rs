@@ -1,4 +1,4 @@
-//! Batches that are written to slots, and that slots hand out.
+//! Tests batches that are applied to slots, and those that slots return.
 
 use crate::common::slots::{APPEND_9, many_tables, other, slot};
 use crate::common::{file, run};
@@ -29,7 +29,7 @@ fn cleaned_regions_are_handed_out_as_a_batch() {
     );
 }
 
-/// A batch of items of several regions, signed for file 9.
+/// Makes a batch with items of several regions, signed for file 9.
 fn batch(regions: impl Iterator<Item = u64>) -> LogBatch {
     let mut batch = LogBatch::new().unwrap();
     for region in regions {
@@ -46,7 +46,7 @@ fn batch(regions: impl Iterator<Item = u64>) -> LogBatch {
     batch
 }
 
-/// The items of a batch that was written to file 9.
+/// Returns the items of a batch that was written to file 9.
 fn written(mut batch: LogBatch) -> Batch {
     batch.finish().unwrap();
     batch.sign(file(9)).unwrap();

@@ -1,4 +1,4 @@
-//! The tables that an engine keeps.
+//! Tests tables.
 
 use crate::common::{entry, file, files, lines, parts, run};
 use raft_recover::{
@@ -309,7 +309,8 @@ fn tables_are_merged() {
     assert_eq!(older.summary(7).unwrap().entries, 7);
 }
 
-/// Tables that have these runs in file 1 of the append queue, all of them rewritten to file 2, and a key.
+/// Makes tables with these runs of entries, each given as its region and its indexes, which moved from file 1 of the append queue
+/// to file 2 of the rewrite queue. Region 7 also has a key in that file.
 fn rewritten(runs: &[(u64, std::ops::Range<u64>)]) -> Tables {
     let mut tables = Tables::new().unwrap();
     for (region, range) in runs {

@@ -1,6 +1,7 @@
-//! Histories of an engine, and stops of a machine whose disk writes unsynced pages in any order: of the last file of each queue any of
-//! the pages that weren't synced may be zeros, and it ends anywhere behind what was synced. What is left is opened, or refused by its
-//! place, and compared with maps. Each entry can be read then, or its batch is named, and just the damaged ones are.
+//! Random histories of an engine, with crashes of a machine whose disk writes unsynced pages in any order: in the last file of
+//! each queue any page that wasn't synced may be zeros, and the file ends anywhere behind what was synced. What a crash leaves is
+//! opened, and compared with maps, or refused with the place of the damage. Each entry can be read then, or its batch is named;
+//! and only batches that are damaged are named.
 //!
 //! `HISTORIES=10000 SEED=1 cargo test --release --test engine_page_crashes` runs more of them than by default, from a seed on. A seed
 //! gives the same history each time.
@@ -19,16 +20,16 @@ use std::sync::atomic::{AtomicU64, Ordering::Relaxed};
 /// How many steps a history has.
 const STEPS: usize = 30;
 
-/// The regions with entries are 1 to 3; region 0 has the number of the last batch.
+/// How many regions have entries: 1 to 3. Region 0 has the number of the last batch.
 const REGIONS: usize = 3;
 
 const QUEUES: [Queue; 2] = [Queue::Append, Queue::Rewrite];
 
-/// What there is to be after a batch.
+/// What an engine has to have after a batch.
 #[derive(Clone, Default)]
 struct State {
     regions: [Region; REGIONS],
-    /// Of each entry the number of its batch.
+    /// The number of the batch of each entry, by its index.
     batches: [BTreeMap<u64, usize>; REGIONS],
 }
 
@@ -43,7 +44,7 @@ impl State {
     }
 }
 
-/// How large pages, entries and files are.
+/// The sizes of pages, of the longest entries and of files, in bytes.
 #[derive(Clone, Copy)]
 struct Sizes {
     page: usize,
@@ -87,17 +88,17 @@ fn options(seed: u64) -> Options {
         .recovery_threads(1)
 }
 
-/// An engine, and what it was told.
+/// A history of an engine.
 struct History {
     seed: u64,
     draw: Draw,
     files: MemoryFiles,
-    /// What there is to be before the first batch and after each one.
+    /// What the engine has to have before the first batch and after each one.
     states: Vec<State>,
 }
 
 impl History {
-    /// Takes the steps of a seed.
+    /// Runs the history of a seed.
     fn new(seed: u64) -> History {
         let files = MemoryFiles::new();
         let engine = Engine::with_files(files.clone(), options(seed)).unwrap();
@@ -150,7 +151,7 @@ impl History {
     }
 }
 
-/// The numbers of the batches that stand in an append file.
+/// Returns the numbers of the batches in an append file, in order.
 fn numbers_in(seq: u64, bytes: &[u8], version: Version) -> Vec<u64> {
     let file = LogFile::new(Queue::Append, seq, version);
     let batches = Batches::new(FilePart::new(file, bytes)).unwrap();
@@ -164,7 +165,7 @@ fn numbers_in(seq: u64, bytes: &[u8], version: Version) -> Vec<u64> {
         .collect()
 }
 
-/// At which ask each batch was written, the first one's first.
+/// Returns for each batch the position of the ask that wrote it, the first batch first.
 fn written(asks: &[Ask], version: Version) -> Vec<usize> {
     let mut places = Vec::new();
     for (at, ask) in asks.iter().enumerate() {
@@ -178,7 +179,7 @@ fn written(asks: &[Ask], version: Version) -> Vec<usize> {
     places
 }
 
-/// The last file of a queue: its number, what it has, and how many of its bytes are synced.
+/// The last file of a queue before a crash: its id, its bytes, and how many of these are synced.
 #[derive(Clone)]
 struct Last {
     id: FileId,
@@ -186,14 +187,14 @@ struct Last {
     synced: usize,
 }
 
-/// What a stop leaves: the files with all that was written, as it may reach a disk in order, and what this disk has of the last ones.
+/// What a crash leaves: the last file of each queue as it was before, and all files as they are then, the append queue first.
 struct Left {
     lasts: Vec<Last>,
     files: [Vec<(u64, Vec<u8>)>; 2],
 }
 
 impl Left {
-    /// Stops the machine behind so many asks.
+    /// Draws a crash behind the first `asks` asks.
     fn draw(history: &History, asks: usize, draw: &mut Draw) -> Left {
         let most = QUEUES.map(|queue| history.files.unsynced(asks, queue));
         let drawn = most.map(|most| Unsynced {
@@ -236,7 +237,8 @@ impl Left {
         (files, engine)
     }
 
-    /// The number of the last batch in append files, if there is one, in front of which no header and no items of a batch are lost.
+    /// Returns the number of the last batch in the append files up to which no header and no items of a batch are lost; `None`
+    /// where there is none.
     fn last_whole(&self, version: Version) -> Option<u64> {
         let mut files = self.files[0].clone();
         let last = self.lasts.iter().find(|it| it.id.queue == Queue::Append);
@@ -250,7 +252,7 @@ impl Left {
         numbers.last()
     }
 
-    /// Tests that an opening names just those batches of the last append file whose entries aren't as they were written.
+    /// Tests that an opening has named just those batches of the last append file whose entries aren't as they were written.
     fn assert_damaged(&self, engine: &Engine<MemoryFiles>) {
         let last = self.lasts.iter().find(|it| it.id.queue == Queue::Append);
         let expected = last.map_or(Vec::new(), |last| {
@@ -261,7 +263,7 @@ impl Left {
         assert_eq!(named(engine), expected);
     }
 
-    /// Tests that a refusal names the first place of a last file that isn't as it was written.
+    /// Tests that the error of an opening names the first place of a last file that isn't as it was written.
     fn assert_named(&self, e: &Error) {
         assert_eq!(e.kind, ErrorKind::Corruption, "{e}");
         let (file, offset) = (e.file.unwrap(), e.offset.unwrap() as usize);
@@ -274,7 +276,7 @@ impl Left {
     }
 }
 
-/// Has pages behind the synced bytes of a file be zeros, and the file end anywhere behind those.
+/// Fills random pages behind the first `synced` bytes of a file with zeros, and cuts the file anywhere behind these bytes.
 fn lose_pages(bytes: &mut Vec<u8>, synced: usize, page: usize, draw: &mut Draw) {
     let (first, last) = (synced / page, bytes.len() / page);
     let only = draw
@@ -292,23 +294,25 @@ fn lose_pages(bytes: &mut Vec<u8>, synced: usize, page: usize, draw: &mut Draw) 
     }
 }
 
-/// Where the first batch begins of which the header or the items aren't as they were written, or of whose bytes a part is gone; and
-/// the first one whose entries aren't.
+/// Returns where the first batch begins whose header or items aren't as they were written, or that isn't there as a whole; and
+/// where the first one begins whose entries aren't as they were written.
 fn broken_places(written: &[u8], left: &[u8]) -> [Option<usize>; 2] {
     let (batch, blocks) = broken(written, left);
     [batch, blocks.first().copied()]
 }
 
-/// Where the batches begin whose entries aren't as they were written, in front of the first one of which more isn't.
+/// Returns where the batches begin whose entries aren't as they were written, before the first batch of which more than its
+/// entries isn't.
 fn damaged_blocks(written: &[u8], left: &[u8]) -> Vec<usize> {
     let (batch, mut blocks) = broken(written, left);
     blocks.retain(|at| batch.is_none_or(|batch| *at < batch));
     blocks
 }
 
-/// Where the first batch begins of which the header or the items aren't as they were written, or of whose bytes a part is gone; and
-/// all whose entries aren't, up to the first one that isn't whole: they stand between the 16 bytes of a header, the first seven of
-/// which are the length of the batch, and the items, the offset of which the last eight are.
+/// Returns where the first batch begins whose header or items aren't as they were written, or that isn't there as a whole; and
+/// where all batches begin whose entries aren't as they were written, up to the first batch that isn't there as a whole. The
+/// entries of a batch stand between the 16 bytes of its header and its items. The first seven bytes of the header are the length
+/// of the batch, the last eight the offset of its items.
 fn broken(written: &[u8], left: &[u8]) -> (Option<usize>, Vec<usize>) {
     let (mut batch, mut blocks, mut at) = (None, Vec::new(), 0);
     let is_same = |from: usize, to: usize| left.get(from..to) == Some(&written[from..to]);
@@ -333,7 +337,8 @@ fn broken(written: &[u8], left: &[u8]) -> (Option<usize>, Vec<usize>) {
     (batch.or((at < written.len()).then_some(at)), blocks)
 }
 
-/// The batches that an opening has named: the file of each, and where it begins. Each is refused by that place.
+/// Returns the batches that an opening has named: the file of each, and where it begins. Tests that the error of each has this
+/// place.
 fn named(engine: &Engine<MemoryFiles>) -> Vec<(FileId, usize)> {
     let damaged = engine.recovered().damaged.iter();
     let places = damaged.map(|batch| {
@@ -344,8 +349,8 @@ fn named(engine: &Engine<MemoryFiles>) -> Vec<(FileId, usize)> {
     places.collect()
 }
 
-/// Tests that an engine has the records of a state. Entries that can't be read were in batches behind a number; their batches are
-/// named. Returns which ones those are.
+/// Tests that an engine has the records of a state. Entries that can't be read were in batches with numbers above `synced`, which
+/// the opening has named. Returns these entries, as region and index.
 fn check(engine: &Engine<MemoryFiles>, state: &State, synced: usize) -> Vec<(u64, u64)> {
     let (mut unread, named) = (Vec::new(), named(engine));
     for (i, region) in state.regions.iter().enumerate() {
@@ -373,7 +378,7 @@ fn check(engine: &Engine<MemoryFiles>, state: &State, synced: usize) -> Vec<(u64
     unread
 }
 
-/// What came of stops.
+/// How many openings after a crash succeeded and were refused, and in how many of them an entry couldn't be read.
 #[derive(Default)]
 struct Counts {
     opened: AtomicU64,
@@ -381,7 +386,7 @@ struct Counts {
     unread: AtomicU64,
 }
 
-/// Stops the machine in a history, and opens what is left.
+/// Crashes the machine four times behind each ask of a history, and opens and tests what is left.
 fn stop_everywhere(history: &History, counts: &Counts) {
     let asks = history.files.asks();
     let places = written(&asks, options(history.seed).version);
@@ -426,7 +431,8 @@ fn stop_everywhere(history: &History, counts: &Counts) {
     }
 }
 
-/// Has records move and files go, opens what is there then, and finds the same records: what could be read can be read.
+/// Moves records and deletes files in an engine that was opened after a crash, opens its files again, and tests that they have
+/// the same records, and that what could be read still can.
 fn go_on(
     history: &History,
     engine: Engine<MemoryFiles>,

@@ -1,5 +1,6 @@
-//! Files of which something synced was changed or taken away: an opening refuses them and names the place, or tells what it cuts. Two
-//! losses can't be seen, and are: a queue's last file that is gone, and damage in its last batch, which looks like a torn one.
+//! Tests files of which something synced was changed or taken away: an opening refuses them and names the place, or says what it
+//! cuts off. Two losses look like what a crash leaves, and can't be told from it: a queue's last file that is gone, and damage in
+//! its last batch.
 
 use crate::common::engines::write;
 use crate::common::model::{Region, region_of};
@@ -9,7 +10,7 @@ use raft_recover::{
 
 const FIRST: FileId = FileId::new(Queue::Append, 1);
 
-/// The files of an engine as others that were found, with one change.
+/// Returns the files of an engine as ones that are found, with one change.
 fn changed(files: &MemoryFiles, change: impl FnOnce(&mut [Vec<(u64, Vec<u8>)>; 2])) -> MemoryFiles {
     let mut held = [Queue::Append, Queue::Rewrite].map(|queue| files.files(queue));
     change(&mut held);
@@ -17,7 +18,7 @@ fn changed(files: &MemoryFiles, change: impl FnOnce(&mut [Vec<(u64, Vec<u8>)>; 2
     MemoryFiles::found(append, rewrite)
 }
 
-/// One file with so many batches of one entry each, all of them synced.
+/// Returns a single file with `count` batches of one entry each, all of them synced.
 fn entries(count: u64) -> MemoryFiles {
     let files = MemoryFiles::new();
     let engine = Engine::with_files(files.clone(), Options::new()).unwrap();
@@ -30,7 +31,7 @@ fn entries(count: u64) -> MemoryFiles {
     files
 }
 
-/// Tests that files are refused at a place, for this reason.
+/// Tests that an opening refuses files with this place and this reason.
 fn assert_refused(found: MemoryFiles, file: FileId, offset: u64, reason: &str) {
     let e = Engine::with_files(found.clone(), Options::new()).unwrap_err();
     let place = (ErrorKind::Corruption, Some(file), Some(offset));
@@ -61,7 +62,7 @@ fn a_file_of_3_050_synced_entries_that_gets_another_number_is_refused() {
     assert_refused(found, FileId::new(Queue::Append, 2), 0, reason);
 }
 
-/// Seven append files: each of them has an entry of region 7, and a newer value of its key `vote`.
+/// Returns seven append files: each of them has an entry of region 7, and a newer value of its key `vote`.
 fn seven_files() -> MemoryFiles {
     let files = MemoryFiles::new();
     let options = Options::new().target_file_size(1);
@@ -106,7 +107,8 @@ fn that_the_last_files_of_a_queue_are_gone_cant_be_seen() -> Result<()> {
     Ok(())
 }
 
-/// Files of an engine of which regions 1 and 2 stand in the rewrite queue alone, in a batch each, and region 3 in the append queue.
+/// Returns the files of an engine whose regions 1 and 2 are in the rewrite queue alone, in a batch each, and region 3 in the
+/// append queue.
 fn moved() -> Result<MemoryFiles> {
     let files = MemoryFiles::new();
     let engine = Engine::with_files(files.clone(), Options::new())?;
@@ -124,7 +126,7 @@ fn moved() -> Result<MemoryFiles> {
     Ok(files)
 }
 
-/// What an engine has of the regions 1 to 3.
+/// Returns what an engine has of the regions 1 to 3.
 fn records(engine: &Engine<MemoryFiles>) -> Result<Vec<Region>> {
     (1..=3).map(|id| region_of(engine, id)).collect()
 }
@@ -164,12 +166,12 @@ fn each_bit_of_the_last_rewrite_file_is_refused_or_told() -> Result<()> {
     Ok(())
 }
 
-/// Where the last of two batches begins: the first seven bytes are the first one's length.
+/// Returns where the last of two batches begins: the first seven bytes are the length of the first one.
 fn last_batch(bytes: &[u8]) -> usize {
     (u64::from_be_bytes(bytes[..8].try_into().unwrap()) >> 8) as usize
 }
 
-/// Tests that a refusal names the batch with the damage.
+/// Tests that an error names the damaged batch.
 fn assert_is_at(e: &Error, file: FileId, offset: usize) {
     let place = (ErrorKind::Corruption, Some(file), Some(offset as u64));
     assert_eq!((e.kind, e.file, e.offset), place, "{e}");

@@ -1,5 +1,5 @@
-//! What an opening takes for a torn tail, and what for damage, which it refuses: where the reading of a queue's last file stops,
-//! what is left is cut if it may be part of one batch, or nothing that can be read stands in it.
+//! Tests what an opening takes for a torn tail, and what for damage, which it refuses. Where a queue's last file can't be read
+//! on, what is left is cut off if it may be part of a single batch, or has nothing that can be read.
 
 use crate::common::{batch_bytes, file};
 use raft_recover::{
@@ -7,7 +7,7 @@ use raft_recover::{
     crc32,
 };
 
-/// The bytes of a file of four batches, each with two entries and a key, and where they begin.
+/// Returns the bytes of a file of four batches, each with two entries and a key, and where the batches begin.
 fn four_batches(file: LogFile) -> (Vec<u8>, Vec<usize>) {
     let (mut bytes, mut places) = (Vec::new(), Vec::new());
     for n in 1..=4 {
@@ -20,7 +20,7 @@ fn four_batches(file: LogFile) -> (Vec<u8>, Vec<usize>) {
     (bytes, places)
 }
 
-/// Files of which the last one of a queue has this number and these bytes; the other queue has none.
+/// Returns files of which the last one of a queue has this id and these bytes; the other queue has none.
 fn found(id: FileId, bytes: &[u8]) -> MemoryFiles {
     let held = vec![(id.seq, bytes.to_vec())];
     match id.queue {
@@ -29,14 +29,15 @@ fn found(id: FileId, bytes: &[u8]) -> MemoryFiles {
     }
 }
 
-/// How many bytes an opening leaves of such a file, and cuts.
+/// Opens such files, and returns how many bytes of that file the opening leaves, and how many it cuts off.
 fn opened(id: FileId, bytes: &[u8], options: &Options) -> Result<(u64, u64), Error> {
     let engine = Engine::with_files(found(id, bytes), options.clone())?;
     let cut = engine.recovered().cuts().map(|cut| cut.len).sum();
     Ok((bytes.len() as u64 - cut, cut))
 }
 
-/// Tests that such a file is refused at an offset, whether it is opened to be read alone or not, and nothing is asked of it.
+/// Tests that such files are refused at an offset, also where they are opened to be read alone, and that nothing is asked of
+/// them.
 fn assert_refused(id: FileId, bytes: &[u8], offset: usize, reason: &str) {
     let text =
         format!("Corruption: {id}, offset {offset}: no batch can be read there, but {reason}");
@@ -184,7 +185,7 @@ fn an_entry_that_ends_behind_its_block_is_refused_by_its_name() {
     }
 }
 
-/// Options of a mode.
+/// Returns options with a mode.
 fn in_mode(mode: RecoveryMode) -> Options {
     Options::new().recovery_mode(mode)
 }

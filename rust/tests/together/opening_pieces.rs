@@ -1,5 +1,5 @@
-//! How the files are read when an engine is opened: in pieces of 4 MiB that end where batches do, no byte twice, by any number of
-//! threads, which find the same. What has to be found follows from the batches of which the files are made.
+//! Tests how the files are read when an engine is opened: in pieces of 4 MiB that end where batches do, no byte twice. Any number
+//! of threads find the same. What they have to find follows from the batches of which the files are made.
 
 use crate::common::hooked::{Call, Hooked};
 use crate::common::model::{Region, region_of};
@@ -14,23 +14,23 @@ use std::sync::Mutex;
 
 const PIECE: usize = 4 << 20;
 
-/// How many bytes the entries have of which most files are made: more than 6 of them are a piece.
+/// The length in bytes of the entries of which most files are made. More than six of them make a piece.
 const ENTRY: usize = 600 << 10;
 
 const THREADS: [usize; 3] = [1, 2, 4];
 
-/// What regions have, by their ids.
+/// What an engine has, by its regions.
 type Regions = BTreeMap<u64, Region>;
 
-/// The bytes of a file, where its batches begin, and where it ends.
+/// A file: its bytes, where its batches begin, and where the last one ends.
 struct File {
     id: FileId,
     bytes: Vec<u8>,
     places: Vec<usize>,
 }
 
-/// Makes a file of batches, the first of which is that of this number: each has an entry of so many bytes, and a key with its number.
-/// They go to three regions in turn, each with entries from index 1 on.
+/// Makes a file of batches, the first of which has the number `first`. Each has an entry of so many bytes, and a key with its
+/// number. They go to three regions in turn, each with entries from index 1 on.
 fn file_of(queue: Queue, seq: u64, first: u64, sizes: &[usize]) -> File {
     let (mut bytes, mut places) = (Vec::new(), vec![0]);
     for (number, size) in (first..).zip(sizes) {
@@ -49,7 +49,7 @@ fn file_of(queue: Queue, seq: u64, first: u64, sizes: &[usize]) -> File {
     File { id, bytes, places }
 }
 
-/// The region of a batch, and the index of its entry.
+/// Returns the region of a batch, and the index of its entry.
 fn place_of(queue: Queue, number: u64) -> (u64, u64) {
     let region = match queue {
         Queue::Append => 1 + number % 3,
@@ -58,12 +58,12 @@ fn place_of(queue: Queue, number: u64) -> (u64, u64) {
     (region, 1 + number / 3)
 }
 
-/// The entry of a batch.
+/// Returns the bytes of the entry of a batch.
 fn entry(number: u64, size: usize) -> Vec<u8> {
     vec![number as u8 + 1; size]
 }
 
-/// Adds what batches with such entries give, the first of which is that of this number.
+/// Adds to `regions` what batches with entries of these sizes put into them. The first batch has the number `first`.
 fn add_batches(regions: &mut Regions, queue: Queue, first: u64, sizes: &[usize]) {
     for (number, size) in (first..).zip(sizes) {
         let (region, index) = place_of(queue, number);
@@ -74,7 +74,7 @@ fn add_batches(regions: &mut Regions, queue: Queue, first: u64, sizes: &[usize])
     }
 }
 
-/// Files of both queues.
+/// Returns files of both queues that are found.
 fn found(files: &[&File]) -> MemoryFiles {
     let [append, rewrite] = [Queue::Append, Queue::Rewrite].map(|queue| {
         let of_queue = files.iter().filter(|file| file.id.queue == queue);
@@ -85,16 +85,16 @@ fn found(files: &[&File]) -> MemoryFiles {
     MemoryFiles::found(append, rewrite)
 }
 
-/// All that an engine has.
+/// Returns all that an engine has.
 fn regions_of<F: Files>(engine: &Engine<F>) -> Regions {
     let ids = engine.regions().unwrap().into_iter();
     ids.map(|id| (id, region_of(engine, id).unwrap())).collect()
 }
 
-/// What is read of each file: from which byte on, and how many.
+/// The reads of each file: the offset of each, and how many bytes it has.
 type Reads = BTreeMap<FileId, Vec<(u64, usize)>>;
 
-/// Opens files by so many threads, and returns what is read of them meanwhile. What is found has to be this.
+/// Opens files by so many threads, tests that the engine has what is expected, and returns the reads meanwhile.
 fn open(files: &MemoryFiles, threads: usize, expected: &Regions) -> Reads {
     let reads = Mutex::new(Reads::new());
     let hooked = Hooked::new(files, |call: Call<'_>| {
@@ -110,7 +110,7 @@ fn open(files: &MemoryFiles, threads: usize, expected: &Regions) -> Reads {
     read
 }
 
-/// The refusal of files that are opened by so many threads.
+/// Returns the error of an opening of files by so many threads, which has to fail.
 fn refusal<F: Files>(files: F, threads: usize) -> Error {
     let options = Options::new().recovery_threads(threads);
     Engine::with_files(files, options).map(drop).unwrap_err()
@@ -211,7 +211,8 @@ fn a_torn_tail_is_cut_whatever_piece_it_stands_in() {
     }
 }
 
-/// The first file of a queue, with as many batches as three pieces have, and one bit changed in the items of batch `at`.
+/// Makes the first file of a queue, with as many batches as three pieces have. In the items of the batch at position `at` one bit
+/// is changed.
 fn damaged(queue: Queue, at: usize) -> File {
     let mut file = file_of(queue, 1, 0, &[ENTRY; 19]);
     let end = file.places[at + 1];
@@ -376,7 +377,8 @@ fn entries_that_leave_a_hole_are_refused_alike_by_every_number_of_threads() {
     assert!(refused.iter().all(|e| *e == refused[0]));
 }
 
-/// A batch of a rewrite file that begins a group (0), or ends it (2), by its marker, and has a key of a region.
+/// Returns the bytes of a batch of a rewrite file that begins a group (`status` 0) or ends it (2) by its marker, and has a key of
+/// a region.
 fn group_batch(region: u64, status: u8) -> Vec<u8> {
     let bytes = batch_bytes(LogFile::new(Queue::Rewrite, 1, Version::V2), |batch| {
         batch.put(region, b"__\x02", &[status]).unwrap();

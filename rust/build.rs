@@ -45,7 +45,7 @@ fn main() {
     });
     if env::var_os("CARGO_FEATURE_GLOBAL_ALLOCATOR").is_none() {
         link("RATTLE_HEAP_ARCHIVE", || {
-            of_toolchain().unwrap_or_else(|| {
+            toolchain_heap().unwrap_or_else(|| {
                 println!(
                     "cargo::warning=the toolchain's heap isn't found: put `rt` on the PATH, \
                      or take the feature `global-allocator`"
@@ -57,7 +57,7 @@ fn main() {
 }
 
 /// Returns the path of the toolchain's heap, `liblibc_c.a`; `None` where there is no `rt`, or no such file beside its page.
-fn of_toolchain() -> Option<PathBuf> {
+fn toolchain_heap() -> Option<PathBuf> {
     println!("cargo::rerun-if-env-changed=PATH");
     let page = Command::new("rt").arg("doc").output().ok()?;
     let page = String::from_utf8(page.stdout).ok()?;

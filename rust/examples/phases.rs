@@ -19,7 +19,7 @@ type MemoryEngine = Engine<MemoryFiles>;
 
 /// Runs a phase, which returns how many units it had, and prints its line: the name, that number, the unit, and how many
 /// nanoseconds each took.
-fn tell(name: &str, unit: &str, phase: impl FnOnce() -> Result<u64>) -> Result<()> {
+fn run_phase(name: &str, unit: &str, phase: impl FnOnce() -> Result<u64>) -> Result<()> {
     let begun = Instant::now();
     let count = phase()?;
     let each = begun.elapsed().as_nanos() / u128::from(count.max(1));
@@ -28,7 +28,7 @@ fn tell(name: &str, unit: &str, phase: impl FnOnce() -> Result<u64>) -> Result<(
 }
 
 /// Adds to a batch the entries of the batch numbered `number` of a region.
-fn fill(batch: &mut LogBatch, region: u64, number: u64) -> Result<()> {
+fn fill_batch(batch: &mut LogBatch, region: u64, number: u64) -> Result<()> {
     batch.add_entries(region, number * ENTRIES + 1, &[[7; 128]; ENTRIES as usize])
 }
 
@@ -38,7 +38,7 @@ fn phase_make(batches: u64) -> Result<u64> {
     for number in 0..batches {
         for region in 0..REGIONS {
             let mut batch = LogBatch::new()?;
-            fill(&mut batch, region, number)?;
+            fill_batch(&mut batch, region, number)?;
             hint::black_box(&batch);
         }
     }
@@ -51,7 +51,7 @@ fn phase_write(engine: &MemoryEngine, batches: u64) -> Result<u64> {
     for number in 0..batches {
         for region in 0..REGIONS {
             let mut batch = LogBatch::new()?;
-            fill(&mut batch, region, number)?;
+            fill_batch(&mut batch, region, number)?;
             engine.write(&mut batch, false)?;
         }
     }
@@ -64,7 +64,7 @@ fn phase_write_again(engine: &MemoryEngine, batches: u64) -> Result<u64> {
     let mut batch = LogBatch::new()?;
     for number in batches..2 * batches {
         for region in 0..REGIONS {
-            fill(&mut batch, region, number)?;
+            fill_batch(&mut batch, region, number)?;
             engine.write(&mut batch, false)?;
         }
     }
@@ -121,17 +121,17 @@ fn phase_rewrite(engine: &MemoryEngine, entries: u64) -> Result<u64> {
 }
 
 /// Runs the phases that read. `which` is added to their names.
-fn read(engine: &MemoryEngine, entries: u64, which: &str) -> Result<()> {
-    tell(&format!("entry{which}"), "entry", || {
+fn read_all(engine: &MemoryEngine, entries: u64, which: &str) -> Result<()> {
+    run_phase(&format!("entry{which}"), "entry", || {
         phase_entry(engine, entries)
     })?;
-    tell(&format!("entry{which}, of neighbors"), "entry", || {
+    run_phase(&format!("entry{which}, of neighbors"), "entry", || {
         phase_entry_in_order(engine, entries)
     })?;
-    tell(&format!("for_each_entry{which}"), "entry", || {
+    run_phase(&format!("for_each_entry{which}"), "entry", || {
         phase_for_each_entry(engine, entries)
     })?;
-    tell(
+    run_phase(
         &format!("entry{which}, of ten blocks in turn"),
         "entry",
         || phase_entry_kept(engine, entries),
@@ -142,14 +142,14 @@ fn main() -> std::result::Result<(), Box<dyn std::error::Error>> {
     let batches = env::args().nth(1).map_or(Ok(10), |word| word.parse())?;
     let entries = 2 * batches * ENTRIES;
     let engine = Engine::with_files(MemoryFiles::new(), Options::new())?;
-    tell("make", "batch", || phase_make(batches))?;
-    tell("make and write", "batch", || phase_write(&engine, batches))?;
-    tell("fill again and write", "batch", || {
+    run_phase("make", "batch", || phase_make(batches))?;
+    run_phase("make and write", "batch", || phase_write(&engine, batches))?;
+    run_phase("fill_batch again and write", "batch", || {
         phase_write_again(&engine, batches)
     })?;
-    read(&engine, entries, "")?;
+    read_all(&engine, entries, "")?;
     engine.rotate()?;
-    tell("rewrite", "entry", || phase_rewrite(&engine, entries))?;
-    read(&engine, entries, " of rewritten ones")?;
+    run_phase("rewrite", "entry", || phase_rewrite(&engine, entries))?;
+    read_all(&engine, entries, " of rewritten ones")?;
     Ok(())
 }

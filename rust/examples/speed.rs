@@ -72,7 +72,7 @@ fn append(path: &Path, len: usize) -> io::Result<f64> {
 }
 
 /// Fills a folder with batches of a thousand regions until its append files have `bytes` bytes.
-fn fill(folder: &Path, bytes: u64) -> Result<()> {
+fn fill_folder(folder: &Path, bytes: u64) -> Result<()> {
     let engine = Engine::open(folder, Options::new())?;
     for n in 0.. {
         engine.write(&mut batch(n % 1000, n / 1000 * 8 + 1)?, false)?;
@@ -84,7 +84,7 @@ fn fill(folder: &Path, bytes: u64) -> Result<()> {
 }
 
 /// Reads the append files of a folder into memory, oldest first.
-fn read(folder: &Path) -> Result<Vec<(LogFile, Vec<u8>)>> {
+fn read_append_files(folder: &Path) -> Result<Vec<(LogFile, Vec<u8>)>> {
     let engine = Engine::open(folder, Options::new())?;
     let mut files = Vec::new();
     let append = engine.stats().append;
@@ -97,7 +97,7 @@ fn read(folder: &Path) -> Result<Vec<(LogFile, Vec<u8>)>> {
 }
 
 /// Reads entries, given as region and index, each by one call, and returns how many nanoseconds a call takes.
-fn get(engine: &Engine, entries: impl Iterator<Item = (u64, u64)>) -> Result<f64> {
+fn time_reads(engine: &Engine, entries: impl Iterator<Item = (u64, u64)>) -> Result<f64> {
     let (begun, mut count) = (Instant::now(), 0.0);
     for (region, index) in entries {
         engine.entry(region, index)?.expect("it was written");
@@ -108,7 +108,7 @@ fn get(engine: &Engine, entries: impl Iterator<Item = (u64, u64)>) -> Result<f64
 
 /// Returns how many nanoseconds it takes to read an entry: of ten blocks that are read in turn, so that they are kept, and of a
 /// hundred regions that are read in order. Each is the best of so many rounds.
-fn get_all(log: &Path, rounds: u64) -> Result<[f64; 2]> {
+fn time_all_reads(log: &Path, rounds: u64) -> Result<[f64; 2]> {
     let engine = Engine::open(log, Options::new())?;
     let mut indexes = Vec::new();
     for region in 0..100 {
@@ -117,8 +117,8 @@ fn get_all(log: &Path, rounds: u64) -> Result<[f64; 2]> {
     }
     let mut best = [f64::MAX; 2];
     for _ in 0..rounds {
-        let kept = get(&engine, (0..100_000).map(|n| (n % 10, n % 8 + 1)))?;
-        let in_order = get(&engine, indexes.iter().copied())?;
+        let kept = time_reads(&engine, (0..100_000).map(|n| (n % 10, n % 8 + 1)))?;
+        let in_order = time_reads(&engine, indexes.iter().copied())?;
         best = [best[0].min(kept), best[1].min(in_order)];
     }
     Ok(best)
@@ -134,7 +134,7 @@ fn write_beside_a_purge(log: &Path, bytes: u64) -> Result<(f64, u64)> {
         let purge = scope.spawn(|| engine.purge());
         while !purge.is_finished() {
             let mut batch = batch(1000, 8 * count + 1)?;
-            let took = time(|| engine.write(&mut batch, false))?;
+            let took = time_call(|| engine.write(&mut batch, false))?;
             longest = took.max(longest);
             count += 1;
         }
@@ -144,7 +144,7 @@ fn write_beside_a_purge(log: &Path, bytes: u64) -> Result<(f64, u64)> {
 }
 
 /// Makes a call, and returns how many milliseconds it took.
-fn time<T>(call: impl FnOnce() -> Result<T>) -> Result<f64> {
+fn time_call<T>(call: impl FnOnce() -> Result<T>) -> Result<f64> {
     let begun = Instant::now();
     let answer = call()?;
     let time = begun.elapsed().as_secs_f64() * 1e3;
@@ -160,9 +160,9 @@ fn main() -> std::result::Result<(), Box<dyn std::error::Error>> {
     fs::create_dir(folder)?;
     let log = folder.join("log");
     let bytes = number(3, 200)? << 20;
-    fill(&log, bytes)?;
-    let files = read(&log)?;
-    let parts: Vec<_> = cut(&files);
+    fill_folder(&log, bytes)?;
+    let files = read_append_files(&log)?;
+    let parts: Vec<_> = cut_files(&files);
     let len = encoded_len()?;
     let (mut written, mut appended) = ([(0.0, 0.0); 4], 0.0);
     let (mut recovered, mut opened) = ([f64::MAX; 3], [f64::MAX; 3]);
@@ -179,10 +179,10 @@ fn main() -> std::result::Result<(), Box<dyn std::error::Error>> {
         appended = append(&path, len)?.max(appended);
         fs::remove_file(path)?;
         for (i, threads) in READING.into_iter().enumerate() {
-            let now = time(|| recover(&parts, Queue::Append, threads))?;
+            let now = time_call(|| recover(&parts, Queue::Append, threads))?;
             recovered[i] = now.min(recovered[i]);
             let options = Options::new().recovery_threads(threads);
-            opened[i] = time(|| Engine::open(&log, options))?.min(opened[i]);
+            opened[i] = time_call(|| Engine::open(&log, options))?.min(opened[i]);
         }
     }
     for ((threads, sync), (rate, share)) in WRITING.into_iter().zip(written) {
@@ -197,7 +197,7 @@ fn main() -> std::result::Result<(), Box<dyn std::error::Error>> {
         let (recovered, opened) = (recovered[i], opened[i]);
         println!("{threads} threads: recovered in {recovered:.0} ms, opened in {opened:.0} ms");
     }
-    let [kept, in_order] = get_all(&log, rounds)?;
+    let [kept, in_order] = time_all_reads(&log, rounds)?;
     println!("an entry of blocks in turn: {kept:.0} ns, of regions in order: {in_order:.0} ns");
     let (longest, count) = write_beside_a_purge(&log, bytes)?;
     println!("the longest of {count} writes beside a purge: {longest:.1} ms");
@@ -205,7 +205,7 @@ fn main() -> std::result::Result<(), Box<dyn std::error::Error>> {
 }
 
 /// Cuts files between batches, into parts of a megabyte or more, but for the last part of each.
-fn cut(files: &[(LogFile, Vec<u8>)]) -> Vec<FilePart<'_>> {
+fn cut_files(files: &[(LogFile, Vec<u8>)]) -> Vec<FilePart<'_>> {
     let mut parts = Vec::new();
     for (file, bytes) in files {
         let (mut from, mut at) = (0, 0);

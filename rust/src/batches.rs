@@ -109,13 +109,13 @@ impl Iterator for Batches<'_> {
 
     fn next(&mut self) -> Option<Result<Batch>> {
         let at = self.at.take()?;
-        match ItemsHandle::next(self.part, at) {
+        match ItemsHandle::read_batch_at(self.part, at) {
             Ok(Some((handle, next))) => {
                 self.at = Some(next);
-                Some(Ok(Batch::of(handle)))
+                Some(Ok(Batch::from_handle(handle)))
             }
             Ok(None) => None,
-            Err(e) => Some(Err(with_place(e, self.part, at))),
+            Err(e) => Some(Err(with_place_in_part(e, self.part, at))),
         }
     }
 }
@@ -149,15 +149,15 @@ impl FusedIterator for Batches<'_> {}
 pub fn readable_front(part: FilePart<'_>) -> Result<(usize, Option<Error>)> {
     part.check_end()?;
     let (front, refused) = sys::readable_front(part);
-    Ok((front, refused.map(|e| with_place(e, part, front))))
+    Ok((front, refused.map(|e| with_place_in_part(e, part, front))))
 }
 
 /// Returns the error of the batch at the byte `at` of a part with its file and offset. `Memory`, which concerns no place, is
 /// returned as it is.
-fn with_place(refused: Error, part: FilePart<'_>, at: usize) -> Error {
+fn with_place_in_part(refused: Error, part: FilePart<'_>, at: usize) -> Error {
     match refused.kind {
         ErrorKind::Memory => refused,
-        _ => refused.at(part.file.into(), part.offset + at as u64),
+        _ => refused.with_place(part.file.into(), part.offset + at as u64),
     }
 }
 

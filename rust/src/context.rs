@@ -116,7 +116,7 @@ impl Context {
     /// - 1 records would be live; `Memory`; `Failed`. The context is empty then.
     pub fn replay(&mut self, part: FilePart<'_>) -> Result<()> {
         part.check_end()?;
-        let handle = self.take()?;
+        let handle = self.take_handle()?;
         self.handle = Some(handle.replay(part)?);
         Ok(())
     }
@@ -144,8 +144,8 @@ impl Context {
     /// `InvalidArgument` where one of both is of the other queue; `Corruption` where the first file of `newer` has a lower number
     /// than the last file of this one, or entries leave a hole; `Full`; `Memory`; `Failed`. What both have read is lost then.
     pub fn merge(&mut self, mut newer: Context, queue: Queue) -> Result<()> {
-        let handle = self.take()?;
-        let newer = newer.take()?;
+        let handle = self.take_handle()?;
+        let newer = newer.take_handle()?;
         self.handle = Some(handle.merge(newer, queue)?);
         Ok(())
     }
@@ -173,8 +173,8 @@ impl Context {
     ///
     /// `InvalidArgument` where one of both is of the other queue; `Full`; `Memory`; `Failed`. What both have read is lost then.
     pub fn overlay(&mut self, mut append: Context) -> Result<()> {
-        let handle = self.take()?;
-        let append = append.take()?;
+        let handle = self.take_handle()?;
+        let append = append.take_handle()?;
         self.handle = Some(handle.overlay(append)?);
         Ok(())
     }
@@ -200,10 +200,7 @@ impl Context {
     ///
     /// `Failed` where an earlier call failed.
     pub fn kept(&mut self) -> Result<Kept> {
-        self.handle
-            .as_mut()
-            .ok_or_else(Error::of_emptied)?
-            .count_kept()
+        self.handle.as_mut().ok_or_else(Error::failed)?.count_kept()
     }
 
     /// Returns the tables of what was read.
@@ -227,8 +224,8 @@ impl Context {
     ///
     /// `Memory`; `Failed` where an earlier call failed.
     pub fn finish(mut self) -> Result<Tables> {
-        let tables = self.take()?.finish()?;
-        Ok(Tables::of(tables))
+        let tables = self.take_handle()?.finish()?;
+        Ok(Tables::from_handle(tables))
     }
 
     /// Takes the handle out for a call of the library. The caller puts it back, unless that call fails.
@@ -236,8 +233,8 @@ impl Context {
     /// # Errors
     ///
     /// `Failed` where an earlier call failed, so that there is no handle.
-    fn take(&mut self) -> Result<ContextHandle> {
-        self.handle.take().ok_or_else(Error::of_emptied)
+    fn take_handle(&mut self) -> Result<ContextHandle> {
+        self.handle.take().ok_or_else(Error::failed)
     }
 }
 

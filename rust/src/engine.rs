@@ -257,7 +257,7 @@ impl<F: Files> Engine<F> {
     /// Unless a change of the files failed, nothing was asked of them but to be listed and read. If one failed, the files that
     /// are left still have all records that were found.
     pub fn with_files(files: F, options: Options) -> Result<Engine<F>> {
-        Engine::open_over(files, options, None)
+        Engine::open_files(files, options, None)
     }
 
     /// Opens an engine over files, and tells `listener`, if there is one, what the opening does to them.
@@ -265,14 +265,14 @@ impl<F: Files> Engine<F> {
     /// # Errors
     ///
     /// Those of [`Engine::with_files`].
-    fn open_over(
+    fn open_files(
         files: F,
         options: Options,
         listener: Option<Arc<dyn Listener>>,
     ) -> Result<Engine<F>> {
         let begun = Instant::now();
-        let (mut engine, orders) = Engine::read_found(files, options)?;
-        engine.events = Events::of(listener);
+        let (mut engine, orders) = Engine::read_files(files, options)?;
+        engine.events = Events::new(listener);
         engine.tell_after(|| engine.wait_for_turn()?.carry_out_opening(orders))?;
         engine.opening = begun.elapsed();
         Ok(engine)
@@ -301,7 +301,7 @@ impl<F: Files> Engine<F> {
     /// Those of [`Engine::with_files`], but for those of changes of the files.
     pub fn with_files_read_only(files: F, options: Options) -> Result<Engine<F>> {
         let begun = Instant::now();
-        let (engine, orders) = Engine::read_found(files, options)?;
+        let (engine, orders) = Engine::read_files(files, options)?;
         for order in orders {
             if let Order::Cut(queue, len) = order {
                 locks::lock(&engine.numbers).note_cut(queue, len);
@@ -320,14 +320,14 @@ impl<F: Files> Engine<F> {
     /// # Errors
     ///
     /// Those of [`Engine::with_files`], but for those of changes of the files.
-    fn read_found(files: F, options: Options) -> Result<(Engine<F>, Vec<Order>)> {
+    fn read_files(files: F, options: Options) -> Result<(Engine<F>, Vec<Order>)> {
         let opened = Found::read(&files, &options)?.open(&options)?;
         let engine = Engine {
             files,
             options,
             recovered: opened.recovered,
             opening: Duration::ZERO,
-            tables: SharedTables::of(opened.tables),
+            tables: SharedTables::new(opened.tables),
             turns: Turns::default(),
             numbers: Mutex::new(opened.numbers),
             unwritten: Unwritten::default(),
@@ -395,7 +395,7 @@ impl<F: Files> Engine<F> {
     /// # Errors
     ///
     /// `InvalidArgument`, with that name, where the engine is open to be read alone.
-    fn check_changeable(&self, call: &str) -> Result<()> {
+    fn check_writable(&self, call: &str) -> Result<()> {
         if self.is_read_only {
             let text = format!("{call}: the engine is open for reading alone");
             return Err(Error::invalid_argument(&text));
@@ -424,8 +424,8 @@ impl<F: Files> Engine<F> {
 
     /// Locks the tables, but lets the threads that wait for them go first. It is for a thread that locks them again and again,
     /// for one region after another.
-    fn lock_tables_behind_others(&self) -> MutexGuard<'_, EngineHandle> {
-        self.tables.lock_behind_others()
+    fn lock_tables_after_waiters(&self) -> MutexGuard<'_, EngineHandle> {
+        self.tables.lock_after_waiters()
     }
 
     /// Returns in numbers what the engine has, and what it did since it was opened. It is cheap: no record is looked at.

@@ -185,12 +185,12 @@ impl Error {
 
     /// Makes the error that the library reports by a number and a text. File, offset, region and index are read from the text, if
     /// they stand there. The number must be that of a kind.
-    pub(crate) fn of(code: u32, text: String) -> Error {
+    pub(crate) fn from_library(code: u32, text: String) -> Error {
         let kind = u8::try_from(code).map(ErrorKind::try_from);
         let Ok(Ok(kind)) = kind else {
             unreachable!("the library has no error of number {code}")
         };
-        let place = Place::read_from(&text);
+        let place = Place::parse(&text);
         Error {
             file: place.file.map(|(file, _)| file),
             offset: place.file.map(|(_, offset)| offset),
@@ -228,13 +228,13 @@ impl Error {
     }
 
     /// Makes the error of kind `Failed`, for a call on a value that an earlier error has emptied.
-    pub(crate) fn of_emptied() -> Error {
+    pub(crate) fn failed() -> Error {
         Error::new(ErrorKind::Failed, "Failed")
     }
 
     /// Returns the error of later calls on a value that failed with this one: kind `Failed`, its text behind `Failed: `, and the
     /// same place and source.
-    pub(crate) fn as_failure(&self) -> Error {
+    pub(crate) fn to_failed(&self) -> Error {
         Error {
             kind: ErrorKind::Failed,
             text: format!("Failed: {}", self.text),
@@ -245,7 +245,7 @@ impl Error {
     /// Makes the error of kind `Corruption` for bytes at an offset of a file, which aren't what an engine writes. `text` is the
     /// reason.
     pub(crate) fn corruption(file: FileId, offset: u64, text: &str) -> Error {
-        Error::new(ErrorKind::Corruption, format!("Corruption: {text}")).at(file, offset)
+        Error::new(ErrorKind::Corruption, format!("Corruption: {text}")).with_place(file, offset)
     }
 
     /// Makes the error of kind `Io` for a call that the system refused. `about` says what was refused.
@@ -282,7 +282,7 @@ impl Error {
 
     /// Sets the file and the offset that the error is about, and puts both behind the kind in the text, as in `Corruption: append
     /// file 3, offset 17: ..`. A text without a reason behind its kind stays.
-    pub(crate) fn at(mut self, file: FileId, offset: u64) -> Error {
+    pub(crate) fn with_place(mut self, file: FileId, offset: u64) -> Error {
         if let Some((kind, reason)) = self.text.split_once(": ") {
             self.text = format!("{kind}: {file}, offset {offset}: {reason}");
         }
@@ -320,7 +320,7 @@ struct Place {
 
 impl Place {
     /// Reads the place from the text of an error. Each part that isn't there is `None`.
-    fn read_from(text: &str) -> Place {
+    fn parse(text: &str) -> Place {
         let mut place = Place::default();
         let Some((_, words)) = text.split_once(": ") else {
             return place;
@@ -328,16 +328,16 @@ impl Place {
         let Some((mut words, _)) = words.split_once(": ") else {
             return place;
         };
-        (place.region, words) = number_behind("region ", words);
-        (place.index, words) = number_behind("index ", words);
-        place.file = file_in(words);
+        (place.region, words) = parse_number_after("region ", words);
+        (place.index, words) = parse_number_after("index ", words);
+        place.file = parse_place_in_file(words);
         place
     }
 }
 
 /// Reads a number that `words` begin with after the word `word`, as in `index 12, ..`. Returns it with the words after the comma;
 /// `None`, and all of `words`, where there is no such number.
-fn number_behind<'a>(word: &str, words: &'a str) -> (Option<u64>, &'a str) {
+fn parse_number_after<'a>(word: &str, words: &'a str) -> (Option<u64>, &'a str) {
     let number = |text: &'a str| {
         let (number, rest) = text.split_once(", ").unwrap_or((text, ""));
         Some((number.parse().ok()?, rest))
@@ -349,7 +349,7 @@ fn number_behind<'a>(word: &str, words: &'a str) -> (Option<u64>, &'a str) {
 }
 
 /// Reads a file and an offset, as in `append file 3, offset 17`; `None` where the words are none.
-fn file_in(place: &str) -> Option<(FileId, u64)> {
+fn parse_place_in_file(place: &str) -> Option<(FileId, u64)> {
     let (file, offset) = place.split_once(", offset ")?;
     let (queue, seq) = file.split_once(" file ")?;
     let file = FileId::new(queue.parse().ok()?, seq.parse().ok()?);

@@ -67,7 +67,7 @@ pub struct LogBatch {
 
 impl LogBatch {
     /// Makes the batch of a handle that holds an open batch without items.
-    fn of(handle: LogBatchHandle) -> LogBatch {
+    fn from_handle(handle: LogBatchHandle) -> LogBatch {
         LogBatch {
             handle,
             signed: None,
@@ -77,8 +77,8 @@ impl LogBatch {
     }
 
     /// Makes the batch of a handle that holds an open batch with a `Clean` for each of `regions`, in this order.
-    pub(crate) fn of_cleans(handle: LogBatchHandle, regions: &[u64]) -> LogBatch {
-        let mut batch = LogBatch::of(handle);
+    pub(crate) fn from_cleans(handle: LogBatchHandle, regions: &[u64]) -> LogBatch {
+        let mut batch = LogBatch::from_handle(handle);
         for region in regions {
             batch.shapes.note(*region, Shape::Clean);
         }
@@ -108,7 +108,7 @@ impl LogBatch {
     ///
     /// `Memory`.
     pub fn new() -> Result<LogBatch> {
-        Ok(LogBatch::of(LogBatchHandle::new()?))
+        Ok(LogBatch::from_handle(LogBatchHandle::new()?))
     }
 
     /// Makes an open batch without items, with room for entries of `bytes` bytes together. [`LogBatch::add_entries`] and
@@ -207,7 +207,7 @@ impl LogBatch {
     /// Returns an error with the item that is its reason, if that is `Corruption`: the first item whose entries don't fit those
     /// of their region. Only regions for which `is_tested` is true are looked at. `summary` returns what a region has before the
     /// batch. An error of another kind is returned as it is.
-    pub(crate) fn name_misfit(
+    pub(crate) fn name_refused_item(
         &self,
         refused: Error,
         is_tested: impl Fn(u64) -> bool,
@@ -216,7 +216,7 @@ impl LogBatch {
         if refused.kind != ErrorKind::Corruption {
             return refused;
         }
-        match self.shapes.find_misfit(is_tested, summary) {
+        match self.shapes.find_refused_item(is_tested, summary) {
             Some((item, region, index)) => refused.with_item(item).with_region(region, Some(index)),
             None => refused,
         }
@@ -234,7 +234,7 @@ impl LogBatch {
     /// ```
     #[must_use]
     pub fn approximate_size(&self) -> usize {
-        self.handle.size()
+        self.handle.approximate_size()
     }
 
     /// Moves all items of another batch to the end of this one. The other one is empty then. Both have to be open.
@@ -369,7 +369,7 @@ impl LogBatch {
     ///
     /// `Memory`. The batch is lost then.
     pub fn into_items(self) -> Result<Batch> {
-        Ok(Batch::of(self.handle.into_items()?))
+        Ok(Batch::from_handle(self.handle.into_items()?))
     }
 }
 

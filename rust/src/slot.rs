@@ -366,9 +366,12 @@ impl Slot {
     ///
     /// `Corruption` where an item would be refused: the error has the item, the region and the index. `Memory`.
     pub fn check_append(&self, batch: &LogBatch) -> Result<()> {
-        let checked = self.tables.handle.check_share(self.number, batch.handle());
+        let checked = self
+            .tables
+            .handle
+            .check_slot_append(self.number, batch.handle());
         let is_here = |region| slot_of(region) == self.number;
-        checked.map_err(|e| batch.name_misfit(e, is_here, |region| self.summary(region)))
+        checked.map_err(|e| batch.name_refused_item(e, is_here, |region| self.summary(region)))
     }
 
     /// Applies those items of a batch of the append queue whose regions belong to the slot, in order. The batch is only read,
@@ -401,7 +404,9 @@ impl Slot {
     ///
     /// `Corruption`, `Full` or `Memory` at the first item that is refused. The items before it are applied then, and no others.
     pub fn apply_append(&mut self, batch: &Batch) -> Result<()> {
-        self.tables.handle.apply_share(self.number, batch.handle())
+        self.tables
+            .handle
+            .apply_slot_append(self.number, batch.handle())
     }
 
     /// Applies those items of a batch whose regions belong to the slot, in order. The batch was written to the rewrite file
@@ -428,7 +433,7 @@ impl Slot {
     pub fn apply_rewrite(&mut self, batch: &Batch, gate: Option<u64>, seq: u64) -> Result<()> {
         self.tables
             .handle
-            .rewrite_share(self.number, batch.handle(), gate, seq)
+            .apply_slot_rewrite(self.number, batch.handle(), gate, seq)
     }
 
     /// Applies one item of the append queue, which was written to `file`. A group marker changes nothing.

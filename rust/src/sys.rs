@@ -39,7 +39,7 @@ mod table_calls;
 mod tables;
 
 pub(crate) use context::ContextHandle;
-pub(crate) use engine::{EngineHandle, Order, block_entries};
+pub(crate) use engine::{EngineHandle, Order, check_entry_block};
 pub(crate) use items::ItemsHandle;
 pub(crate) use lists::PackedPairs;
 pub(crate) use log_batch::LogBatchHandle;
@@ -47,8 +47,8 @@ pub(crate) use packed::Packed;
 pub(crate) use reader::{ReadFiles, ReaderHandle, Size, open_engine};
 pub(crate) use tables::TablesHandle;
 
-use lists::{list, list_found, list_in, list_packed_pairs, list_pairs, make_room};
-use numbers::{EntryNumbers, File, Maybe, SummaryNumbers, entries_of, numbers_of};
+use lists::{list, list_if_found, list_packed_pairs, list_pairs, list_with_room, make_room};
+use numbers::{EntryNumbers, File, Maybe, SummaryNumbers, to_entries, to_entry_numbers};
 
 /// A pointer to a value of the library; null where there is none.
 #[repr(C)]
@@ -95,17 +95,17 @@ const TEXT_LEN: usize = 256;
 
 /// Makes a call of the library, with room for the text of its error: a pointer and a length. Returns the error; `None` where the
 /// call succeeded.
-fn refusal_of_call(call: impl FnOnce(*mut u8, usize) -> Status) -> Option<Error> {
+fn error_of_call(call: impl FnOnce(*mut u8, usize) -> Status) -> Option<Error> {
     let mut text = [0u8; TEXT_LEN];
     let status = call(text.as_mut_ptr(), text.len());
-    (status.code != 0).then(|| refusal_of(status.code, status.text_len, &text))
+    (status.code != 0).then(|| error_with_text(status.code, status.text_len, &text))
 }
 
 /// Makes the error of a number that isn't 0. `text` begins with the error's text, which has `text_len` bytes, or with as many of
 /// these as there was room for.
-fn refusal_of(code: u32, text_len: usize, text: &[u8; TEXT_LEN]) -> Error {
+fn error_with_text(code: u32, text_len: usize, text: &[u8; TEXT_LEN]) -> Error {
     let text = &text[..text_len.min(TEXT_LEN)];
-    Error::of(code, String::from_utf8_lossy(text).into_owned())
+    Error::from_library(code, String::from_utf8_lossy(text).into_owned())
 }
 
 /// Makes a call of the library, with room for the text of its error: a pointer and a length.
@@ -114,7 +114,7 @@ fn refusal_of(code: u32, text_len: usize, text: &[u8; TEXT_LEN]) -> Error {
 ///
 /// The error of the call.
 fn check_call(call: impl FnOnce(*mut u8, usize) -> Status) -> Result<()> {
-    refusal_of_call(call).map_or(Ok(()), Err)
+    error_of_call(call).map_or(Ok(()), Err)
 }
 
 /// Turns the number of a call that can only fail for lack of memory into a result.
@@ -122,7 +122,7 @@ fn check_call(call: impl FnOnce(*mut u8, usize) -> Status) -> Result<()> {
 /// # Errors
 ///
 /// `Memory` where it isn't 0.
-fn memory_result(code: u32) -> Result<()> {
+fn check_memory(code: u32) -> Result<()> {
     match code {
         0 => Ok(()),
         _ => Err(Error::memory()),
@@ -150,7 +150,7 @@ pub(crate) fn readable_front(part: FilePart<'_>) -> (usize, Option<Error>) {
     part.check_end().expect("a part ends where an offset can");
     let mut len = 0;
     // SAFETY: `ends`: the bytes end where an offset can.
-    let refused = refusal_of_call(|text, text_len| unsafe {
+    let refused = error_of_call(|text, text_len| unsafe {
         raft_ffi_readable_front(
             part.file.into(),
             part.offset,

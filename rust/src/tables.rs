@@ -72,7 +72,7 @@ pub struct Tables {
 
 impl Tables {
     /// Makes the tables of a handle that holds some.
-    pub(crate) fn of(handle: TablesHandle) -> Tables {
+    pub(crate) fn from_handle(handle: TablesHandle) -> Tables {
         Tables { handle }
     }
 
@@ -87,7 +87,7 @@ impl Tables {
     ///
     /// `Memory`.
     pub fn new() -> Result<Tables> {
-        Ok(Tables::of(TablesHandle::new()?))
+        Ok(Tables::from_handle(TablesHandle::new()?))
     }
 
     /// Divides the tables and the list of cleaned regions among slots, which are returned in the order of their numbers. What

@@ -73,7 +73,7 @@ unsafe extern "C" {
     fn free(p: *mut c_void);
 }
 
-fn tried(p: *mut c_void) -> Tried {
+fn granted(p: *mut c_void) -> Tried {
     assert!(!p.is_null());
     Tried { ok: true, p }
 }
@@ -82,18 +82,18 @@ fn tried(p: *mut c_void) -> Tried {
 extern "C" fn rattle_alloc(n: usize, _a: usize) -> Tried {
     meet();
     // SAFETY: any size may be asked for; blocks are aligned to 16 bytes.
-    tried(unsafe { malloc(n.max(1)) })
+    granted(unsafe { malloc(n.max(1)) })
 }
 
 #[unsafe(no_mangle)]
 unsafe extern "C" fn rattle_realloc(p: *mut c_void, _kept: usize, n: usize, _a: usize) -> Tried {
-    // SAFETY: the block came from `tried`.
-    tried(unsafe { realloc(p, n.max(1)) })
+    // SAFETY: the block came from `granted`.
+    granted(unsafe { realloc(p, n.max(1)) })
 }
 
 #[unsafe(no_mangle)]
 unsafe extern "C" fn rattle_dealloc(p: *mut c_void) {
-    // SAFETY: the block came from `tried`.
+    // SAFETY: the block came from `granted`.
     unsafe { free(p) }
 }
 

@@ -26,14 +26,14 @@ fn batch(number: u64) -> LogBatch {
 
 /// How far a run has come: how many batches were written, and how many of these were synced for certain.
 #[derive(Clone, Copy, Default)]
-struct Come {
+struct Progress {
     written: u64,
     certain: u64,
 }
 
 /// Makes each kind of change: writes with and without a sync, moves and deletions. Returns how far it came, and the first error.
-fn run<F: Files>(engine: &Engine<F>) -> (Come, Result<()>) {
-    let mut come = Come::default();
+fn make_all_changes<F: Files>(engine: &Engine<F>) -> (Progress, Result<()>) {
+    let mut come = Progress::default();
     let mut steps = || {
         for number in 1..=6 {
             engine.write(&mut batch(number), number % 2 == 0)?;
@@ -58,7 +58,7 @@ fn run<F: Files>(engine: &Engine<F>) -> (Come, Result<()>) {
 }
 
 /// Returns the errors of all kinds of changes of an engine that has failed.
-fn changes<F: Files>(engine: &Engine<F>) -> Vec<Error> {
+fn errors_of_changes<F: Files>(engine: &Engine<F>) -> Vec<Error> {
     let results = [
         engine.write(&mut batch(9), false),
         engine.sync(),
@@ -71,7 +71,7 @@ fn changes<F: Files>(engine: &Engine<F>) -> Vec<Error> {
 }
 
 /// Returns the errors of all kinds of reads of an engine that can't be read.
-fn reads<F: Files>(engine: &Engine<F>) -> Vec<Error> {
+fn errors_of_reads<F: Files>(engine: &Engine<F>) -> Vec<Error> {
     let results = [
         engine.entry(7, 1).map(drop),
         engine.entries(7, ..).map(drop),
@@ -108,7 +108,7 @@ fn place_of(call: Call<'_>, files: &MemoryFiles) -> (Option<FileId>, Option<u64>
 
 /// Tests that each change of a failed engine returns `Failed` with the reason `first`, and asks nothing of the files.
 fn assert_every_change_fails<F: Files>(engine: &Engine<F>, first: &Error) {
-    for e in changes(engine) {
+    for e in errors_of_changes(engine) {
         assert_eq!(e.kind, ErrorKind::Failed);
         assert_eq!(source_of(&e), io::ErrorKind::StorageFull);
         assert_eq!((e.file, e.offset), (first.file, first.offset));
@@ -117,8 +117,8 @@ fn assert_every_change_fails<F: Files>(engine: &Engine<F>, first: &Error) {
     assert!(format!("{engine:?}").contains("failure: Some"));
 }
 
-/// Tests that an engine has a prefix of the batches that `run` writes, and returns how many.
-fn batches_in<F: Files>(engine: &Engine<F>) -> u64 {
+/// Tests that an engine has a prefix of the batches that `make_all_changes` writes, and returns how many.
+fn count_batches<F: Files>(engine: &Engine<F>) -> u64 {
     let region = region_of(engine, 7).unwrap();
     let written = region.entries.len() as u64;
     let expected = (1..=written).map(|number| (number, number.to_string().into_bytes()));
@@ -131,7 +131,7 @@ fn batches_in<F: Files>(engine: &Engine<F>) -> u64 {
 /// Tests that a failed engine can be read: it has the `written` batches, and perhaps one more, with which it failed. `failing`
 /// says which call failed.
 fn assert_reads_go_on<F: Files>(engine: &Engine<F>, written: u64, failing: usize) {
-    let found = batches_in(engine);
+    let found = count_batches(engine);
     let allowed = written..=written + 1;
     assert!(allowed.contains(&found), "{failing}: {found} of {written}");
     for number in 1..=found {
@@ -150,10 +150,10 @@ fn assert_reads_go_on<F: Files>(engine: &Engine<F>, written: u64, failing: usize
     assert_eq!(engine.summary(7).unwrap().is_some(), found > 0);
 }
 
-/// Tests that files have a prefix of the batches that `run` writes, of at least `certain` ones. `failing` says which call failed.
+/// Tests that files have a prefix of the batches that `make_all_changes` writes, of at least `certain` ones. `failing` says which call failed.
 fn assert_nothing_is_lost(files: MemoryFiles, certain: u64, failing: usize) {
     let opened = Engine::with_files(files, Options::new()).unwrap();
-    let written = batches_in(&opened);
+    let written = count_batches(&opened);
     assert!(written >= certain, "{failing}: {written} of {certain}");
 }
 
@@ -166,7 +166,7 @@ fn where_any_change_fails_every_later_one_says_so_reads_go_on_and_nothing_is_los
     });
     let engine = Engine::with_files(counting, Options::new()).unwrap();
     let opening = count.load(SeqCst);
-    run(&engine).1.unwrap();
+    make_all_changes(&engine).1.unwrap();
     let changes = count.load(SeqCst);
     assert!(changes > opening + 20, "{changes}");
     for failing in opening..changes {
@@ -183,7 +183,7 @@ fn where_any_change_fails_every_later_one_says_so_reads_go_on_and_nothing_is_los
             Ok(())
         });
         let engine = Engine::with_files(hooked, Options::new()).unwrap();
-        let (come, result) = run(&engine);
+        let (come, result) = make_all_changes(&engine);
         let first = result.unwrap_err();
         assert_eq!(first.kind, ErrorKind::Io);
         assert_eq!(Some(&(first.file, first.offset)), place.get(), "{first}");
@@ -228,7 +228,7 @@ fn a_batch_lasts_where_the_file_behind_it_cant_be_begun() {
 fn an_opening_that_fails_can_be_made_again() {
     let files = MemoryFiles::new();
     let engine = Engine::with_files(files.clone(), Options::new()).unwrap();
-    run(&engine).1.unwrap();
+    make_all_changes(&engine).1.unwrap();
     engine.write(&mut batch(8), false).unwrap();
     let append = files.files(Queue::Append);
     let mut torn = append.clone();
@@ -352,7 +352,10 @@ fn files_that_panic_leave_a_failed_engine_and_nobody_waits_for_ever() {
         let failed: Vec<_> = failed.map(|result| result.unwrap_err().kind).collect();
         assert_eq!(failed, [ErrorKind::Failed; 3]);
     });
-    for e in changes(&engine).into_iter().chain(reads(&engine)) {
+    for e in errors_of_changes(&engine)
+        .into_iter()
+        .chain(errors_of_reads(&engine))
+    {
         assert_eq!(e.kind, ErrorKind::Failed);
     }
 }

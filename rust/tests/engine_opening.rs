@@ -26,7 +26,7 @@ fn five_files() -> MemoryFiles {
 }
 
 /// Returns a copy of files without one of them.
-fn without(files: &MemoryFiles, missing: FileId) -> MemoryFiles {
+fn without_file(files: &MemoryFiles, missing: FileId) -> MemoryFiles {
     let [append, rewrite] = [Queue::Append, Queue::Rewrite].map(|queue| {
         let mut held = files.files(queue);
         held.retain(|(seq, _)| FileId::new(queue, *seq) != missing);
@@ -43,7 +43,7 @@ fn a_file_that_is_missing_between_two_others_is_refused_and_named() {
         assert_eq!(seqs, [1, 2, 3, 4, 5]);
         for seq in 2..=4 {
             let missing = FileId::new(queue, seq);
-            let found = without(&files, missing);
+            let found = without_file(&files, missing);
             let e = Engine::with_files(found.clone(), Options::new()).unwrap_err();
             let place = (Some(missing), Some(0));
             assert_eq!((e.kind, (e.file, e.offset)), (ErrorKind::Corruption, place));
@@ -53,7 +53,7 @@ fn a_file_that_is_missing_between_two_others_is_refused_and_named() {
             assert_eq!(found.asked(), 0);
         }
     }
-    let older = without(&files, FileId::new(Queue::Append, 1)); // as a purge leaves them
+    let older = without_file(&files, FileId::new(Queue::Append, 1)); // as a purge leaves them
     Engine::with_files(older, Options::new()).unwrap();
     let last = MemoryFiles::found(vec![(u64::MAX - 1, vec![]), (u64::MAX, vec![])], vec![]);
     Engine::with_files(last, Options::new()).unwrap();
@@ -131,7 +131,7 @@ fn files_grow_no_more_where_an_engine_is_often_opened_again() {
 }
 
 /// Returns files with ten regions, whose entry of a thousand bytes, or else value, is in the rewrite queue.
-fn ten_moved(is_entry: bool) -> MemoryFiles {
+fn ten_moved_regions(is_entry: bool) -> MemoryFiles {
     let files = MemoryFiles::new();
     let engine = Engine::with_files(files.clone(), Options::new()).unwrap();
     for region in 0..10 {
@@ -150,7 +150,7 @@ fn ten_moved(is_entry: bool) -> MemoryFiles {
 fn what_was_found_moves_again_where_half_of_it_isnt_needed() {
     for is_entry in [true, false] {
         for (cleaned, moves) in [(0, 0), (3, 0), (6, 1)] {
-            let files = ten_moved(is_entry);
+            let files = ten_moved_regions(is_entry);
             let options = Options::new().purge_above(1000);
             let engine = Engine::with_files(files, options).unwrap();
             for region in 0..cleaned {
@@ -166,7 +166,7 @@ fn what_was_found_moves_again_where_half_of_it_isnt_needed() {
 }
 
 /// Returns files whose append queue takes away rewritten records of four regions, while the rewrite queue doesn't have that yet.
-fn untold_files() -> MemoryFiles {
+fn files_with_untold_changes() -> MemoryFiles {
     let files = MemoryFiles::new();
     let engine = Engine::with_files(files.clone(), Options::new()).unwrap();
     for region in 1..=5 {
@@ -208,7 +208,7 @@ fn assert_taken_away(files: &MemoryFiles) -> Engine<MemoryFiles> {
 
 #[test]
 fn files_stay_as_they_are_however_often_they_are_opened() {
-    let files = untold_files();
+    let files = files_with_untold_changes();
     let asked = files.asked();
     let bytes = [Queue::Append, Queue::Rewrite].map(|queue| files.files(queue));
     for _ in 0..1000 {

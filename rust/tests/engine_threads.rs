@@ -150,7 +150,7 @@ fn nobody_goes_on_before_the_sync_and_all_who_wait_go_on_after_one() {
 
 /// Returns how many syncs it takes to write four batches with a sync each, which are handed in while a new file is begun, one of
 /// them before the others.
-fn syncs_of_four() -> u64 {
+fn count_syncs_of_four() -> u64 {
     let gate = Gate::default();
     let hooked = Hooked::new(&MemoryFiles::new(), |call: Call<'_>| {
         if matches!(call, Call::Rotate(_)) {
@@ -178,12 +178,12 @@ fn syncs_of_four() -> u64 {
 #[test]
 fn who_comes_while_the_leader_waits_for_a_turn_is_in_its_group() {
     // where a thread comes late it has a group of its own
-    assert!((0..10).any(|_| syncs_of_four() == 1));
+    assert!((0..10).any(|_| count_syncs_of_four() == 1));
 }
 
 /// Returns how many of seven threads that want no sync go on before that of an eighth one is over. All of them hand in their
 /// batches while another sync is made.
-fn going_on_before_a_sync() -> usize {
+fn count_going_on_before_sync() -> usize {
     let (gates, is_first_over) = ([Gate::default(), Gate::default()], AtomicBool::new(false));
     let hooked = Hooked::new(&MemoryFiles::new(), |call: Call<'_>| {
         match call {
@@ -224,7 +224,7 @@ fn going_on_before_a_sync() -> usize {
 #[test]
 fn who_wants_no_sync_goes_on_before_it() {
     // a thread that comes late waits for the sync that is under way
-    assert!((0..10).any(|_| going_on_before_a_sync() == 7));
+    assert!((0..10).any(|_| count_going_on_before_sync() == 7));
 }
 
 /// A call that writes a batch, with or without a sync, as [`Engine::write`] does.
@@ -234,7 +234,7 @@ type Write<'a> = &'a dyn Fn(&mut LogBatch, bool) -> Result<()>;
 /// begins a file, so that the first thread writes both batches. Tests that the second thread makes the sync, and alone gets its
 /// result; `fails` says whether the sync fails. Returns false where the first thread wasn't done before that sync, else what
 /// `write` returned.
-fn hands_the_sync_on(fails: bool, write: impl FnOnce(Write<'_>) -> bool + Send) -> bool {
+fn is_sync_handed_on(fails: bool, write: impl FnOnce(Write<'_>) -> bool + Send) -> bool {
     let [rotating, syncing] = [Gate::default(), Gate::default()];
     let hooked = Hooked::new(&MemoryFiles::new(), |call: Call<'_>| match call {
         Call::Rotate(_) => {
@@ -280,7 +280,7 @@ fn hands_the_sync_on(fails: bool, write: impl FnOnce(Write<'_>) -> bool + Send) 
 #[test]
 fn who_writes_for_others_makes_no_sync_that_it_doesnt_want() {
     for fails in [false, true] {
-        let goes_on = || hands_the_sync_on(fails, |write| write(&mut batch(7, 1), false).is_ok());
+        let goes_on = || is_sync_handed_on(fails, |write| write(&mut batch(7, 1), false).is_ok());
         // a thread that comes late waits for the other one's sync
         assert!((0..10).any(|_| goes_on()));
     }
@@ -290,7 +290,7 @@ fn who_writes_for_others_makes_no_sync_that_it_doesnt_want() {
 fn whose_batch_is_refused_makes_no_sync_for_others() {
     for fails in [false, true] {
         let goes_on = || {
-            hands_the_sync_on(fails, |write| {
+            is_sync_handed_on(fails, |write| {
                 let mut hole = batch(7, 1);
                 hole.add_entries(7, 5, &["behind a hole"]).unwrap();
                 write(&mut hole, true).unwrap_err().item == Some(1)
@@ -325,7 +325,7 @@ fn reading_waits_for_no_sync() {
 }
 
 /// Opens an engine over files whose writes wait at one gate, and whose syncs wait at another.
-fn gated(
+fn gated_engine(
     writes: &Gate,
     syncs: &Gate,
 ) -> Engine<Hooked<impl Fn(Call<'_>) -> io::Result<()> + Send + Sync>> {
@@ -343,7 +343,7 @@ fn gated(
 #[test]
 fn the_newest_entry_is_read_while_its_bytes_are_on_their_way() {
     let [writes, syncs] = [Gate::default(), Gate::default()];
-    let engine = gated(&writes, &syncs);
+    let engine = gated_engine(&writes, &syncs);
     let read = |newest: u64| {
         let text = newest.to_string().into_bytes();
         assert_eq!(engine.entry(7, newest).unwrap(), Some(text));
@@ -387,7 +387,7 @@ fn what_is_written_is_read_from_its_file() {
 #[test]
 fn an_entry_is_read_while_its_bytes_move() {
     let [writes, syncs] = [Gate::default(), Gate::default()];
-    let engine = gated(&writes, &syncs);
+    let engine = gated_engine(&writes, &syncs);
     for index in 1..=3 {
         engine.write(&mut batch(7, index), false).unwrap();
     }

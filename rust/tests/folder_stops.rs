@@ -151,8 +151,8 @@ type Left = BTreeMap<String, Vec<u8>>;
 impl Disk {
     /// Returns the folders that a crash may leave: behind each change of a name, each version of one file with the first and with
     /// the last version of all others.
-    fn lefts(&self) -> BTreeSet<Left> {
-        let mut lefts = BTreeSet::new();
+    fn folders_after_crash(&self) -> BTreeSet<Left> {
+        let mut folders_after_crash = BTreeSet::new();
         for count in 0..=self.since.len() {
             let mut names = self.names.clone();
             for (name, file) in &self.since[..count] {
@@ -182,20 +182,20 @@ impl Disk {
                     for version in versions {
                         let mut left = ends.clone();
                         left.insert(name.to_string(), version.clone());
-                        lefts.insert(left);
+                        folders_after_crash.insert(left);
                     }
                 }
-                lefts.insert(ends);
+                folders_after_crash.insert(ends);
             }
         }
-        lefts
+        folders_after_crash
     }
 
     /// Applies a system call on a name in the folder, and returns whether it changes what a crash may leave. It tests that names
     /// of log files which were found, made or deleted are synced before anything else is done, and so is a file that was cut;
     /// that what is cut off is on the disk before, in a file of its own; that the locks are taken before anything else is read or
     /// made; and that no file is synced that has no new bytes.
-    fn take(&mut self, call: &Call) -> bool {
+    fn apply_call(&mut self, call: &Call) -> bool {
         let name = call.name.clone();
         let file = self.now.get(&name).copied();
         let is_change = matches!(call.what.as_str(), "write" | "ftruncate" | "unlink");
@@ -283,7 +283,7 @@ fn strings(line: &str) -> Vec<Vec<u8>> {
 
 /// Reads a line of `strace`: a call on the folder; as an `Err` the number up to which the run has printed that batches are
 /// synced; or `None` for any other call, or one that failed.
-fn read(line: &str, folder: &Path) -> Option<Result<Call, u64>> {
+fn read_line(line: &str, folder: &Path) -> Option<Result<Call, u64>> {
     let (_, line) = line.split_once(' ')?;
     let (what, words) = line.trim_start().split_once('(')?;
     let (rest, result) = words.rsplit_once(") ")?;
@@ -313,7 +313,7 @@ fn read(line: &str, folder: &Path) -> Option<Result<Call, u64>> {
 
 /// Runs the run in a folder under `strace`, and returns the lines that this writes; `None` where there is no `strace`, or it
 /// isn't allowed.
-fn traced(room: &TempFolder, folder: &Path) -> Option<String> {
+fn trace_run(room: &TempFolder, folder: &Path) -> Option<String> {
     let log = room.path().join("calls");
     let status = Command::new("strace")
         .args(["-f", "-y", "-xx", "-s", "1000000", "-o"])
@@ -340,7 +340,7 @@ fn line_of(log: &str, what: &str, path: &Path) -> Option<usize> {
 fn each_folder_that_a_stop_may_leave_has_what_was_synced() {
     let room = TempFolder::new();
     let folder = room.path().join("run");
-    let Some(log) = traced(&room, &folder) else {
+    let Some(log) = trace_run(&room, &folder) else {
         return println!("there is no strace: nothing was tested");
     };
     // the name of the folder itself is on the disk before anything lasts
@@ -350,17 +350,17 @@ fn each_folder_that_a_stop_may_leave_has_what_was_synced() {
     );
     let lasts = log
         .lines()
-        .position(|line| matches!(read(line, &folder), Some(Err(_))));
+        .position(|line| matches!(read_line(line, &folder), Some(Err(_))));
     assert!(made.is_some() && made < synced && synced < lasts);
     let (mut disk, mut certain, mut stops, mut opened) = (Disk::default(), 0, 0, 0);
     let mut tried = BTreeSet::new();
     for line in log.lines() {
-        match read(line, &folder) {
-            Some(Ok(call)) if disk.take(&call) => stops += 1,
+        match read_line(line, &folder) {
+            Some(Ok(call)) if disk.apply_call(&call) => stops += 1,
             Some(Err(lasts)) => certain = lasts,
             _ => continue,
         }
-        for left in disk.lefts() {
+        for left in disk.folders_after_crash() {
             if !tried.insert((certain, left.clone())) {
                 continue;
             }

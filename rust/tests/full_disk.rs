@@ -30,7 +30,7 @@ struct SmallDisk(TempFolder, #[expect(dead_code)] MutexGuard<'static, ()>);
 
 impl SmallDisk {
     /// Mounts one; `None` where this user isn't allowed to.
-    fn mounted() -> Option<SmallDisk> {
+    fn mount() -> Option<SmallDisk> {
         let alone = ONE_DISK.lock().unwrap_or_else(PoisonError::into_inner);
         let disk = SmallDisk(TempFolder::new(), alone);
         let mut mount = Command::new("mount");
@@ -39,7 +39,7 @@ impl SmallDisk {
         if is_mounted.is_ok_and(|ended| ended.status.success()) {
             return Some(disk);
         }
-        println!("no file system can be mounted: nothing was tested");
+        println!("no file system can be mount: nothing was tested");
         None
     }
 
@@ -109,7 +109,7 @@ fn files_in(folder: &Path) -> BTreeMap<String, Vec<u8>> {
 
 /// Opens a folder on a full disk, in which nothing has to be cut, and returns the engine. Nothing is written, so no room is
 /// needed.
-fn opened_without_room(folder: &Path) -> Engine {
+fn open_without_room(folder: &Path) -> Engine {
     let before = files_in(folder);
     let engine = Engine::open(folder, Options::new()).unwrap();
     assert_eq!(files_in(folder), before);
@@ -118,7 +118,7 @@ fn opened_without_room(folder: &Path) -> Engine {
 
 #[test]
 fn a_full_disk_is_read_and_goes_on_once_there_is_room() {
-    let Some(disk) = SmallDisk::mounted() else {
+    let Some(disk) = SmallDisk::mount() else {
         return;
     };
     disk.fill();
@@ -136,7 +136,7 @@ fn a_full_disk_is_read_and_goes_on_once_there_is_room() {
     assert_eq!(engine.last_index(7).unwrap(), Some(written));
     assert_read(&engine, written);
     drop(engine);
-    let engine = opened_without_room(&disk.path());
+    let engine = open_without_room(&disk.path());
     assert_eq!(engine.recovered().cuts().count(), 0);
     assert_read(&engine, written);
     drop(engine);
@@ -182,7 +182,7 @@ fn assert_three(engine: &Engine, last: u64) {
 
 #[test]
 fn a_full_disk_is_freed_by_a_purge_and_goes_on() {
-    let Some(disk) = SmallDisk::mounted() else {
+    let Some(disk) = SmallDisk::mount() else {
         return;
     };
     let options = || Options::new().target_file_size(3 * ENTRY as u64);
@@ -196,7 +196,7 @@ fn a_full_disk_is_freed_by_a_purge_and_goes_on() {
         assert_three(&engine, last);
         assert_full(&engine.purge().unwrap_err());
         drop(engine);
-        let engine = opened_without_room(&disk.path());
+        let engine = open_without_room(&disk.path());
         assert_three(&engine, last);
         let asked = engine.stats();
         let purged = engine.purge().unwrap();
@@ -210,7 +210,7 @@ fn a_full_disk_is_freed_by_a_purge_and_goes_on() {
 
 #[test]
 fn an_engine_that_found_no_room_in_the_midst_of_a_write_goes_on_once_there_is_some() {
-    let Some(disk) = SmallDisk::mounted() else {
+    let Some(disk) = SmallDisk::mount() else {
         return;
     };
     disk.fill();
@@ -248,7 +248,7 @@ fn an_engine_that_found_no_room_in_the_midst_of_a_write_goes_on_once_there_is_so
     assert!(more > written + 4);
     assert_read(&engine, more);
     drop(engine);
-    let engine = opened_without_room(&disk.path());
+    let engine = open_without_room(&disk.path());
     assert_eq!(engine.recovered().cuts().count(), 0);
     assert_eq!(engine.last_index(7).unwrap(), Some(more));
     assert_read(&engine, more);
@@ -256,7 +256,7 @@ fn an_engine_that_found_no_room_in_the_midst_of_a_write_goes_on_once_there_is_so
 
 #[test]
 fn a_tail_that_finds_no_room_beside_its_file_stays_uncut() {
-    let Some(disk) = SmallDisk::mounted() else {
+    let Some(disk) = SmallDisk::mount() else {
         return;
     };
     disk.fill();
@@ -288,7 +288,7 @@ fn a_tail_that_finds_no_room_beside_its_file_stays_uncut() {
 
 #[test]
 fn bytes_that_find_no_room_are_taken_back() -> io::Result<()> {
-    let Some(disk) = SmallDisk::mounted() else {
+    let Some(disk) = SmallDisk::mount() else {
         return Ok(());
     };
     let files = FolderFiles::open(disk.path()).unwrap();

@@ -29,7 +29,7 @@ thread_local! {
 struct Noting;
 
 /// Returns the layout of a block with room for a note of `layout` before it, and how many bytes that room has.
-fn noted(layout: Layout) -> (Layout, usize) {
+fn layout_with_note(layout: Layout) -> (Layout, usize) {
     let front = layout.align().max(OF_LIBRARY);
     let size = layout.size() + front;
     (Layout::from_size_align(size, front).unwrap(), front)
@@ -45,7 +45,7 @@ unsafe impl GlobalAlloc for Noting {
             GRANTED.set(GRANTED.get() - 1);
             LIVE.set(LIVE.get() + 1);
         }
-        let (whole, front) = noted(layout);
+        let (whole, front) = layout_with_note(layout);
         // SAFETY: the block has room for two numbers in front of what is handed out.
         unsafe {
             let at = System.alloc(whole).add(front);
@@ -66,7 +66,7 @@ unsafe impl GlobalAlloc for Noting {
             if align == OF_LIBRARY {
                 LIVE.set(LIVE.get() - 1);
             }
-            let (whole, front) = noted(Layout::from_size_align_unchecked(size, align));
+            let (whole, front) = layout_with_note(Layout::from_size_align_unchecked(size, align));
             System.dealloc(at.sub(front), whole);
         }
     }

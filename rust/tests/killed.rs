@@ -10,7 +10,7 @@ use std::path::PathBuf;
 use std::process::{Command, Stdio};
 
 /// Returns the path of the program, which `cargo test` builds beside the tests.
-fn program() -> PathBuf {
+fn program_path() -> PathBuf {
     let tests = env::current_exe().unwrap();
     let path = tests.ancestors().nth(2).unwrap().join("examples/ten_lines");
     assert!(
@@ -26,7 +26,7 @@ fn a_program_that_is_killed_while_it_writes_finds_what_it_wrote() {
     let room = TempFolder::new();
     let mut wrote = 0;
     for round in 1..=5 {
-        let mut child = Command::new(program())
+        let mut child = Command::new(program_path())
             .arg(room.path())
             .stdout(Stdio::piped())
             .spawn()

@@ -103,7 +103,7 @@ impl Model {
         }
     }
 
-    fn take(&mut self, step: &Step) {
+    fn apply(&mut self, step: &Step) {
         match step {
             Step::Append(entries) => {
                 self.entries.split_off(&entries[0].index);
@@ -133,7 +133,7 @@ fn take<F: Files>(log: &mut RaftStorage<F>, step: Step) -> Result<()> {
 }
 
 /// Tests, by the six calls of a log, whether it has what it has to have.
-fn has<F: Files>(log: &RaftStorage<F>, model: &Model) -> bool {
+fn has_all<F: Files>(log: &RaftStorage<F>, model: &Model) -> bool {
     let (first, last) = (model.snapshot.index + 1, model.last());
     if (log.first_index().unwrap(), log.last_index().unwrap()) != (first, last) {
         return false;
@@ -204,7 +204,7 @@ fn options() -> Options {
 }
 
 /// Returns the files that a random crash leaves behind the first `asks` asks.
-fn left(files: &MemoryFiles, asks: usize, draw: &mut Draw) -> MemoryFiles {
+fn draw_left(files: &MemoryFiles, asks: usize, draw: &mut Draw) -> MemoryFiles {
     let [append, rewrite] = [Queue::Append, Queue::Rewrite].map(|queue| {
         let Unsynced { steps, deletions } = files.unsynced(asks, queue);
         Unsynced {
@@ -223,16 +223,16 @@ fn a_log_has_what_was_acknowledged_wherever_the_machine_stops() {
         for _life in 0..8 {
             let engine = Arc::new(Engine::with_files(files.clone(), options()).unwrap());
             let mut log = RaftStorage::open(engine.clone(), REGION).unwrap();
-            assert!(has(&log, &model));
+            assert!(has_all(&log, &model));
             let (mut before, mut asked) = (model.clone(), files.asked());
             let mut acknowledged = asked;
             for _ in 0..1 + draw.below(30) {
                 (before, asked) = (model.clone(), files.asked());
                 let step = model.draw(&mut draw);
-                model.take(&step);
+                model.apply(&step);
                 take(&mut log, step).unwrap();
                 acknowledged = files.asked();
-                assert!(has(&log, &model));
+                assert!(has_all(&log, &model));
                 assert_refuses(&mut log);
                 if draw.once_in(10) {
                     engine.purge().unwrap();
@@ -240,11 +240,11 @@ fn a_log_has_what_was_acknowledged_wherever_the_machine_stops() {
             }
             // the machine stops in the midst of the last step, or behind it
             let asks = asked + draw.below(files.asked() - asked + 1);
-            files = left(&files, asks, &mut draw);
+            files = draw_left(&files, asks, &mut draw);
             let engine = Arc::new(Engine::with_files(files.clone(), options()).unwrap());
             let log = RaftStorage::open(engine, REGION).unwrap();
-            if !has(&log, &model) {
-                assert!(asks < acknowledged && has(&log, &before), "seed {seed}");
+            if !has_all(&log, &model) {
+                assert!(asks < acknowledged && has_all(&log, &before), "seed {seed}");
                 model = before;
             }
         }
@@ -296,7 +296,7 @@ impl History {
 
     fn next(&mut self) -> Step {
         let step = self.model.draw(&mut self.draw);
-        self.model.take(&step);
+        self.model.apply(&step);
         step
     }
 }
@@ -325,7 +325,7 @@ fn writes_until_it_is_killed() {
 
 /// Starts the test that writes, kills it, and returns the number of the last step that it has printed as taken. `taken` steps of
 /// the history were taken before.
-fn killed(folder: &TempFolder, seed: u64, taken: u64, draw: &mut Draw) -> u64 {
+fn write_until_killed(folder: &TempFolder, seed: u64, taken: u64, draw: &mut Draw) -> u64 {
     let mut child = Command::new(env::current_exe().unwrap())
         .args(["--exact", "writes_until_it_is_killed"])
         .args(["--ignored", "--nocapture"])
@@ -360,7 +360,7 @@ fn a_log_has_what_was_acknowledged_whenever_its_process_is_killed() {
         let mut history = History::new(seed);
         let mut taken = 0;
         for _ in 0..KILLS {
-            let said = killed(&room, seed, taken, &mut draw);
+            let said = write_until_killed(&room, seed, taken, &mut draw);
             assert!(said > taken);
             while taken < said {
                 history.next();
@@ -368,11 +368,11 @@ fn a_log_has_what_was_acknowledged_whenever_its_process_is_killed() {
             }
             let engine = Arc::new(Engine::open(room.path(), options()).unwrap());
             let log = RaftStorage::open(engine, REGION).unwrap();
-            if !has(&log, &history.model) {
+            if !has_all(&log, &history.model) {
                 // the step that it was taking when it was killed may be there
                 history.next();
                 taken += 1;
-                assert!(has(&log, &history.model), "seed {seed}, step {said}");
+                assert!(has_all(&log, &history.model), "seed {seed}, step {said}");
             }
         }
         steps += taken;

@@ -23,7 +23,7 @@ use std::{env, fs, io};
 const FOLDER: &str = "RAFT_RECOVER_READ_ONLY";
 
 /// Returns the errors of all kinds of changes of an engine, each with the name of its call.
-fn changes<F: Files>(engine: &Engine<F>) -> [(&'static str, raft_recover::Error); 6] {
+fn errors_of_changes<F: Files>(engine: &Engine<F>) -> [(&'static str, raft_recover::Error); 6] {
     let mut batch = LogBatch::new().unwrap();
     batch.put(7, b"key", b"value").unwrap();
     let size = batch.approximate_size();
@@ -86,7 +86,7 @@ fn nothing_is_asked_but_to_read_and_every_change_is_refused_by_name() {
     assert!(engine.is_read_only());
     assert_eq!(region_of(&engine, 7).unwrap(), expected());
     assert_eq!(engine.regions().unwrap(), [7]);
-    for (name, e) in changes(&engine) {
+    for (name, e) in errors_of_changes(&engine) {
         assert_eq!(e.kind, ErrorKind::InvalidArgument);
         let text = format!("Invalid Argument: {name}: the engine is open for reading alone");
         assert_eq!(e.text, text);
@@ -138,7 +138,7 @@ fn files_in(folder: &Path) -> BTreeMap<String, (Vec<u8>, i64, i64)> {
 }
 
 /// Writes the torn files into a folder.
-fn fill(folder: &Path) {
+fn write_torn_files(folder: &Path) {
     let files = torn_files();
     for (queue, ending) in [(Queue::Append, "raftlog"), (Queue::Rewrite, "rewrite")] {
         for (seq, bytes) in files.files(queue) {
@@ -150,12 +150,15 @@ fn fill(folder: &Path) {
 #[test]
 fn a_folder_stays_as_it_is() {
     let room = TempFolder::new();
-    fill(room.path());
+    write_torn_files(room.path());
     let before = files_in(room.path());
     assert_eq!(before.len(), 2);
     let engine = Engine::open_read_only(room.path(), Options::new()).unwrap();
     assert_eq!(region_of(&engine, 7).unwrap(), expected());
-    assert_eq!(changes(&engine)[0].1.kind, ErrorKind::InvalidArgument);
+    assert_eq!(
+        errors_of_changes(&engine)[0].1.kind,
+        ErrorKind::InvalidArgument
+    );
     drop(engine);
     assert_eq!(files_in(room.path()), before);
 
@@ -208,7 +211,7 @@ fn files_that_are_read_alone_refuse_every_change() {
         |files| files.truncate(FileId::new(Queue::Append, 2), 0),
     ];
     let room = TempFolder::new();
-    fill(room.path());
+    write_torn_files(room.path());
     let before = files_in(room.path());
     let files = FolderFiles::open_read_only(room.path()).unwrap();
     for change in changes {
@@ -247,7 +250,7 @@ fn a_folder_that_may_only_be_read_is_opened() {
     let room = TempFolder::new();
     let folder = room.path().join("folder");
     fs::create_dir(&folder).unwrap();
-    fill(&folder);
+    write_torn_files(&folder);
     fs::write(folder.join("LOCK"), "").unwrap();
     for entry in fs::read_dir(&folder).unwrap() {
         fs::set_permissions(entry.unwrap().path(), Permissions::from_mode(0o444)).unwrap();

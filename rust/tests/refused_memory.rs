@@ -34,7 +34,7 @@ fn layout(n: usize) -> Layout {
     Layout::from_size_align(n + HEAD, HEAD).unwrap()
 }
 
-fn tried(p: *mut u8, n: usize) -> Tried {
+fn answer_request(p: *mut u8, n: usize) -> Tried {
     if p.is_null() {
         return refusal();
     }
@@ -69,7 +69,7 @@ extern "C" fn rattle_alloc(n: usize, _a: usize) -> Tried {
     }
     LIVE.fetch_add(1, SeqCst);
     // SAFETY: the layout isn't empty.
-    tried(unsafe { alloc(layout(n)) }, n)
+    answer_request(unsafe { alloc(layout(n)) }, n)
 }
 
 #[unsafe(no_mangle)]
@@ -77,18 +77,18 @@ unsafe extern "C" fn rattle_realloc(p: *mut u8, _kept: usize, n: usize, _a: usiz
     if is_refused() {
         return refusal();
     }
-    // SAFETY: the block came from `tried`.
+    // SAFETY: the block came from `answer_request`.
     unsafe {
         let block = p.sub(HEAD);
         let old = block.cast::<usize>().read();
-        tried(realloc(block, layout(old), n + HEAD), n)
+        answer_request(realloc(block, layout(old), n + HEAD), n)
     }
 }
 
 #[unsafe(no_mangle)]
 unsafe extern "C" fn rattle_dealloc(p: *mut u8) {
     LIVE.fetch_sub(1, SeqCst);
-    // SAFETY: the block came from `tried`.
+    // SAFETY: the block came from `answer_request`.
     unsafe {
         let block = p.sub(HEAD);
         dealloc(block, layout(block.cast::<usize>().read()));
@@ -98,7 +98,7 @@ unsafe extern "C" fn rattle_dealloc(p: *mut u8) {
 /// Makes a call again and again, and refuses a later request for memory each time, until none is refused. Tests that it fails
 /// with `Memory`, or returns an answer that `shown` shows as `whole`, and that no block of memory is left. Returns how often it
 /// failed.
-fn refused_in_turn<T>(
+fn refuse_in_turn<T>(
     whole: &str,
     call: impl Fn() -> Result<T>,
     shown: impl Fn(T) -> String,
@@ -199,11 +199,11 @@ fn every_request_refused_in_turn() {
     let whole = recovered().unwrap().to_string();
     let live = recovered().unwrap().live(Queue::Append).to_string();
     assert_eq!(LIVE.load(SeqCst), 0);
-    let refused = refused_in_turn(&whole, recovered, |tables| tables.to_string());
+    let refused = refuse_in_turn(&whole, recovered, |tables| tables.to_string());
     // Where a way that is tried first finds no memory, the other one asks again, and gets it.
     assert!(refused > 20, "{refused}");
     println!("{refused} requests refused");
-    refused_in_turn(
+    refuse_in_turn(
         &live,
         || recovered()?.into_slots(),
         |slots| {
@@ -234,7 +234,7 @@ fn slot_with_share() -> Result<Slot> {
 fn a_share_is_tested_and_written_without_leaks_where_memory_is_refused() {
     let _turn = TURN.lock();
     let live = |slot: Slot| slot.live(Queue::Append).to_string();
-    let refused = refused_in_turn("3", slot_with_share, live);
+    let refused = refuse_in_turn("3", slot_with_share, live);
     assert!(refused > 20, "{refused}");
 }
 
@@ -338,7 +338,7 @@ fn damaged_batches_that_are_found_without_memory_are_all_named_or_nothing_is_ope
     };
     let whole: String = shown(open().unwrap());
     assert_eq!(whole.lines().count(), 3);
-    assert!(refused_in_turn(&whole, open, shown) > 10);
+    assert!(refuse_in_turn(&whole, open, shown) > 10);
 }
 
 #[test]

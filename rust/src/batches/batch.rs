@@ -140,7 +140,7 @@ impl Batch {
     }
 
     /// Makes a batch of a handle that holds items.
-    pub(crate) fn of(handle: ItemsHandle) -> Batch {
+    pub(crate) fn from_handle(handle: ItemsHandle) -> Batch {
         Batch { handle }
     }
 

@@ -64,7 +64,7 @@ impl Commit {
             }
             Err(e) => {
                 let summary = |region| tables.summary(region);
-                self.result = Some(Err(self.batch.name_misfit(e, |_| true, summary)));
+                self.result = Some(Err(self.batch.name_refused_item(e, |_| true, summary)));
             }
         }
     }
@@ -89,9 +89,9 @@ impl Commits {
         let spare = line.spare.pop().map_or_else(LogBatch::new, Ok)?;
         let ticket = line.hand_in(mem::replace(batch, spare), sync);
         loop {
-            if let Some(over) = line.take_ended(ticket) {
+            if let Some(over) = line.take_finished(ticket) {
                 line.spare.push(mem::replace(batch, over.batch));
-                return over.result.unwrap_or_else(|| Err(Error::of_emptied()));
+                return over.result.unwrap_or_else(|| Err(Error::failed()));
             }
             if line.is_led || (!sync && !line.unsynced.is_empty()) {
                 line.sleepers += 1;
@@ -101,7 +101,7 @@ impl Commits {
             }
             line.is_led = true;
             drop(line);
-            lead(&mut Group::of(self, ticket));
+            lead(&mut Group::led_by(self, ticket));
             line = locks::lock(&self.line);
         }
     }
@@ -135,7 +135,7 @@ impl Line {
     }
 
     /// Takes the batch of a ticket out of the line, once its thread may go on; `None` before.
-    fn take_ended(&mut self, ticket: u64) -> Option<Commit> {
+    fn take_finished(&mut self, ticket: u64) -> Option<Commit> {
         let at = self.over.iter().position(|over| over.ticket == ticket)?;
         Some(self.over.swap_remove(at))
     }

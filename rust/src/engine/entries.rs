@@ -1,7 +1,7 @@
 //! Entries that were read, and how their blocks are read.
 
 use super::Engine;
-use crate::sys::block_entries;
+use crate::sys::check_entry_block;
 use crate::{Block, Entry, Error, Files, Result};
 use std::fmt;
 use std::iter::FusedIterator;
@@ -69,12 +69,12 @@ impl Entries {
         for entry in entries {
             let with_entry = |e: Error| e.with_entry(region, entry.index);
             if last != Some(entry.block) {
-                blocks.push(entry_bytes(engine, entry.block).map_err(with_entry)?);
+                blocks.push(get_or_read_entry_bytes(engine, entry.block).map_err(with_entry)?);
                 last = Some(entry.block);
             }
             let block = blocks.len() - 1;
-            let bytes = bytes_of(entry, blocks[block].len())
-                .ok_or_else(|| of_lacking(entry))
+            let bytes = range_in_block(entry, blocks[block].len())
+                .ok_or_else(|| lacking_bytes_error(entry))
                 .map_err(with_entry)?;
             let index = entry.index;
             places.push(Place {
@@ -131,11 +131,11 @@ impl Entries {
     ) -> impl DoubleEndedIterator<Item = (u64, &[u8])> + ExactSizeIterator + FusedIterator + Clone
     {
         let places = self.rest.as_slice().iter();
-        places.map(|place| (place.index, self.bytes(place)))
+        places.map(|place| (place.index, self.bytes_at(place)))
     }
 
     /// Returns the bytes of the entry that `place` describes.
-    fn bytes(&self, place: &Place) -> &[u8] {
+    fn bytes_at(&self, place: &Place) -> &[u8] {
         &self.blocks[place.block][place.bytes.clone()]
     }
 }
@@ -145,7 +145,7 @@ impl Iterator for Entries {
 
     fn next(&mut self) -> Option<Vec<u8>> {
         let place = self.rest.next()?;
-        Some(self.bytes(&place).to_vec())
+        Some(self.bytes_at(&place).to_vec())
     }
 
     fn size_hint(&self) -> (usize, Option<usize>) {
@@ -156,7 +156,7 @@ impl Iterator for Entries {
 impl DoubleEndedIterator for Entries {
     fn next_back(&mut self) -> Option<Vec<u8>> {
         let place = self.rest.next_back()?;
-        Some(self.bytes(&place).to_vec())
+        Some(self.bytes_at(&place).to_vec())
     }
 }
 
@@ -184,9 +184,9 @@ pub(super) struct EntryBytes {
 
 impl EntryBytes {
     /// Returns the bytes of an entry from the kept blocks; `None` where its block isn't kept, or doesn't have these bytes.
-    pub(super) fn of_kept<F: Files>(engine: &Engine<F>, entry: &Entry) -> Option<EntryBytes> {
+    pub(super) fn from_kept<F: Files>(engine: &Engine<F>, entry: &Entry) -> Option<EntryBytes> {
         let block = engine.kept_blocks.get(&entry.block)?;
-        let bytes = bytes_of(entry, block.len())?;
+        let bytes = range_in_block(entry, block.len())?;
         Some(EntryBytes { block, bytes })
     }
 
@@ -204,8 +204,8 @@ impl EntryBytes {
         let with_entry = |e: Error| e.with_entry(region, entry.index);
         let block = Arc::new(read_entry_bytes(engine, entry.block).map_err(with_entry)?);
         engine.kept_blocks.keep(&entry.block, &block);
-        let bytes = bytes_of(entry, block.len())
-            .ok_or_else(|| of_lacking(entry))
+        let bytes = range_in_block(entry, block.len())
+            .ok_or_else(|| lacking_bytes_error(entry))
             .map_err(with_entry)?;
         Ok(EntryBytes { block, bytes })
     }
@@ -237,7 +237,7 @@ pub(super) fn read_block<F: Files>(engine: &Engine<F>, block: Block) -> Result<V
         engine
             .read_at(block.file, block.offset, &mut bytes)
             .map_err(|e| {
-                Error::system("the block can't be read", e).at(block.file, block.offset)
+                Error::system("the block can't be read", e).with_place(block.file, block.offset)
             })?;
     }
     Ok(bytes)
@@ -248,7 +248,7 @@ pub(super) fn read_block<F: Files>(engine: &Engine<F>, block: Block) -> Result<V
 /// # Errors
 ///
 /// Those of [`read_entry_bytes`].
-fn entry_bytes<F: Files>(engine: &Engine<F>, block: Block) -> Result<Arc<Vec<u8>>> {
+fn get_or_read_entry_bytes<F: Files>(engine: &Engine<F>, block: Block) -> Result<Arc<Vec<u8>>> {
     match engine.kept_blocks.get(&block) {
         Some(kept) => Ok(kept),
         None => Ok(Arc::new(read_entry_bytes(engine, block)?)),
@@ -263,7 +263,7 @@ fn entry_bytes<F: Files>(engine: &Engine<F>, block: Block) -> Result<Arc<Vec<u8>
 pub(super) fn read_entry_bytes<F: Files>(engine: &Engine<F>, block: Block) -> Result<Vec<u8>> {
     let mut bytes = read_block(engine, block)?;
     if block.len > 0 {
-        let len = block_entries(&bytes).map_err(|e| e.at(block.file, block.offset))?;
+        let len = check_entry_block(&bytes).map_err(|e| e.with_place(block.file, block.offset))?;
         bytes.truncate(len);
     }
     Ok(bytes)
@@ -271,7 +271,7 @@ pub(super) fn read_entry_bytes<F: Files>(engine: &Engine<F>, block: Block) -> Re
 
 /// Returns the range in which the bytes of an entry are among the `len` entry bytes of its block; `None` where it would end
 /// behind these.
-fn bytes_of(entry: &Entry, len: usize) -> Option<Range<usize>> {
+fn range_in_block(entry: &Entry, len: usize) -> Option<Range<usize>> {
     let from = entry.offset as usize;
     let end = from.saturating_add(entry.len as usize);
     (end <= len).then_some(from..end)
@@ -279,7 +279,7 @@ fn bytes_of(entry: &Entry, len: usize) -> Option<Range<usize>> {
 
 /// Makes the error for an entry whose bytes would end behind those of its block.
 #[cold]
-fn of_lacking(entry: &Entry) -> Error {
+fn lacking_bytes_error(entry: &Entry) -> Error {
     let Block { file, offset, .. } = entry.block;
     let text = "the bytes of an entry end behind those of its block";
     Error::corruption(file, offset, text)

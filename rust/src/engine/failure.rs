@@ -22,7 +22,7 @@ impl<F: Files> Engine<F> {
     pub(super) fn check_intact(&self) -> Result<()> {
         match self.failure.get() {
             None => Ok(()),
-            Some(failure) => Err(failure.reason.as_failure()),
+            Some(failure) => Err(failure.reason.to_failed()),
         }
     }
 
@@ -33,25 +33,25 @@ impl<F: Files> Engine<F> {
     /// `Failed`, with the reason and its place, where it can't.
     pub(super) fn check_readable(&self) -> Result<()> {
         match self.failure.get() {
-            Some(failure) if !failure.is_readable => Err(failure.reason.as_failure()),
+            Some(failure) if !failure.is_readable => Err(failure.reason.to_failed()),
             _ => Ok(()),
         }
     }
 
     /// Notes that the engine has failed, and can't be read any more. Returns the reason, as it is.
     pub(super) fn fail(&self, reason: Error) -> Error {
-        self.fail_as(reason, false)
+        self.note_failure(reason, false)
     }
 
     /// Notes that the files have failed. All that the tables have can still be read: bytes that were ordered and not written are
     /// read from memory. Returns the reason, as it is.
     pub(super) fn fail_files(&self, reason: Error) -> Error {
-        self.fail_as(reason, true)
+        self.note_failure(reason, true)
     }
 
     /// Notes why the engine has failed, and whether it can still be read, unless a failure is noted already. Returns the reason,
     /// as it is.
-    fn fail_as(&self, reason: Error, is_readable: bool) -> Error {
+    fn note_failure(&self, reason: Error, is_readable: bool) -> Error {
         let failure = Failure {
             reason: reason.clone(),
             is_readable,
@@ -66,7 +66,7 @@ impl<F: Files> Engine<F> {
     ///
     /// Those of [`Files::read`].
     pub(super) fn read_at(&self, file: FileId, offset: u64, bytes: &mut [u8]) -> io::Result<()> {
-        if self.unwritten.read_into(file, offset, bytes) {
+        if self.unwritten.try_read_into(file, offset, bytes) {
             return Ok(());
         }
         self.files.read(file, offset, bytes)

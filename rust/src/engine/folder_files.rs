@@ -17,9 +17,9 @@ mod reading;
 mod writing;
 
 use locking::LockedFolder;
-use names::{id_of, name_of};
+use names::{log_file_name, parse_log_file_name};
 use reading::read_at;
-use writing::{Unmade, lacks_room, write_all_or_nothing};
+use writing::{ChangeError, is_out_of_room, write_all_or_nothing};
 
 /// The files of both queues in a folder, as `0000000000000001.raftlog` and `0000000000000001.rewrite`, and a file `LOCK`. That
 /// file and the folder itself are locked as long as this value lives. Files with other names are left alone.
@@ -93,7 +93,7 @@ impl FolderFiles {
         }
         let path = fs::canonicalize(path).map_err(about)?;
         let locked = LockedFolder::lock_exclusive(&path)?;
-        let files = open_log_files(&path, open_synced)?;
+        let files = open_log_files(&path, open_and_sync)?;
         locked.folder.sync_all().map_err(about)?;
         let parent = File::open(path.join("..")).map_err(about)?;
         parent.sync_all().map_err(about)?;
@@ -171,7 +171,7 @@ impl FolderFiles {
     /// ```
     #[must_use]
     pub fn path_of(&self, file: FileId) -> PathBuf {
-        self.path.join(name_of(file))
+        self.path.join(log_file_name(file))
     }
 
     /// Returns the open log file with an id.
@@ -191,8 +191,8 @@ impl FolderFiles {
     /// # Errors
     ///
     /// Those of the system. The files that are still in `unsynced` may not be synced.
-    fn sync_new(&self, queue: Queue, unsynced: &mut BTreeSet<FileId>) -> io::Result<()> {
-        while let Some(file) = unsynced.range(files_of(queue)).next().copied() {
+    fn sync_unsynced(&self, queue: Queue, unsynced: &mut BTreeSet<FileId>) -> io::Result<()> {
+        while let Some(file) = unsynced.range(ids_of_queue(queue)).next().copied() {
             self.open_file(file)?.sync_data()?;
             unsynced.remove(&file);
         }
@@ -207,9 +207,9 @@ impl FolderFiles {
     ///
     /// Those of `change`. After one that may have left the change half made (`InPart`), and in a folder that is open to be read
     /// alone, every change is refused.
-    fn change(
+    fn make_change(
         &self,
-        change: impl FnOnce(&mut BTreeSet<FileId>) -> std::result::Result<(), Unmade>,
+        change: impl FnOnce(&mut BTreeSet<FileId>) -> std::result::Result<(), ChangeError>,
     ) -> io::Result<()> {
         let mut changes = locks::lock(&self.changes);
         if let Some(why) = changes.refused {
@@ -218,8 +218,8 @@ impl FolderFiles {
         changes.refused = Some("an earlier change failed");
         let result = match change(&mut changes.unsynced) {
             Ok(()) => Ok(()),
-            Err(Unmade::AsBefore(e)) => Err(e),
-            Err(Unmade::InPart(e)) => return Err(e),
+            Err(ChangeError::AsBefore(e)) => Err(e),
+            Err(ChangeError::InPart(e)) => return Err(e),
         };
         changes.refused = None;
         result
@@ -229,32 +229,32 @@ impl FolderFiles {
 impl Files for FolderFiles {
     fn list(&self, queue: Queue) -> io::Result<Vec<(u64, u64)>> {
         let files = locks::lock_to_read(&self.files);
-        let of_queue = files.range(files_of(queue));
+        let of_queue = files.range(ids_of_queue(queue));
         of_queue
             .map(|(id, file)| Ok((id.seq, file.metadata()?.len())))
             .collect()
     }
 
     fn write(&self, file: FileId, bytes: &[u8]) -> io::Result<()> {
-        self.change(|unsynced| {
+        self.make_change(|unsynced| {
             unsynced.insert(file);
             write_all_or_nothing(self.open_file(file)?.as_ref(), bytes)
         })
     }
 
     fn sync(&self, queue: Queue) -> io::Result<()> {
-        self.change(|unsynced| Ok(self.sync_new(queue, unsynced)?))
+        self.make_change(|unsynced| Ok(self.sync_unsynced(queue, unsynced)?))
     }
 
     fn rotate(&self, file: FileId) -> io::Result<()> {
         self.free_deleted(); // none is left, but where this is wrapped in files that don't hand the call on
-        self.change(|unsynced| {
-            self.sync_new(file.queue, unsynced)?;
+        self.make_change(|unsynced| {
+            self.sync_unsynced(file.queue, unsynced)?;
             let mut how = OpenOptions::new();
             how.create_new(true).read(true).append(true);
             let opened = how.open(self.path_of(file)).map_err(|e| {
-                if lacks_room(&e) {
-                    return Unmade::AsBefore(e);
+                if is_out_of_room(&e) {
+                    return ChangeError::AsBefore(e);
                 }
                 e.into()
             })?;
@@ -265,7 +265,7 @@ impl Files for FolderFiles {
     }
 
     fn delete(&self, file: FileId) -> io::Result<()> {
-        self.change(|unsynced| {
+        self.make_change(|unsynced| {
             unsynced.remove(&file);
             let opened = locks::lock_to_change(&self.files).remove(&file);
             locks::lock(&self.deleted).extend(opened);
@@ -275,7 +275,7 @@ impl Files for FolderFiles {
     }
 
     fn truncate(&self, file: FileId, len: u64) -> io::Result<()> {
-        self.change(|unsynced| {
+        self.make_change(|unsynced| {
             let opened = self.open_file(file)?;
             let old = opened.metadata()?.len();
             if len < old {
@@ -328,7 +328,7 @@ fn open_log_files(
     let mut files = BTreeMap::new();
     for entry in fs::read_dir(folder).map_err(about)? {
         let entry = entry.map_err(about)?;
-        if let Some(id) = id_of(&entry.file_name().to_string_lossy())? {
+        if let Some(id) = parse_log_file_name(&entry.file_name().to_string_lossy())? {
             let path = entry.path();
             let about = |e| Error::system(path.display(), e);
             if !fs::metadata(&path).map_err(about)?.is_file() {
@@ -347,13 +347,13 @@ fn open_log_files(
 /// # Errors
 ///
 /// Those of the system.
-fn open_synced(path: PathBuf) -> io::Result<File> {
+fn open_and_sync(path: PathBuf) -> io::Result<File> {
     let file = OpenOptions::new().read(true).append(true).open(path)?;
     file.sync_all()?;
     Ok(file)
 }
 
 /// Returns the range of all ids that files of a queue can have: the numbers 0 to 2^64 - 1.
-fn files_of(queue: Queue) -> std::ops::RangeInclusive<FileId> {
+fn ids_of_queue(queue: Queue) -> std::ops::RangeInclusive<FileId> {
     FileId::new(queue, 0)..=FileId::new(queue, u64::MAX)
 }

@@ -138,7 +138,7 @@ impl Drop for Telling<'_> {
 
 impl Events {
     /// Makes the events for a listener, if there is one. None waits yet.
-    pub(super) fn of(listener: Option<Arc<dyn Listener>>) -> Events {
+    pub(super) fn new(listener: Option<Arc<dyn Listener>>) -> Events {
         Events {
             listener,
             line: Mutex::default(),
@@ -257,7 +257,7 @@ impl<F: Files> Engine<F> {
         options: Options,
         listener: Arc<dyn Listener>,
     ) -> Result<Engine<F>> {
-        Engine::open_over(files, options, Some(listener))
+        Engine::open_files(files, options, Some(listener))
     }
 
     /// Makes a call that may change something, tells the listener what was done, also where the call was refused, and returns

@@ -111,7 +111,7 @@ impl MemoryFiles {
     #[must_use]
     pub fn files(&self, queue: Queue) -> Vec<(u64, Vec<u8>)> {
         let held = locks::lock(&self.held);
-        held.files[position_of(queue)].iter().cloned().collect()
+        held.files[queue_position(queue)].iter().cloned().collect()
     }
 
     /// Returns a copy of the list of asks, oldest first. It has the changes that succeeded.
@@ -188,10 +188,10 @@ impl MemoryFiles {
     pub fn left(&self, asks: usize, append: Unsynced, rewrite: Unsynced) -> MemoryFiles {
         let held = locks::lock(&self.held);
         let left = |queue, stays| {
-            let mut queue_left = Left::of(&held.found[position_of(queue)]);
+            let mut queue_left = Left::from_found(&held.found[queue_position(queue)]);
             for ask in held.asks.iter().take(asks) {
                 if ask.queue() == queue {
-                    queue_left.take_ask(ask);
+                    queue_left.apply_ask(ask);
                 }
             }
             queue_left.files_after_crash(stays)
@@ -204,7 +204,7 @@ impl MemoryFiles {
 impl Files for MemoryFiles {
     fn list(&self, queue: Queue) -> io::Result<Vec<(u64, u64)>> {
         let held = locks::lock(&self.held);
-        let files = held.files[position_of(queue)].iter();
+        let files = held.files[queue_position(queue)].iter();
         Ok(files
             .map(|(seq, bytes)| (*seq, bytes.len() as u64))
             .collect())
@@ -224,7 +224,7 @@ impl Files for MemoryFiles {
 
     fn rotate(&self, file: FileId) -> io::Result<()> {
         let mut held = locks::lock(&self.held);
-        let files = &mut held.files[position_of(file.queue)];
+        let files = &mut held.files[queue_position(file.queue)];
         if files.back().is_some_and(|(last, _)| *last >= file.seq) {
             return refuse("a new file has a greater number than the last one");
         }
@@ -235,7 +235,7 @@ impl Files for MemoryFiles {
 
     fn delete(&self, file: FileId) -> io::Result<()> {
         let mut held = locks::lock(&self.held);
-        let files = &mut held.files[position_of(file.queue)];
+        let files = &mut held.files[queue_position(file.queue)];
         if files.len() < 2 || files[0].0 != file.seq {
             return refuse("the oldest file goes first, and the last one stays");
         }
@@ -253,7 +253,7 @@ impl Files for MemoryFiles {
 
     fn read(&self, file: FileId, offset: u64, bytes: &mut [u8]) -> io::Result<()> {
         let held = locks::lock(&self.held);
-        let mut files = held.files[position_of(file.queue)].iter();
+        let mut files = held.files[queue_position(file.queue)].iter();
         let Some((_, held)) = files.find(|(seq, _)| *seq == file.seq) else {
             return Err(io::ErrorKind::NotFound.into());
         };
@@ -271,7 +271,7 @@ impl Held {
     ///
     /// `InvalidInput` where it isn't.
     fn last_bytes(&mut self, file: FileId) -> io::Result<&mut Vec<u8>> {
-        match self.files[position_of(file.queue)].back_mut() {
+        match self.files[queue_position(file.queue)].back_mut() {
             Some((seq, bytes)) if *seq == file.seq => Ok(bytes),
             _ => refuse("the file isn't the last one of its queue"),
         }
@@ -288,7 +288,7 @@ impl fmt::Debug for MemoryFiles {
 }
 
 /// Returns the position of a queue in an array of both.
-const fn position_of(queue: Queue) -> usize {
+const fn queue_position(queue: Queue) -> usize {
     match queue {
         Queue::Append => 0,
         Queue::Rewrite => 1,

@@ -151,7 +151,7 @@ fn decode_entries<M: Message>(region: u64, entries: &Entries) -> Result<Vec<M>> 
 /// `Message` where it can't be decoded; the error has the region, and its text the key too.
 fn decode_value<M: Message>(region: u64, key: &[u8], value: &[u8]) -> Result<M> {
     let key = key.escape_ascii();
-    let message = decode_at(value, format_args!("region {region}, key {key}"));
+    let message = decode_with_place(value, format_args!("region {region}, key {key}"));
     message.map_err(|e| e.with_region(region, None))
 }
 
@@ -161,7 +161,7 @@ fn decode_value<M: Message>(region: u64, key: &[u8], value: &[u8]) -> Result<M> 
 ///
 /// `Message`, with the region and the index, where they can't be decoded.
 fn decode_entry<M: Message>(region: u64, index: u64, bytes: &[u8]) -> Result<M> {
-    let message = decode_at(bytes, format_args!("region {region}, entry {index}"));
+    let message = decode_with_place(bytes, format_args!("region {region}, entry {index}"));
     message.map_err(|e| e.with_region(region, Some(index)))
 }
 
@@ -170,6 +170,6 @@ fn decode_entry<M: Message>(region: u64, index: u64, bytes: &[u8]) -> Result<M> 
 /// # Errors
 ///
 /// `Message`, with that place in its text, where they can't be decoded.
-fn decode_at<M: Message>(bytes: &[u8], place: impl fmt::Display) -> Result<M> {
+fn decode_with_place<M: Message>(bytes: &[u8], place: impl fmt::Display) -> Result<M> {
     M::decode(bytes).map_err(|e| Error::message(place, e))
 }

@@ -45,7 +45,7 @@ impl<F: Files> Engine<F> {
     /// `InvalidArgument` where the engine is open to be read alone; `Full` where the last file has the greatest number; `Memory`.
     /// Nothing has changed then. `Io`, `Failed`: the engine has failed, unless a folder has no room.
     pub fn rotate(&self) -> Result<()> {
-        self.check_changeable("rotate")?;
+        self.check_writable("rotate")?;
         self.tell_after(|| self.wait_for_turn()?.call(EngineHandle::rotate))
     }
 
@@ -85,7 +85,7 @@ impl<F: Files> Engine<F> {
     ///   read; `Memory`. Some records may have moved then.
     /// - `Io` of a change of the files, and `Failed`: the engine has failed, unless a folder has no room.
     pub fn rewrite(&self, gate: u64) -> Result<()> {
-        self.check_changeable("rewrite")?;
+        self.check_writable("rewrite")?;
         self.tell_after(|| self.rewrite_up_to(gate))
     }
 
@@ -104,7 +104,7 @@ impl<F: Files> Engine<F> {
                 .lock_tables()
                 .moving_blocks(Some(gate), LISTED_AT_ONCE)?;
             let is_over = if listed == before {
-                self.rewrite_listed(gate)?
+                self.rewrite_in_one_turn(gate)?
             } else {
                 self.rewrite_in_steps(gate, &listed)?
             };
@@ -121,11 +121,11 @@ impl<F: Files> Engine<F> {
     /// # Errors
     ///
     /// Those of [`Engine::rewrite`]; `TryAgain` where even so many blocks don't suffice. Some records may have moved then.
-    fn rewrite_listed(&self, gate: u64) -> Result<bool> {
-        let read = self.read_ahead(Some(gate), LISTED_AT_ONCE)?;
+    fn rewrite_in_one_turn(&self, gate: u64) -> Result<bool> {
+        let read = self.read_blocks_ahead(Some(gate), LISTED_AT_ONCE)?;
         let turn = self.wait_for_turn()?;
-        let lent = self.lend(Some(gate), LISTED_AT_ONCE, read)?;
-        match self.count_moves(&turn, Queue::Append, |tables| tables.rewrite(gate)) {
+        let lent = self.lend_blocks(Some(gate), LISTED_AT_ONCE, read)?;
+        match self.note_moves(&turn, Queue::Append, |tables| tables.rewrite(gate)) {
             Ok(()) => Ok(true),
             Err(e) if e.kind == ErrorKind::TryAgain => {
                 let left = self
@@ -133,7 +133,7 @@ impl<F: Files> Engine<F> {
                     .moving_blocks(Some(gate), LISTED_AT_ONCE)?;
                 if left == lent { Err(e) } else { Ok(false) }
             }
-            Err(e) => Err(self.with_damaged_block(e, &lent)),
+            Err(e) => Err(self.name_damaged_block(e, &lent)),
         }
     }
 
@@ -147,19 +147,19 @@ impl<F: Files> Engine<F> {
         let mut unsynced = 0;
         let mut rest = blocks;
         while !rest.is_empty() {
-            let step = prefix_of(rest, MOVED_AT_ONCE);
+            let step = first_blocks(rest, MOVED_AT_ONCE);
             let Ok(read) = self.read_blocks(step) else {
                 return Ok(false);
             };
-            if self.rewrite_lent(gate, &read)? {
+            if self.rewrite_blocks(gate, &read)? {
                 return Ok(true);
             }
-            unsynced += bytes_of(step);
+            unsynced += total_len(step);
             if unsynced >= SYNCED_AT_ONCE {
                 self.wait_for_turn()?.sync_now(Queue::Rewrite)?;
                 unsynced = 0;
             }
-            rest = rest_behind(rest, step.len());
+            rest = blocks_of_next_step(rest, step.len());
         }
         Ok(false)
     }
@@ -170,17 +170,17 @@ impl<F: Files> Engine<F> {
     /// # Errors
     ///
     /// Those of [`Engine::rewrite`]. Some records may have moved then.
-    fn rewrite_lent(&self, gate: u64, read: &[(Block, Vec<u8>)]) -> Result<bool> {
+    fn rewrite_blocks(&self, gate: u64, read: &[(Block, Vec<u8>)]) -> Result<bool> {
         let turn = self.wait_for_turn()?;
         for (block, bytes) in read {
             self.lock_tables().lend(*block, bytes)?;
         }
-        match self.count_moves(&turn, Queue::Append, |tables| tables.rewrite(gate)) {
+        match self.note_moves(&turn, Queue::Append, |tables| tables.rewrite(gate)) {
             Ok(()) => Ok(true),
             Err(e) if e.kind == ErrorKind::TryAgain => Ok(false),
             Err(e) => {
                 let lent: Vec<_> = read.iter().map(|(block, _)| *block).collect();
-                Err(self.with_damaged_block(e, &lent))
+                Err(self.name_damaged_block(e, &lent))
             }
         }
     }
@@ -219,13 +219,13 @@ impl<F: Files> Engine<F> {
     ///
     /// Those of [`Engine::rewrite`]; but the entries of a region that don't fit one batch are written in several.
     pub fn rewrite_again(&self) -> Result<()> {
-        self.check_changeable("rewrite_again")?;
+        self.check_writable("rewrite_again")?;
         self.tell_after(|| {
-            let read = self.read_ahead(None, usize::MAX)?;
+            let read = self.read_blocks_ahead(None, usize::MAX)?;
             let turn = self.wait_for_turn()?;
-            let lent = self.lend(None, usize::MAX, read)?;
-            self.count_moves(&turn, Queue::Rewrite, EngineHandle::rewrite_again)
-                .map_err(|e| self.with_damaged_block(e, &lent))
+            let lent = self.lend_blocks(None, usize::MAX, read)?;
+            self.note_moves(&turn, Queue::Rewrite, EngineHandle::rewrite_again)
+                .map_err(|e| self.name_damaged_block(e, &lent))
         })
     }
 
@@ -234,7 +234,7 @@ impl<F: Files> Engine<F> {
     /// # Errors
     ///
     /// Those of the call.
-    fn count_moves(
+    fn note_moves(
         &self,
         turn: &Turn<'_, F>,
         from: Queue,
@@ -257,13 +257,13 @@ impl<F: Files> Engine<F> {
         result
     }
 
-    /// Reads the blocks that [`Engine::lend`] will lend for the same `gate` and `max_size`, while other threads may write. A
+    /// Reads the blocks that [`Engine::lend_blocks`] will lend for the same `gate` and `max_size`, while other threads may write. A
     /// block that can't be read is left out.
     ///
     /// # Errors
     ///
     /// `Memory`, for the list of the blocks.
-    fn read_ahead(&self, gate: Option<u64>, max_size: usize) -> Result<ReadBlocks> {
+    fn read_blocks_ahead(&self, gate: Option<u64>, max_size: usize) -> Result<ReadBlocks> {
         let blocks = self.lock_tables().moving_blocks(gate, max_size)?;
         let read = blocks
             .into_iter()
@@ -278,7 +278,12 @@ impl<F: Files> Engine<F> {
     /// # Errors
     ///
     /// `Io` where a block can't be read, with its file and offset; `Memory`. Some blocks may be lent then.
-    fn lend(&self, gate: Option<u64>, max_size: usize, mut read: ReadBlocks) -> Result<Vec<Block>> {
+    fn lend_blocks(
+        &self,
+        gate: Option<u64>,
+        max_size: usize,
+        mut read: ReadBlocks,
+    ) -> Result<Vec<Block>> {
         let blocks = self.lock_tables().moving_blocks(gate, max_size)?;
         for block in &blocks {
             let at = read.iter().position(|(of, _)| of == block);
@@ -293,7 +298,7 @@ impl<F: Files> Engine<F> {
 
     /// Returns an error of a call that moved records. If it is `Corruption` without a place, the blocks in `lent` are read again,
     /// and the error of the first damaged one is returned instead, which has its file and offset.
-    fn with_damaged_block(&self, refused: Error, lent: &[Block]) -> Error {
+    fn name_damaged_block(&self, refused: Error, lent: &[Block]) -> Error {
         if refused.kind != ErrorKind::Corruption || refused.file.is_some() {
             return refused;
         }
@@ -305,12 +310,12 @@ impl<F: Files> Engine<F> {
 }
 
 /// Returns how many bytes the blocks have together.
-fn bytes_of(blocks: &[Block]) -> usize {
+fn total_len(blocks: &[Block]) -> usize {
     blocks.iter().map(|block| block.len).sum()
 }
 
 /// Returns the first blocks, as many as it takes to reach `max_size` bytes; all of them, if they have fewer.
-fn prefix_of(blocks: &[Block], max_size: usize) -> &[Block] {
+fn first_blocks(blocks: &[Block], max_size: usize) -> &[Block] {
     let mut size = 0;
     let is_within = |block: &Block| {
         let is_within = size < max_size;
@@ -324,7 +329,7 @@ fn prefix_of(blocks: &[Block], max_size: usize) -> &[Block] {
 /// Returns the blocks from position `count` on, and before them the last ones of the first `count` again that may be part of a
 /// batch which these complete: up to [`OF_ONE_BATCH`] bytes, but never the very first block. None if there are no blocks from
 /// `count` on.
-fn rest_behind(blocks: &[Block], count: usize) -> &[Block] {
+fn blocks_of_next_step(blocks: &[Block], count: usize) -> &[Block] {
     if count == blocks.len() {
         return &[];
     }

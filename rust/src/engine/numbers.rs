@@ -40,7 +40,7 @@ impl Numbers {
     }
 
     /// Removes a file, which was deleted.
-    pub(super) fn forget(&mut self, file: FileId) {
+    pub(super) fn forget_file(&mut self, file: FileId) {
         self.lens[file.queue as usize].retain(|(seq, _)| *seq != file.seq);
     }
 

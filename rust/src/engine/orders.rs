@@ -1,6 +1,6 @@
 //! Carries out the orders of the tables: the changes of files that a call on the tables asks for.
 
-use super::turns::Having;
+use super::turns::TurnGuard;
 use super::{Engine, Event, locks};
 use crate::sys::{EngineHandle, Order};
 use crate::{Error, ErrorKind, FileId, Files, Queue, Result};
@@ -12,7 +12,7 @@ use std::{mem, thread};
 /// carries the orders out. If it panics in its turn the engine has failed.
 pub(super) struct Turn<'a, F: Files> {
     engine: &'a Engine<F>,
-    _turn: Having<'a>,
+    _turn: TurnGuard<'a>,
 }
 
 impl<F: Files> Drop for Turn<'_, F> {
@@ -57,7 +57,7 @@ impl<F: Files> Turn<'_, F> {
         let mut tables = self.engine.lock_tables();
         let result = call(&mut tables);
         if !tables.is_intact() {
-            let reason = result.err().unwrap_or_else(Error::of_emptied);
+            let reason = result.err().unwrap_or_else(Error::failed);
             return Err(self.engine.fail(reason));
         }
         let orders = tables.take_orders().map_err(|e| self.engine.fail(e))?;
@@ -89,7 +89,7 @@ impl<F: Files> Turn<'_, F> {
     /// Notes the bytes that orders write. Until these are in their file they are read from memory.
     fn note_bytes(&self, orders: &[Order]) {
         let numbers = locks::lock(&self.engine.numbers);
-        self.engine.unwritten.note(orders, &numbers);
+        self.engine.unwritten.note_orders(orders, &numbers);
     }
 
     /// Carries orders out, one after another.
@@ -100,7 +100,7 @@ impl<F: Files> Turn<'_, F> {
     /// it are kept for the next turn; else the engine has failed. Bytes that weren't written can still be read, from memory.
     fn carry_out(&self, mut orders: VecDeque<Order>) -> Result<()> {
         while let Some(order) = orders.front() {
-            if let Err(e) = self.carry_out_one(order) {
+            if let Err(e) = self.carry_out_order(order) {
                 if !self.engine.files.is_as_before() {
                     return Err(self.engine.fail_files(e));
                 }
@@ -117,7 +117,7 @@ impl<F: Files> Turn<'_, F> {
     /// # Errors
     ///
     /// `Io` with the file and an offset. Nothing is noted of the change then.
-    fn carry_out_one(&self, order: &Order) -> Result<()> {
+    fn carry_out_order(&self, order: &Order) -> Result<()> {
         match order {
             Order::Write(queue, bytes) => self.write_bytes(*queue, bytes),
             Order::Begin(file) => self.begin_file(*file),
@@ -135,7 +135,7 @@ impl<F: Files> Turn<'_, F> {
     fn write_bytes(&self, queue: Queue, bytes: &[u8]) -> Result<()> {
         let (file, len) = self.last_file(queue)?;
         let written = self.engine.files.write(file, bytes);
-        written.map_err(|e| Error::system("a batch can't be written", e).at(file, len))?;
+        written.map_err(|e| Error::system("a batch can't be written", e).with_place(file, len))?;
         let len = len + bytes.len() as u64;
         locks::lock(&self.engine.numbers).set_len(file, len);
         self.engine.unwritten.forget_oldest();
@@ -149,7 +149,7 @@ impl<F: Files> Turn<'_, F> {
     /// Those of [`Files::rotate`], as `Io` with the file.
     fn begin_file(&self, file: FileId) -> Result<()> {
         let begun = self.engine.files.rotate(file);
-        begun.map_err(|e| Error::system("the file can't be begun", e).at(file, 0))?;
+        begun.map_err(|e| Error::system("the file can't be begun", e).with_place(file, 0))?;
         locks::lock(&self.engine.numbers).set_len(file, 0);
         self.engine.events.note(Event::Begun(file));
         Ok(())
@@ -164,7 +164,7 @@ impl<F: Files> Turn<'_, F> {
         let (file, len) = self.last_file(queue)?;
         let begun = Instant::now();
         let synced = self.engine.files.sync(queue);
-        synced.map_err(|e| Error::system("the file can't be synced", e).at(file, len))?;
+        synced.map_err(|e| Error::system("the file can't be synced", e).with_place(file, len))?;
         let took = begun.elapsed();
         let mut numbers = locks::lock(&self.engine.numbers);
         numbers.syncs += 1;
@@ -181,10 +181,10 @@ impl<F: Files> Turn<'_, F> {
     /// Those of [`Files::delete`], as `Io` with the file; `Failed` where the queue has no file.
     fn delete_oldest(&self, queue: Queue) -> Result<()> {
         let oldest = locks::lock(&self.engine.numbers).files(queue).next();
-        let (file, _) = oldest.ok_or_else(Error::of_emptied)?;
+        let (file, _) = oldest.ok_or_else(Error::failed)?;
         let deleted = self.engine.files.delete(file);
-        deleted.map_err(|e| Error::system("the file can't be deleted", e).at(file, 0))?;
-        locks::lock(&self.engine.numbers).forget(file);
+        deleted.map_err(|e| Error::system("the file can't be deleted", e).with_place(file, 0))?;
+        locks::lock(&self.engine.numbers).forget_file(file);
         self.engine.events.note(Event::Deleted(file));
         Ok(())
     }
@@ -197,7 +197,7 @@ impl<F: Files> Turn<'_, F> {
     fn cut_last(&self, queue: Queue, len: u64) -> Result<()> {
         let (file, _) = self.last_file(queue)?;
         let cut = self.engine.files.truncate(file, len);
-        cut.map_err(|e| Error::system("the file can't be cut", e).at(file, len))?;
+        cut.map_err(|e| Error::system("the file can't be cut", e).with_place(file, len))?;
         locks::lock(&self.engine.numbers).note_cut(queue, len);
         let recovered = &self.engine.recovered;
         for cut in recovered.cuts().filter(|cut| cut.file == file) {
@@ -213,6 +213,6 @@ impl<F: Files> Turn<'_, F> {
     /// `Failed` where the queue has no file.
     fn last_file(&self, queue: Queue) -> Result<(FileId, u64)> {
         let last = locks::lock(&self.engine.numbers).last_file(queue);
-        last.ok_or_else(Error::of_emptied)
+        last.ok_or_else(Error::failed)
     }
 }

@@ -66,7 +66,7 @@ struct Place {
 
 impl Pairs {
     /// Makes an iterator over packed pairs, in their order. The bytes are moved. The only error is `Memory`.
-    pub(super) fn of(packed: PackedPairs) -> Result<Pairs> {
+    pub(super) fn from_packed(packed: PackedPairs) -> Result<Pairs> {
         let PackedPairs { lens, bytes } = packed;
         let mut places = Vec::new();
         places
@@ -115,7 +115,7 @@ impl Pairs {
     }
 
     /// Returns copies of the key and the value that `place` describes.
-    fn pair(&self, place: Place) -> (Vec<u8>, Vec<u8>) {
+    fn copy_pair(&self, place: Place) -> (Vec<u8>, Vec<u8>) {
         let [key, value] = [place.key, place.value].map(|range| self.bytes[range].to_vec());
         (key, value)
     }
@@ -126,7 +126,7 @@ impl Iterator for Pairs {
 
     fn next(&mut self) -> Option<(Vec<u8>, Vec<u8>)> {
         let place = self.rest.next()?;
-        Some(self.pair(place))
+        Some(self.copy_pair(place))
     }
 
     fn size_hint(&self) -> (usize, Option<usize>) {
@@ -137,7 +137,7 @@ impl Iterator for Pairs {
 impl DoubleEndedIterator for Pairs {
     fn next_back(&mut self) -> Option<(Vec<u8>, Vec<u8>)> {
         let place = self.rest.next_back()?;
-        Some(self.pair(place))
+        Some(self.copy_pair(place))
     }
 }
 
@@ -156,7 +156,7 @@ impl fmt::Debug for Pairs {
 
 /// Returns a range of keys as its least key and its end: the least key that is above all of the range, or `None` where the range
 /// has no upper bound.
-pub(super) fn ends_of<'a>(range: &impl RangeBounds<&'a [u8]>) -> (Vec<u8>, Option<Vec<u8>>) {
+pub(super) fn key_bounds<'a>(range: &impl RangeBounds<&'a [u8]>) -> (Vec<u8>, Option<Vec<u8>>) {
     let start = match range.start_bound() {
         Bound::Included(key) => key.to_vec(),
         Bound::Excluded(key) => least_key_above(key),

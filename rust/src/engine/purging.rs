@@ -42,15 +42,15 @@ impl<F: Files> Engine<F> {
     ///
     /// Those of [`Engine::rewrite`]. Some files may be deleted then.
     pub fn purge(&self) -> Result<Purged> {
-        self.check_changeable("purge")?;
-        let mut purged = self.delete_files()?;
-        if let Some(gate) = self.gate_due() {
+        self.check_writable("purge")?;
+        let mut purged = self.delete_needless_files()?;
+        if let Some(gate) = self.find_gate() {
             self.rewrite(gate)?;
-            purged += self.delete_files()?;
+            purged += self.delete_needless_files()?;
         }
-        if self.is_moving_again_due()? {
+        if self.is_rewrite_again_due()? {
             self.rewrite_again()?;
-            purged += self.delete_files()?;
+            purged += self.delete_needless_files()?;
             let mut numbers = locks::lock(&self.numbers);
             numbers.needed_rewritten = Some(numbers.count_bytes(Queue::Rewrite));
         }
@@ -82,10 +82,10 @@ impl<F: Files> Engine<F> {
     /// `Memory`; `Failed` where the engine can't be read.
     pub fn needs_purge(&self) -> Result<bool> {
         self.check_readable()?;
-        Ok(self.gate_due().is_some()
+        Ok(self.find_gate().is_some()
             || self.has_needless_file(Queue::Append)?
             || self.has_needless_file(Queue::Rewrite)?
-            || self.is_moving_again_due()?)
+            || self.is_rewrite_again_due()?)
     }
 
     /// Deletes the files of both queues that no table needs, gives their room on the disk back, and returns which they were,
@@ -95,8 +95,8 @@ impl<F: Files> Engine<F> {
     ///
     /// `Failed`, `Io`, `Memory`; `Full` where 2^56 bytes or more would have to be written to the rewrite queue before, or its
     /// last file has more than 2^63 bytes. Some files may be deleted then.
-    fn delete_files(&self) -> Result<Purged> {
-        let purged = self.delete_in_turn();
+    fn delete_needless_files(&self) -> Result<Purged> {
+        let purged = self.delete_needless_in_turn();
         self.files.free_deleted();
         purged
     }
@@ -106,8 +106,8 @@ impl<F: Files> Engine<F> {
     ///
     /// # Errors
     ///
-    /// Those of [`Engine::delete_files`].
-    fn delete_in_turn(&self) -> Result<Purged> {
+    /// Those of [`Engine::delete_needless_files`].
+    fn delete_needless_in_turn(&self) -> Result<Purged> {
         self.tell_after(|| {
             let turn = self.wait_for_turn()?;
             let files = |queue| locks::lock(&self.numbers).files(queue).collect::<Vec<_>>();
@@ -146,7 +146,7 @@ impl<F: Files> Engine<F> {
         let regions = self.lock_tables().regions()?;
         Ok(!regions
             .into_iter()
-            .any(|region| needs_file(&mut self.lock_tables_behind_others(), region, oldest)))
+            .any(|region| needs_file(&mut self.lock_tables_after_waiters(), region, oldest)))
     }
 
     /// Returns the regions that need the oldest append file, by rising numbers, each with what it has there. None where there is
@@ -161,7 +161,7 @@ impl<F: Files> Engine<F> {
         };
         let regions = self.lock_tables().regions()?;
         let holders = regions.into_iter().filter_map(|region| {
-            let mut tables = self.lock_tables_behind_others();
+            let mut tables = self.lock_tables_after_waiters();
             needs_file(&mut tables, region, oldest).then(|| holder_of(&mut tables, region, oldest))
         });
         Ok(holders.collect())
@@ -170,7 +170,7 @@ impl<F: Files> Engine<F> {
     /// Returns the number of the append file up to which records have to move, so that the later files have at most half of
     /// [`Options::purge_above`](crate::Options::purge_above) together, or only the last one is later. `None` where the append
     /// files have no more bytes than that option allows, or there is a single one.
-    fn gate_due(&self) -> Option<u64> {
+    fn find_gate(&self) -> Option<u64> {
         let numbers = locks::lock(&self.numbers);
         let mut bytes = numbers.count_bytes(Queue::Append);
         if bytes <= self.options.purge_above {
@@ -198,7 +198,7 @@ impl<F: Files> Engine<F> {
     /// # Errors
     ///
     /// `Memory`.
-    fn is_moving_again_due(&self) -> Result<bool> {
+    fn is_rewrite_again_due(&self) -> Result<bool> {
         let (bytes, needed) = {
             let numbers = locks::lock(&self.numbers);
             (

@@ -56,7 +56,7 @@ impl<F: Files> Engine<F> {
     ) -> Result<Option<T>> {
         self.check_readable()?;
         let found = self.lock_tables().entry(region, index);
-        let kept = found.and_then(|entry| EntryBytes::of_kept(self, &entry));
+        let kept = found.and_then(|entry| EntryBytes::from_kept(self, &entry));
         if let Some(kept) = kept {
             return Ok(Some(call(kept.as_slice())));
         }
@@ -127,7 +127,7 @@ impl<F: Files> Engine<F> {
     /// `Failed` where the engine can't be read.
     pub fn entries(&self, region: u64, range: impl RangeBounds<u64>) -> Result<Entries> {
         self.find_and_read(
-            |tables| places_of_range(tables, region, &range, None),
+            |tables| entries_in_range(tables, region, &range, None),
             |found| Entries::read(self, region, found),
         )
     }
@@ -156,7 +156,7 @@ impl<F: Files> Engine<F> {
         max_size: u64,
     ) -> Result<Entries> {
         self.find_and_read(
-            |tables| places_of_range(tables, region, &range, Some(max_size)),
+            |tables| entries_in_range(tables, region, &range, Some(max_size)),
             |found| Entries::read(self, region, found),
         )
     }
@@ -202,9 +202,9 @@ impl<F: Files> Engine<F> {
     ///
     /// `Memory`; `Failed` where the engine can't be read.
     pub fn scan<'a>(&self, region: u64, range: impl RangeBounds<&'a [u8]>) -> Result<Pairs> {
-        let (start, end) = pairs::ends_of(&range);
+        let (start, end) = pairs::key_bounds(&range);
         let found = self.look_up(|tables| tables.scan(region, &start, end.as_deref()))?;
-        Pairs::of(found)
+        Pairs::from_packed(found)
     }
 
     /// Returns the least index of a region's entries; `None` where it has no entries.
@@ -343,23 +343,23 @@ impl<F: Files> Engine<F> {
 /// # Errors
 ///
 /// `EntryCompacted` or `EntryNotFound` where the region doesn't have all of the range, with the index that is missing; `Memory`.
-pub(super) fn places_of_range(
+pub(super) fn entries_in_range(
     tables: &mut EngineHandle,
     region: u64,
     range: &impl RangeBounds<u64>,
     max_size: Option<u64>,
 ) -> Result<Vec<Entry>> {
-    match close_range(tables, region, range) {
+    match resolve_range(tables, region, range) {
         Some(range) => tables
             .entries(region, range.clone(), max_size)
-            .map_err(|e| name_missing_entry(e, region, &range)),
+            .map_err(|e| with_missing_entry(e, region, &range)),
         None => Ok(Vec::new()),
     }
 }
 
 /// Adds to an error for `range` the index that is missing, in its text too: the first one of the range where it was compacted,
 /// the last one where it isn't there yet. An error of another kind is returned as it is.
-fn name_missing_entry(refused: Error, region: u64, range: &Range<u64>) -> Error {
+fn with_missing_entry(refused: Error, region: u64, range: &Range<u64>) -> Error {
     let index = match refused.kind {
         ErrorKind::EntryCompacted => range.start,
         ErrorKind::EntryNotFound => range.end - 1,
@@ -372,7 +372,7 @@ fn name_missing_entry(refused: Error, region: u64, range: &Range<u64>) -> Error 
 
 /// Returns the indexes of `range` as `start..end`. A bound that is missing is that of the region's entries. `None` if the range
 /// is empty, or if a bound is missing and the region has no entries. Whether the region has all of these entries isn't tested.
-fn close_range(
+fn resolve_range(
     tables: &mut EngineHandle,
     region: u64,
     range: &impl RangeBounds<u64>,

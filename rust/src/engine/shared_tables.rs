@@ -21,7 +21,7 @@ pub(super) struct SharedTables {
 
 impl SharedTables {
     /// Puts tables behind a lock.
-    pub(super) fn of(tables: EngineHandle) -> SharedTables {
+    pub(super) fn new(tables: EngineHandle) -> SharedTables {
         SharedTables {
             tables: Mutex::new(tables),
             waiting: AtomicUsize::new(0),
@@ -34,13 +34,13 @@ impl SharedTables {
         match self.tables.try_lock() {
             Ok(tables) => tables,
             Err(TryLockError::Poisoned(poisoned)) => poisoned.into_inner(),
-            Err(TryLockError::WouldBlock) => self.wait(),
+            Err(TryLockError::WouldBlock) => self.wait_for_lock(),
         }
     }
 
     /// Locks the tables as [`SharedTables::lock`] does, and counts this thread as waiting until it has them.
     #[cold]
-    fn wait(&self) -> MutexGuard<'_, EngineHandle> {
+    fn wait_for_lock(&self) -> MutexGuard<'_, EngineHandle> {
         self.waiting.fetch_add(1, Ordering::Relaxed);
         let tables = locks::lock(&self.tables);
         self.waiting.fetch_sub(1, Ordering::Relaxed);
@@ -49,7 +49,7 @@ impl SharedTables {
 
     /// Locks the tables once the threads that wait for them have had them, but waits no longer than [`PATIENCE`]. It is for a
     /// thread that locks them for one region after another: a lock of std's may go to the same thread again and again.
-    pub(super) fn lock_behind_others(&self) -> MutexGuard<'_, EngineHandle> {
+    pub(super) fn lock_after_waiters(&self) -> MutexGuard<'_, EngineHandle> {
         if self.waiting.load(Ordering::Relaxed) > 0 {
             let begun = Instant::now();
             while self.waiting.load(Ordering::Relaxed) > 0 && begun.elapsed() < PATIENCE {

@@ -23,23 +23,23 @@ struct Line {
 
 /// A turn that a thread has. It is over once this is dropped.
 #[derive(Debug)]
-pub(super) struct Having<'a>(&'a Turns);
+pub(super) struct TurnGuard<'a>(&'a Turns);
 
 impl Turns {
     /// Waits for a turn, and takes it: all threads that asked for one before have had theirs. A thread that has one mustn't ask
     /// for another: it would wait for itself.
-    pub(super) fn take_turn(&self) -> Having<'_> {
+    pub(super) fn take_turn(&self) -> TurnGuard<'_> {
         let mut line = locks::lock(&self.line);
         let number = line.next;
         line.next += 1;
         while line.now != number {
             line = locks::wait(&self.is_over, line);
         }
-        Having(self)
+        TurnGuard(self)
     }
 }
 
-impl Drop for Having<'_> {
+impl Drop for TurnGuard<'_> {
     fn drop(&mut self) {
         let mut line = locks::lock(&self.0.line);
         line.now += 1;

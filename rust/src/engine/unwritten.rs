@@ -22,7 +22,7 @@ struct Piece {
 impl Unwritten {
     /// Adds the bytes that `orders` write. `numbers` has the lengths of the files at which these orders begin, so it tells where
     /// the bytes will stand.
-    pub(super) fn note(&self, orders: &[Order], numbers: &Numbers) {
+    pub(super) fn note_orders(&self, orders: &[Order], numbers: &Numbers) {
         let mut ends = [Queue::Append, Queue::Rewrite].map(|queue| numbers.last_file(queue));
         let mut pieces = locks::lock_to_change(&self.0);
         for order in orders {
@@ -56,7 +56,7 @@ impl Unwritten {
 
     /// Fills `bytes` with those that are to be written to a file from `offset` on, if a single order writes all of them. Returns
     /// whether one does; else `bytes` stay as they are.
-    pub(super) fn read_into(&self, file: FileId, offset: u64, bytes: &mut [u8]) -> bool {
+    pub(super) fn try_read_into(&self, file: FileId, offset: u64, bytes: &mut [u8]) -> bool {
         let pieces = locks::lock_to_read(&self.0);
         let found = pieces.iter().find_map(|piece| {
             let from = offset.checked_sub(piece.offset)?;

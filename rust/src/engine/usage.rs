@@ -1,6 +1,6 @@
 //! Counts how much of the files is needed.
 
-use super::reading::places_of_range;
+use super::reading::entries_in_range;
 use super::{Engine, locks};
 use crate::{Entry, Files, Queue, Result};
 
@@ -117,7 +117,7 @@ impl<F: Files> Engine<F> {
             live[entry.block.file.queue as usize] += u64::from(entry.len);
             true
         })?;
-        let mut tables = self.lock_tables_behind_others();
+        let mut tables = self.lock_tables_after_waiters();
         let summary = tables.summary(region).unwrap_or_default();
         let queue = summary
             .rewrite_seq
@@ -141,7 +141,7 @@ impl<F: Files> Engine<F> {
             }
             is_rewritten // entries that moved stand in front of all others
         })?;
-        let pairs = self.lock_tables_behind_others().scan(region, b"", None)?;
+        let pairs = self.lock_tables_after_waiters().scan(region, b"", None)?;
         Ok(bytes + pairs.bytes.len() as u64)
     }
 
@@ -154,14 +154,14 @@ impl<F: Files> Engine<F> {
     fn visit_places(&self, region: u64, mut visit: impl FnMut(&Entry) -> bool) -> Result<()> {
         let mut from = 0;
         loop {
-            let mut tables = self.lock_tables_behind_others();
+            let mut tables = self.lock_tables_after_waiters();
             let first = tables.first_index(region).map(|first| first.max(from));
             let end = tables.last_index(region).map(|last| last + 1);
             let (Some(start), Some(end)) = (first, end) else {
                 return Ok(());
             };
             let to = end.min(start.saturating_add(LOOKED_UP_AT_ONCE));
-            let places = places_of_range(&mut tables, region, &(start..to), None)?;
+            let places = entries_in_range(&mut tables, region, &(start..to), None)?;
             drop(tables);
             if places.is_empty() || !places.iter().all(&mut visit) {
                 return Ok(());

@@ -35,7 +35,7 @@ impl<F: Files> Engine<F> {
     ///   writes it, such as this same call. If one found none that was written earlier, this batch is as it was.
     /// - Any other `Io`, and `Failed`: the engine has failed, and the batch may be in the files or not.
     pub fn write(&self, batch: &mut LogBatch, sync: bool) -> Result<()> {
-        self.check_changeable("write")?;
+        self.check_writable("write")?;
         self.write_in_turn(batch, sync)
     }
 
@@ -57,7 +57,7 @@ impl<F: Files> Engine<F> {
     /// returns `Failed`: then memory ran out half way, and the engine has failed. `Io`, `Failed`: the engine has failed, unless
     /// the `Io` says that there is no room for what was written earlier.
     pub fn sync(&self) -> Result<()> {
-        self.check_changeable("sync")?;
+        self.check_writable("sync")?;
         self.write_in_turn(&mut LogBatch::new()?, true)
     }
 
@@ -69,17 +69,20 @@ impl<F: Files> Engine<F> {
     /// Those of [`Engine::write`].
     fn write_in_turn(&self, batch: &mut LogBatch, sync: bool) -> Result<()> {
         self.check_intact()?;
-        self.tell_after(|| self.commits.write(batch, sync, |group| self.lead(group)))
+        self.tell_after(|| {
+            self.commits
+                .write(batch, sync, |group| self.lead_group(group))
+        })
     }
 
     /// Writes the batches of all threads that wait, syncs once for those that want it, if this thread's own batch is among them,
     /// and begins a new append file where one is due. The result of each batch is noted with it.
-    fn lead(&self, group: &mut Group<'_>) {
+    fn lead_group(&self, group: &mut Group<'_>) {
         let turn = self.wait_for_turn();
         group.take_waiting();
         match turn {
             Ok(turn) => self.write_group(&turn, group),
-            Err(e) => group.end_with(&Err(e)),
+            Err(e) => group.finish_with(&Err(e)),
         }
     }
 
@@ -94,12 +97,12 @@ impl<F: Files> Engine<F> {
         });
         locks::lock(&self.numbers).batches += group.count_written();
         if written.is_err() {
-            return group.end_with(&written);
+            return group.finish_with(&written);
         }
         group.release_unsynced();
         if group.is_sync_due() {
             let synced = turn.call(EngineHandle::sync);
-            group.end_with(&synced);
+            group.finish_with(&synced);
         }
         self.rotate_if_due(turn);
     }

@@ -69,7 +69,7 @@ impl Shapes {
     /// these are once all items before it are applied. Returns its position from 0 on, its region, and the index of its first
     /// entry; `None` if all items fit. Only regions for which `is_tested` is true are looked at. `summary` returns what a region
     /// has before the batch.
-    pub(super) fn find_misfit(
+    pub(super) fn find_refused_item(
         &self,
         is_tested: impl Fn(u64) -> bool,
         mut summary: impl FnMut(u64) -> Option<Summary>,
@@ -81,7 +81,7 @@ impl Shapes {
             let now = extents
                 .entry(*region)
                 .or_insert_with(|| extent_of(summary(*region)));
-            let misfit = shape.misfit_index(now);
+            let misfit = shape.refused_index(now);
             *now = shape.extent_after(now);
             misfit.map(|index| (item, *region, index))
         })
@@ -91,7 +91,7 @@ impl Shapes {
 impl Shape {
     /// Returns the index of the item's first entry, if its entries don't fit `extent`, the indexes that its region has; `None` if
     /// they do, or the item has no entries.
-    fn misfit_index(self, extent: &Extent) -> Option<u64> {
+    fn refused_index(self, extent: &Extent) -> Option<u64> {
         match (self, extent) {
             (Shape::Run { first, .. }, Some(extent)) => {
                 let fits = (extent.start..=extent.end).contains(&first);

@@ -1,6 +1,6 @@
 //! Handles of contexts.
 
-use super::{File, Handle, Status, TablesHandle, check_call, memory_result};
+use super::{File, Handle, Status, TablesHandle, check_call, check_memory};
 use crate::{FilePart, Kept, Queue, Result};
 use std::cell::Cell;
 use std::mem;
@@ -87,7 +87,7 @@ impl ContextHandle {
     pub(crate) fn new() -> Result<ContextHandle> {
         let mut handle = Handle::EMPTY;
         // SAFETY: `empty`: the handle is empty.
-        memory_result(unsafe { raft_ffi_context_new(&mut handle) })?;
+        check_memory(unsafe { raft_ffi_context_new(&mut handle) })?;
         Ok(ContextHandle(handle))
     }
 

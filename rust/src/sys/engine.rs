@@ -12,7 +12,7 @@ use super::engine_calls::{
 };
 use super::{
     EntryNumbers, Handle, LogBatchHandle, PackedPairs, Status, SummaryNumbers, check_call,
-    entries_of, list, list_in, list_packed_pairs, make_room, memory_result,
+    check_memory, list, list_packed_pairs, list_with_room, make_room, to_entries,
 };
 use crate::{Block, Entry, FileId, Queue, Result, Summary};
 use std::mem;
@@ -51,7 +51,7 @@ unsafe impl Send for EngineHandle {}
 
 impl EngineHandle {
     /// Makes the owner of the engine that a handle holds. The handle isn't empty.
-    pub(super) fn of(handle: Handle) -> EngineHandle {
+    pub(super) fn from_raw(handle: Handle) -> EngineHandle {
         EngineHandle {
             handle,
             next_order: 0,
@@ -183,7 +183,7 @@ impl EngineHandle {
             let Some(order) = self.take_order(bytes)? else {
                 return Ok(orders);
             };
-            let queue = queue_of(order.is_rewrite);
+            let queue = queue_from_flag(order.is_rewrite);
             match (order.kind, orders.last_mut()) {
                 (0, Some(Order::Write(last, _))) if *last == queue => {}
                 (0, Some(Order::Write(_, bytes))) => {
@@ -242,7 +242,7 @@ impl EngineHandle {
     ) -> Result<Vec<Block>> {
         let places = list(|room, len, count| {
             // SAFETY: `held`: the handle holds an engine.
-            memory_result(unsafe {
+            check_memory(unsafe {
                 raft_ffi_engine_moving_blocks(
                     &mut self.handle,
                     gate.into(),
@@ -261,7 +261,7 @@ impl EngineHandle {
     pub(crate) fn lend(&mut self, block: Block, bytes: &[u8]) -> Result<()> {
         let is_rewrite = block.file.queue == Queue::Rewrite;
         // SAFETY: `held`: the handle holds an engine.
-        memory_result(unsafe {
+        check_memory(unsafe {
             raft_ffi_engine_lend(
                 &mut self.handle,
                 is_rewrite,
@@ -278,7 +278,7 @@ impl EngineHandle {
         let mut is_found = false;
         let mut room = Vec::new();
         make_room(&mut room, MOST_VALUES)?;
-        let value = list_in(room, |room, len, count| {
+        let value = list_with_room(room, |room, len, count| {
             // SAFETY: `held`: the handle holds an engine.
             is_found = unsafe {
                 raft_ffi_engine_value(
@@ -307,7 +307,7 @@ impl EngineHandle {
         let (is_bounded, end) = (end.is_some(), end.unwrap_or_default());
         list_packed_pairs(|lens, lens_len, count, bytes, bytes_len, len| {
             // SAFETY: `held`: the handle holds an engine.
-            memory_result(unsafe {
+            check_memory(unsafe {
                 raft_ffi_engine_scan(
                     &mut self.handle,
                     region,
@@ -390,14 +390,14 @@ impl EngineHandle {
                 )
             })
         })?;
-        Ok(entries_of(list))
+        Ok(to_entries(list))
     }
 
     /// Returns the numbers of the regions that have a table, in rising order. The only error is `Memory`.
     pub(crate) fn regions(&mut self) -> Result<Vec<u64>> {
         list(|room, len, count| {
             // SAFETY: `held`: the handle holds an engine.
-            memory_result(unsafe { raft_ffi_engine_regions(&mut self.handle, room, len, count) })
+            check_memory(unsafe { raft_ffi_engine_regions(&mut self.handle, room, len, count) })
         })
     }
 
@@ -418,7 +418,7 @@ impl Drop for EngineHandle {
 impl From<PlaceNumbers> for Block {
     fn from(place: PlaceNumbers) -> Block {
         Block {
-            file: FileId::new(queue_of(place.is_rewrite), place.seq),
+            file: FileId::new(queue_from_flag(place.is_rewrite), place.seq),
             offset: place.offset,
             len: place.len,
         }
@@ -426,7 +426,7 @@ impl From<PlaceNumbers> for Block {
 }
 
 /// Returns the rewrite queue if `is_rewrite` is true, else the append queue.
-fn queue_of(is_rewrite: bool) -> Queue {
+fn queue_from_flag(is_rewrite: bool) -> Queue {
     if is_rewrite {
         Queue::Rewrite
     } else {
@@ -440,7 +440,7 @@ fn queue_of(is_rewrite: bool) -> Queue {
 /// # Errors
 ///
 /// `Corruption` where it has one to four bytes, or the checksum is another one; `Memory`.
-pub(crate) fn block_entries(bytes: &[u8]) -> Result<usize> {
+pub(crate) fn check_entry_block(bytes: &[u8]) -> Result<usize> {
     let mut len = 0;
     // SAFETY: the bytes are lent for the call.
     check_call(|text, text_len| unsafe {

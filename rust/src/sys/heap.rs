@@ -30,7 +30,7 @@ fn layout_for_alignment(size: usize, alignment: usize) -> Option<Layout> {
 
 /// Writes the size at the start of a new block, and returns the pointer to its memory. A null pointer stands for a request that
 /// the allocator refused.
-fn tried_memory(block: *mut u8, size: usize) -> Tried {
+fn answer_request(block: *mut u8, size: usize) -> Tried {
     if block.is_null() {
         return Tried {
             ok: false,
@@ -53,7 +53,7 @@ extern "C" fn rattle_alloc(size: usize, alignment: usize) -> Tried {
     let layout = layout_for_alignment(size, alignment);
     // SAFETY: the layout isn't empty.
     let block = layout.map_or(ptr::null_mut(), |layout| unsafe { alloc(layout) });
-    tried_memory(block, size)
+    answer_request(block, size)
 }
 
 /// Gives the library memory of `size` bytes in place of a block that it has. As many bytes of that block as fit are moved there.
@@ -65,13 +65,13 @@ unsafe extern "C" fn rattle_realloc(
     size: usize,
     alignment: usize,
 ) -> Tried {
-    // SAFETY: the block came from `tried_memory`, so its head says its size.
+    // SAFETY: the block came from `answer_request`, so its head says its size.
     unsafe {
         let block = at.sub(HEAD);
         let old = block.cast::<usize>().read();
         match (layout_with_head(old), layout_for_alignment(size, alignment)) {
-            (Some(old), Some(new)) => tried_memory(realloc(block, old, new.size()), size),
-            _ => tried_memory(ptr::null_mut(), size),
+            (Some(old), Some(new)) => answer_request(realloc(block, old, new.size()), size),
+            _ => answer_request(ptr::null_mut(), size),
         }
     }
 }
@@ -79,7 +79,7 @@ unsafe extern "C" fn rattle_realloc(
 /// Frees a block that the library had.
 #[unsafe(no_mangle)]
 unsafe extern "C" fn rattle_dealloc(at: *mut u8) {
-    // SAFETY: the block came from `tried_memory`, so its head says its size.
+    // SAFETY: the block came from `answer_request`, so its head says its size.
     unsafe {
         let block = at.sub(HEAD);
         if let Some(layout) = layout_with_head(block.cast::<usize>().read()) {

@@ -1,6 +1,8 @@
 //! Handles of the items of a batch.
 
-use super::{EntryNumbers, File, Handle, Status, check_call, entries_of, list_found, with_handle};
+use super::{
+    EntryNumbers, File, Handle, Status, check_call, list_if_found, to_entries, with_handle,
+};
 use crate::{Content, Entry, FilePart, Item, Result};
 use std::cell::Cell;
 use std::mem;
@@ -81,7 +83,10 @@ impl ItemsHandle {
     /// # Errors
     ///
     /// The reason why no batch can be read there; `Memory`.
-    pub(crate) fn next(part: FilePart<'_>, at: usize) -> Result<Option<(ItemsHandle, usize)>> {
+    pub(crate) fn read_batch_at(
+        part: FilePart<'_>,
+        at: usize,
+    ) -> Result<Option<(ItemsHandle, usize)>> {
         part.check_end()?;
         assert!(at <= part.bytes.len(), "no batch stands behind the end");
         if at == part.bytes.len() {
@@ -122,13 +127,13 @@ impl ItemsHandle {
 
     /// Returns the region of the item at position `i`; `None` behind the last item.
     pub(crate) fn region(&self, i: usize) -> Option<u64> {
-        Some(self.head(i)?.region)
+        Some(self.item_head(i)?.region)
     }
 
     /// Returns a copy of the item at position `i`; `None` behind the last item. It panics where the
     /// item has an entry without a place.
     pub(crate) fn item(&self, i: usize) -> Option<Item> {
-        let head = self.head(i)?;
+        let head = self.item_head(i)?;
         let index = head.number;
         Some(Item {
             region: head.region,
@@ -147,7 +152,7 @@ impl ItemsHandle {
     }
 
     /// Returns the item at position `i` without its lists; `None` behind the last item.
-    fn head(&self, i: usize) -> Option<ItemHead> {
+    fn item_head(&self, i: usize) -> Option<ItemHead> {
         let mut head = ItemHead::default();
         // SAFETY: `held`: the handle holds items.
         let is_found = with_handle(&self.0, |items| unsafe {
@@ -158,18 +163,18 @@ impl ItemsHandle {
 
     /// Returns the entries of the item at position `i`, which has to be one of entries.
     fn entries(&self, i: usize) -> Vec<Entry> {
-        let list = list_found(|room, len, count| {
+        let list = list_if_found(|room, len, count| {
             // SAFETY: `held`: the handle holds items.
             with_handle(&self.0, |items| unsafe {
                 raft_ffi_items_entries(items, i, room, len, count)
             })
         });
-        entries_of(list.expect("an item of entries has entries"))
+        to_entries(list.expect("an item of entries has entries"))
     }
 
     /// Returns the key of the item at position `i`, which has to change a key.
     fn key(&self, i: usize) -> Vec<u8> {
-        list_found(|room, len, count| {
+        list_if_found(|room, len, count| {
             // SAFETY: `held`: the handle holds items.
             with_handle(&self.0, |items| unsafe {
                 raft_ffi_items_key(items, i, room, len, count)
@@ -180,7 +185,7 @@ impl ItemsHandle {
 
     /// Returns the value of the item at position `i`, which has to put a key.
     fn value(&self, i: usize) -> Vec<u8> {
-        list_found(|room, len, count| {
+        list_if_found(|room, len, count| {
             // SAFETY: `held`: the handle holds items.
             with_handle(&self.0, |items| unsafe {
                 raft_ffi_items_value(items, i, room, len, count)

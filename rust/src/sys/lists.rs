@@ -12,7 +12,7 @@ use std::alloc::{Layout, handle_alloc_error};
 pub(super) fn list<T: Copy + Default>(
     call: impl FnMut(*mut T, usize, &mut usize) -> Result<()>,
 ) -> Result<Vec<T>> {
-    list_in(Vec::new(), call)
+    list_with_room(Vec::new(), call)
 }
 
 /// Returns the list that a call fills in, as [`list`] does. The call gets `room` first, so one call is enough where the list
@@ -21,7 +21,7 @@ pub(super) fn list<T: Copy + Default>(
 /// # Errors
 ///
 /// Those of the call, `Memory`.
-pub(super) fn list_in<T: Copy + Default>(
+pub(super) fn list_with_room<T: Copy + Default>(
     mut room: Vec<T>,
     mut call: impl FnMut(*mut T, usize, &mut usize) -> Result<()>,
 ) -> Result<Vec<T>> {
@@ -50,7 +50,7 @@ pub(super) fn make_room<T: Copy + Default>(room: &mut Vec<T>, count: usize) -> R
 
 /// Returns the list that a call fills in, as [`list`] does; `None` where the call returns false, since there is no such list.
 /// Without memory for the list the program ends, as it does where a `Vec` grows.
-pub(super) fn list_found<T: Copy + Default>(
+pub(super) fn list_if_found<T: Copy + Default>(
     mut call: impl FnMut(*mut T, usize, &mut usize) -> bool,
 ) -> Option<Vec<T>> {
     let mut is_found = false;

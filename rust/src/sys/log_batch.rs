@@ -1,7 +1,7 @@
 //! Handles of log batches that are made, to be written.
 
 use super::{
-    File, Handle, ItemsHandle, Packed, Status, check_call, list, memory_result, with_handle,
+    File, Handle, ItemsHandle, Packed, Status, check_call, check_memory, list, with_handle,
 };
 use crate::{Error, FileId, LogFile, Queue, Result, Stage};
 use std::cell::Cell;
@@ -121,12 +121,12 @@ impl LogBatchHandle {
     pub(crate) fn new() -> Result<LogBatchHandle> {
         let mut handle = Handle::EMPTY;
         // SAFETY: `empty`: the handle is empty.
-        memory_result(unsafe { raft_ffi_batch_new(&mut handle) })?;
-        Ok(LogBatchHandle::of(handle))
+        check_memory(unsafe { raft_ffi_batch_new(&mut handle) })?;
+        Ok(LogBatchHandle::from_raw(handle))
     }
 
     /// Makes the owner of the batch that a handle holds. The handle isn't empty.
-    pub(super) fn of(handle: Handle) -> LogBatchHandle {
+    pub(super) fn from_raw(handle: Handle) -> LogBatchHandle {
         LogBatchHandle(Cell::new(handle))
     }
 
@@ -179,7 +179,7 @@ impl LogBatchHandle {
 
     /// Returns about how many bytes the batch will have, or exactly how many it has once they are
     /// made; 0 without items.
-    pub(crate) fn size(&self) -> usize {
+    pub(crate) fn approximate_size(&self) -> usize {
         // SAFETY: `held`: the handle holds a batch.
         with_handle(&self.0, |batch| unsafe { raft_ffi_batch_size(batch) })
     }
@@ -188,19 +188,19 @@ impl LogBatchHandle {
     ///
     /// # Errors
     ///
-    /// Those of [`LogBatchHandle::add`].
+    /// Those of [`LogBatchHandle::add_entries`].
     pub(crate) fn add_packed(&mut self, region: u64, first: u64, packed: &Packed) -> Result<()> {
         let (lens, bytes) = packed.lens_and_bytes();
-        self.add(region, first, lens, bytes)
+        self.add_entries(region, first, lens, bytes)
     }
 
     /// Adds an item with a single entry, whose bytes are `entry`, at an index.
     ///
     /// # Errors
     ///
-    /// Those of [`LogBatchHandle::add`].
+    /// Those of [`LogBatchHandle::add_entries`].
     pub(crate) fn add_entry(&mut self, region: u64, index: u64, entry: &[u8]) -> Result<()> {
-        self.add(region, index, &[entry.len()], entry)
+        self.add_entries(region, index, &[entry.len()], entry)
     }
 
     /// Adds an item with entries of a region. Their indexes rise by one from `first` on. Their
@@ -211,7 +211,7 @@ impl LogBatchHandle {
     ///
     /// `InvalidArgument` where the batch isn't open, or an index would be 2^64 - 1 or more; `Full`
     /// where the batch would have 2^31 entry bytes or more; `Memory`. The batch is as it was then.
-    fn add(&mut self, region: u64, first: u64, lens: &[usize], bytes: &[u8]) -> Result<()> {
+    fn add_entries(&mut self, region: u64, first: u64, lens: &[usize], bytes: &[u8]) -> Result<()> {
         self.check_open()?;
         if first.checked_add(lens.len() as u64).is_none() {
             return Err(Error::invalid_argument(
@@ -243,7 +243,7 @@ impl LogBatchHandle {
     pub(crate) fn clean(&mut self, region: u64) -> Result<()> {
         self.check_open()?;
         // SAFETY: `held`, `open`: the handle holds an open batch.
-        memory_result(unsafe { raft_ffi_batch_clean(self.0.as_ptr(), region) })
+        check_memory(unsafe { raft_ffi_batch_clean(self.0.as_ptr(), region) })
     }
 
     /// Adds an item that removes the entries of a region below an index.
@@ -254,7 +254,7 @@ impl LogBatchHandle {
     pub(crate) fn compact(&mut self, region: u64, index: u64) -> Result<()> {
         self.check_open()?;
         // SAFETY: `held`, `open`: the handle holds an open batch.
-        memory_result(unsafe { raft_ffi_batch_compact(self.0.as_ptr(), region, index) })
+        check_memory(unsafe { raft_ffi_batch_compact(self.0.as_ptr(), region, index) })
     }
 
     /// Adds an item that removes the entries of a region from an index on.
@@ -265,7 +265,7 @@ impl LogBatchHandle {
     pub(crate) fn truncate(&mut self, region: u64, index: u64) -> Result<()> {
         self.check_open()?;
         // SAFETY: `held`, `open`: the handle holds an open batch.
-        memory_result(unsafe { raft_ffi_batch_truncate(self.0.as_ptr(), region, index) })
+        check_memory(unsafe { raft_ffi_batch_truncate(self.0.as_ptr(), region, index) })
     }
 
     /// Adds an item that gives a key of a region a value. Both are copied.
@@ -299,7 +299,7 @@ impl LogBatchHandle {
     pub(crate) fn delete(&mut self, region: u64, key: &[u8]) -> Result<()> {
         self.check_open()?;
         // SAFETY: `held`, `open`: the handle holds an open batch.
-        memory_result(unsafe {
+        check_memory(unsafe {
             raft_ffi_batch_delete(self.0.as_ptr(), region, key.as_ptr(), key.len())
         })
     }
@@ -398,7 +398,7 @@ impl LogBatchHandle {
         let batch = self.into_raw();
         let mut items = Handle::EMPTY;
         // SAFETY: `held`, `empty`: the one handle holds a batch, which is given away, and the other one is empty.
-        memory_result(unsafe { raft_ffi_batch_into_items(batch, &mut items) })?;
+        check_memory(unsafe { raft_ffi_batch_into_items(batch, &mut items) })?;
         Ok(ItemsHandle(Cell::new(items)))
     }
 }

@@ -123,11 +123,11 @@ impl From<EntryNumbers> for Entry {
 }
 
 /// Returns entries as the library takes them.
-pub(super) fn numbers_of(entries: &[Entry]) -> Vec<EntryNumbers> {
+pub(super) fn to_entry_numbers(entries: &[Entry]) -> Vec<EntryNumbers> {
     entries.iter().map(EntryNumbers::from).collect()
 }
 
 /// Returns the entries that the library has filled in, each of which must have a place.
-pub(super) fn entries_of(numbers: Vec<EntryNumbers>) -> Vec<Entry> {
+pub(super) fn to_entries(numbers: Vec<EntryNumbers>) -> Vec<Entry> {
     numbers.into_iter().map(Entry::from).collect()
 }

@@ -2,7 +2,7 @@
 
 use super::engine_calls::{TailNumbers, raft_ffi_engine_open};
 use super::{
-    EngineHandle, File, Handle, Status, TEXT_LEN, check_call, list, memory_result, refusal_of,
+    EngineHandle, File, Handle, Status, TEXT_LEN, check_call, check_memory, error_with_text, list,
 };
 use crate::{
     CutTail, DamagedBatch, Error, FileId, FilePart, LogFile, Queue, Recovered, RecoveryMode,
@@ -92,7 +92,7 @@ impl ReaderHandle {
     pub(crate) fn new() -> Result<ReaderHandle> {
         let mut handle = Handle::EMPTY;
         // SAFETY: `empty`: the handle is empty.
-        memory_result(unsafe { raft_ffi_reader_new(&mut handle) })?;
+        check_memory(unsafe { raft_ffi_reader_new(&mut handle) })?;
         Ok(ReaderHandle(handle))
     }
 
@@ -264,7 +264,7 @@ pub(crate) fn open_engine(
         rewrite: rewrite_tail.into_cut(Queue::Rewrite),
         damaged,
     };
-    Ok((EngineHandle::of(handle), recovered))
+    Ok((EngineHandle::from_raw(handle), recovered))
 }
 
 /// Room for what the library says of a tail that was cut off.
@@ -288,12 +288,12 @@ impl Tail {
     fn into_cut(self, queue: Queue) -> Option<CutTail> {
         let numbers = self.numbers.is_some.then_some(self.numbers)?;
         let file = FileId::new(queue, numbers.seq);
-        let reason = refusal_of(numbers.code, numbers.text_len, &self.reason);
+        let reason = error_with_text(numbers.code, numbers.text_len, &self.reason);
         Some(CutTail {
             file,
             offset: numbers.offset,
             len: numbers.len,
-            reason: Some(reason.at(file, numbers.offset)),
+            reason: Some(reason.with_place(file, numbers.offset)),
         })
     }
 }

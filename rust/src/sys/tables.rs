@@ -14,8 +14,8 @@ use super::table_calls::{
     raft_ffi_tables_summary, raft_ffi_tables_truncate, raft_ffi_tables_value,
 };
 use super::{
-    EntryNumbers, Handle, ItemsHandle, LogBatchHandle, SummaryNumbers, check_call, entries_of,
-    list, list_found, list_pairs, memory_result, numbers_of, with_handle,
+    EntryNumbers, Handle, ItemsHandle, LogBatchHandle, SummaryNumbers, check_call, check_memory,
+    list, list_if_found, list_pairs, to_entries, to_entry_numbers, with_handle,
 };
 use crate::{Entry, FileId, Pair, Queue, Result, Summary};
 use std::cell::Cell;
@@ -34,7 +34,7 @@ impl TablesHandle {
     pub(crate) fn new() -> Result<TablesHandle> {
         let mut handle = Handle::EMPTY;
         // SAFETY: `empty`: the handle is empty.
-        memory_result(unsafe { raft_ffi_tables_new(&mut handle) })?;
+        check_memory(unsafe { raft_ffi_tables_new(&mut handle) })?;
         Ok(TablesHandle(Cell::new(handle)))
     }
 
@@ -70,7 +70,7 @@ impl TablesHandle {
     pub(crate) fn regions(&self) -> Result<Vec<u64>> {
         list(|room, len, count| {
             // SAFETY: `held`: the handle holds tables.
-            memory_result(with_handle(&self.0, |tables| unsafe {
+            check_memory(with_handle(&self.0, |tables| unsafe {
                 raft_ffi_tables_regions(tables, room, len, count)
             }))
         })
@@ -78,7 +78,7 @@ impl TablesHandle {
 
     /// Returns the list of cleaned regions, in the order in which they were cleaned.
     pub(crate) fn cleaned(&self) -> Vec<u64> {
-        list_found(|room, len, count| {
+        list_if_found(|room, len, count| {
             // SAFETY: `held`: the handle holds tables.
             *count = with_handle(&self.0, |tables| unsafe {
                 raft_ffi_tables_cleaned(tables, room, len)
@@ -131,7 +131,7 @@ impl TablesHandle {
                 })
             })
         })?;
-        Ok(entries_of(list))
+        Ok(to_entries(list))
     }
 
     /// Returns the appended entries of a region, from the first one on, as long as their file is
@@ -139,11 +139,11 @@ impl TablesHandle {
     pub(crate) fn entries_before(&self, region: u64, gate: u64) -> Result<Vec<Entry>> {
         let list = list(|room, len, count| {
             // SAFETY: `held`: the handle holds tables.
-            memory_result(with_handle(&self.0, |tables| unsafe {
+            check_memory(with_handle(&self.0, |tables| unsafe {
                 raft_ffi_tables_entries_before(tables, region, gate, room, len, count)
             }))
         })?;
-        Ok(entries_of(list))
+        Ok(to_entries(list))
     }
 
     /// Returns the entries of a region that are in rewrite files, in order. The only error is
@@ -151,16 +151,16 @@ impl TablesHandle {
     pub(crate) fn rewritten_entries(&self, region: u64) -> Result<Vec<Entry>> {
         let list = list(|room, len, count| {
             // SAFETY: `held`: the handle holds tables.
-            memory_result(with_handle(&self.0, |tables| unsafe {
+            check_memory(with_handle(&self.0, |tables| unsafe {
                 raft_ffi_tables_rewritten_entries(tables, region, room, len, count)
             }))
         })?;
-        Ok(entries_of(list))
+        Ok(to_entries(list))
     }
 
     /// Returns a copy of the value of a region's key; `None` where it has none.
     pub(crate) fn value(&self, region: u64, key: &[u8]) -> Option<Vec<u8>> {
-        list_found(|room, len, count| {
+        list_if_found(|room, len, count| {
             // SAFETY: `held`: the handle holds tables.
             with_handle(&self.0, |tables| unsafe {
                 raft_ffi_tables_value(tables, region, key.as_ptr(), key.len(), room, len, count)
@@ -173,7 +173,7 @@ impl TablesHandle {
     pub(crate) fn pairs_before(&self, region: u64, gate: u64) -> Result<Vec<Pair>> {
         list_pairs(|lens, lens_len, count, bytes, bytes_len, len| {
             // SAFETY: `held`: the handle holds tables.
-            memory_result(with_handle(&self.0, |tables| unsafe {
+            check_memory(with_handle(&self.0, |tables| unsafe {
                 raft_ffi_tables_pairs_before(
                     tables, region, gate, lens, lens_len, count, bytes, bytes_len, len,
                 )
@@ -186,7 +186,7 @@ impl TablesHandle {
     pub(crate) fn rewritten_pairs(&self, region: u64) -> Result<Vec<Pair>> {
         list_pairs(|lens, lens_len, count, bytes, bytes_len, len| {
             // SAFETY: `held`: the handle holds tables.
-            memory_result(with_handle(&self.0, |tables| unsafe {
+            check_memory(with_handle(&self.0, |tables| unsafe {
                 raft_ffi_tables_rewritten_pairs(
                     tables, region, lens, lens_len, count, bytes, bytes_len, len,
                 )
@@ -200,7 +200,7 @@ impl TablesHandle {
         let none: &[u8] = &[];
         list_pairs(|lens, lens_len, count, bytes, bytes_len, len| {
             // SAFETY: `held`: the handle holds tables.
-            memory_result(with_handle(&self.0, |tables| unsafe {
+            check_memory(with_handle(&self.0, |tables| unsafe {
                 raft_ffi_tables_scan(
                     tables,
                     region,
@@ -243,7 +243,7 @@ impl TablesHandle {
     /// # Errors
     ///
     /// `Corruption` where they would refuse an item; `Memory`.
-    pub(crate) fn check_share(&self, number: usize, batch: &LogBatchHandle) -> Result<()> {
+    pub(crate) fn check_slot_append(&self, number: usize, batch: &LogBatchHandle) -> Result<()> {
         check_call(|text, text_len| {
             with_handle(&self.0, |tables| {
                 // SAFETY: `held`, `batch`: the handles hold tables and a batch.
@@ -259,8 +259,8 @@ impl TablesHandle {
     pub(crate) fn take_cleaned_logs(&mut self) -> Result<LogBatchHandle> {
         let mut batch = Handle::EMPTY;
         // SAFETY: `held`, `empty`: the one handle holds tables, and the other one is empty.
-        memory_result(unsafe { raft_ffi_tables_cleaned_logs(self.0.as_ptr(), &mut batch) })?;
-        Ok(LogBatchHandle::of(batch))
+        check_memory(unsafe { raft_ffi_tables_cleaned_logs(self.0.as_ptr(), &mut batch) })?;
+        Ok(LogBatchHandle::from_raw(batch))
     }
 
     /// Puts new entries of the append queue behind the entries of a region that are below their
@@ -272,7 +272,7 @@ impl TablesHandle {
     /// `Corruption` where the new entries leave a hole behind those of the region, or begin below
     /// all of them; `Full`; `Memory`. The tables are as they were then.
     pub(crate) fn append(&mut self, region: u64, entries: &[Entry]) -> Result<()> {
-        let run = numbers_of(entries);
+        let run = to_entry_numbers(entries);
         // SAFETY: `held`: the handle holds tables.
         check_call(|text, text_len| unsafe {
             raft_ffi_tables_append(
@@ -370,7 +370,7 @@ impl TablesHandle {
         entries: &[Entry],
         gate: Option<u64>,
     ) -> Result<()> {
-        let run = numbers_of(entries);
+        let run = to_entry_numbers(entries);
         // SAFETY: `held`: the handle holds tables.
         check_call(|text, text_len| unsafe {
             raft_ffi_tables_rewrite(
@@ -420,7 +420,7 @@ impl TablesHandle {
     pub(crate) fn set_atomic_group(&mut self, region: u64, start: u64, end: u64) -> Result<()> {
         assert!(start <= end, "an atomic group starts behind its end");
         // SAFETY: `held`, `range`: the handle holds tables, and the files are in order.
-        memory_result(unsafe { raft_ffi_tables_atomic_group(self.0.as_ptr(), region, start, end) })
+        check_memory(unsafe { raft_ffi_tables_atomic_group(self.0.as_ptr(), region, start, end) })
     }
 
     /// Removes the table of a region, and returns whether there was one. With `is_listed` it lists
@@ -428,7 +428,7 @@ impl TablesHandle {
     pub(crate) fn remove(&mut self, region: u64, is_listed: bool) -> Result<bool> {
         let mut is_found = false;
         // SAFETY: `held`: the handle holds tables.
-        memory_result(unsafe {
+        check_memory(unsafe {
             raft_ffi_tables_remove(self.0.as_ptr(), region, is_listed, &mut is_found)
         })?;
         Ok(is_found)
@@ -518,7 +518,7 @@ impl TablesHandle {
     /// `Corruption`, `Full` or `Memory` at the first item that is refused. The items before it are
     /// applied then, and no others. Where there is no memory for copies of the items none is
     /// applied.
-    pub(crate) fn apply_share(&mut self, number: usize, items: &ItemsHandle) -> Result<()> {
+    pub(crate) fn apply_slot_append(&mut self, number: usize, items: &ItemsHandle) -> Result<()> {
         check_call(|text, text_len| {
             // SAFETY: `held`, `items`: the handles hold tables and items.
             with_handle(&items.0, |items| unsafe {
@@ -536,7 +536,7 @@ impl TablesHandle {
     /// `Corruption`, `Full` or `Memory` at the first item that is refused. The items before it are
     /// applied then, and no others. Where there is no memory for copies of the items none is
     /// applied.
-    pub(crate) fn rewrite_share(
+    pub(crate) fn apply_slot_rewrite(
         &mut self,
         number: usize,
         items: &ItemsHandle,

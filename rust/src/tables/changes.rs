@@ -221,7 +221,7 @@ impl Tables {
     /// `Memory`. The list is as it was then.
     pub fn take_cleaned_logs(&mut self) -> Result<LogBatch> {
         let regions = self.cleaned();
-        Ok(LogBatch::of_cleans(
+        Ok(LogBatch::from_cleans(
             self.handle.take_cleaned_logs()?,
             &regions,
         ))

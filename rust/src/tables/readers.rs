@@ -251,6 +251,6 @@ impl Tables {
     /// `Corruption` where an item would be refused: the error has the item, the region and the index. `Memory`.
     pub fn check_append(&self, batch: &LogBatch) -> Result<()> {
         let checked = self.handle.check_append(batch.handle());
-        checked.map_err(|e| batch.name_misfit(e, |_| true, |region| self.summary(region)))
+        checked.map_err(|e| batch.name_refused_item(e, |_| true, |region| self.summary(region)))
     }
 }

@@ -180,7 +180,7 @@ fn a_written_batch_has_no_items_and_those_that_come_are_counted_anew() {
 }
 
 /// Draws changes of regions, some of which don't fit.
-fn drawn(draw: &mut Draw) -> Vec<(u64, Change)> {
+fn draw_changes(draw: &mut Draw) -> Vec<(u64, Change)> {
     let count = 1 + draw.below(8);
     let change = |draw: &mut Draw| {
         let mut region = Region::default();
@@ -216,7 +216,7 @@ fn all_items_before_the_named_one_fit_and_it_doesnt() {
                 tables.append(region, &entries).unwrap();
             }
         }
-        let changes = drawn(&mut draw);
+        let changes = draw_changes(&mut draw);
         let batch = batch_of(&changes);
         assert_eq!(batch.len(), changes.len());
         let Err(e) = tables.check_append(&batch) else {

@@ -14,7 +14,7 @@ const NONE: Unsynced = Unsynced {
 };
 
 /// Makes files, and asks this of them.
-fn asked(asks: &[Ask]) -> MemoryFiles {
+fn files_after_asks(asks: &[Ask]) -> MemoryFiles {
     let files = MemoryFiles::new();
     for ask in asks {
         match ask {
@@ -37,7 +37,7 @@ fn write(file: FileId, bytes: &str) -> Ask {
 }
 
 /// Returns what each number of unsynced steps leaves of the append queue, with all deletions done or none.
-fn lefts(files: &MemoryFiles, all_deleted: bool) -> Vec<String> {
+fn left_after_each_step(files: &MemoryFiles, all_deleted: bool) -> Vec<String> {
     let asks = files.asked();
     let most = files.unsynced(asks, Queue::Append);
     let deletions = if all_deleted { most.deletions } else { 0 };
@@ -79,15 +79,18 @@ fn a_front_of_what_was_not_synced_is_left() {
         ),
     ];
     for (asks, expected) in rows {
-        let files = asked(&[&begun, asks].concat());
-        assert_eq!(lefts(&files, false), expected, "{asks:?}");
+        let files = files_after_asks(&[&begun, asks].concat());
+        assert_eq!(left_after_each_step(&files, false), expected, "{asks:?}");
     }
 }
 
 #[test]
 fn a_first_file_may_not_be_there() {
-    assert_eq!(lefts(&asked(&[]), false), [""]);
-    assert_eq!(lefts(&asked(&[Ask::Begin(FIRST)]), false), ["", "1:"]);
+    assert_eq!(left_after_each_step(&files_after_asks(&[]), false), [""]);
+    assert_eq!(
+        left_after_each_step(&files_after_asks(&[Ask::Begin(FIRST)]), false),
+        ["", "1:"]
+    );
 }
 
 #[test]
@@ -99,17 +102,20 @@ fn deletions_that_were_not_synced_may_not_be_done() {
         Ask::Delete(FIRST),
         write(SECOND, "b"),
     ];
-    let files = asked(&asks);
-    assert_eq!(lefts(&files, true), ["", "2:", "2:b"]);
-    assert_eq!(lefts(&files, false), ["1:a", "1:a 2:", "1:a 2:b"]);
+    let files = files_after_asks(&asks);
+    assert_eq!(left_after_each_step(&files, true), ["", "2:", "2:b"]);
+    assert_eq!(
+        left_after_each_step(&files, false),
+        ["1:a", "1:a 2:", "1:a 2:b"]
+    );
     files.sync(Queue::Append).unwrap();
-    assert_eq!(lefts(&files, false), ["2:b"]);
+    assert_eq!(left_after_each_step(&files, false), ["2:b"]);
 }
 
 #[test]
 fn deletions_add_up_and_a_new_file_syncs_none_of_them() {
     let [third, fourth] = [3, 4].map(|seq| FileId::new(Queue::Append, seq));
-    let files = asked(&[
+    let files = files_after_asks(&[
         Ask::Begin(FIRST),
         Ask::Begin(SECOND),
         Ask::Begin(third),
@@ -120,15 +126,15 @@ fn deletions_add_up_and_a_new_file_syncs_none_of_them() {
     ]);
     let most = files.unsynced(7, Queue::Append);
     assert_eq!((most.steps, most.deletions), (1, 1));
-    assert_eq!(lefts(&files, false), ["2: 3:", "2: 3: 4:"]);
-    assert_eq!(lefts(&files, true), ["3:", "3: 4:"]);
+    assert_eq!(left_after_each_step(&files, false), ["2: 3:", "2: 3: 4:"]);
+    assert_eq!(left_after_each_step(&files, true), ["3:", "3: 4:"]);
     files.sync(Queue::Append).unwrap();
-    assert_eq!(lefts(&files, false), ["3: 4:"]);
+    assert_eq!(left_after_each_step(&files, false), ["3: 4:"]);
 }
 
 #[test]
 fn bytes_are_read_where_all_of_them_are_there() {
-    let files = asked(&[Ask::Begin(FIRST), write(FIRST, "abc")]);
+    let files = files_after_asks(&[Ask::Begin(FIRST), write(FIRST, "abc")]);
     let read = |offset, len| {
         let mut bytes = vec![0; len];
         files.read(FIRST, offset, &mut bytes).map(|()| bytes)
@@ -145,7 +151,7 @@ fn bytes_are_read_where_all_of_them_are_there() {
 
 #[test]
 fn one_queue_says_nothing_of_the_other() {
-    let files = asked(&[
+    let files = files_after_asks(&[
         Ask::Begin(FIRST),
         Ask::Begin(REWRITTEN),
         write(FIRST, "a"),
@@ -175,7 +181,7 @@ fn what_was_found_stays() {
 
 #[test]
 fn what_no_engine_asks_is_refused_and_changes_nothing() {
-    let files = asked(&[Ask::Begin(FIRST), Ask::Begin(SECOND), Ask::Begin(REWRITTEN)]);
+    let files = files_after_asks(&[Ask::Begin(FIRST), Ask::Begin(SECOND), Ask::Begin(REWRITTEN)]);
     let refused = [
         files.write(FIRST, b"."),
         files.truncate(FIRST, 0),

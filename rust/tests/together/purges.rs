@@ -13,7 +13,7 @@ fn append(seq: u64) -> FileId {
 
 /// Returns a holder as numbers: its region, its file, the index up to which it has to be compacted, and how many entries that
 /// takes away.
-fn shown(holder: &Holder) -> (u64, u64, Option<u64>, u64) {
+fn holder_numbers(holder: &Holder) -> (u64, u64, Option<u64>, u64) {
     (
         holder.region,
         holder.file.seq,
@@ -86,7 +86,7 @@ fn the_holders_of_the_oldest_file_are_named_with_what_they_have_there() {
         (9, 1, None, 0),
         (11, 1, Some(6), 1),
     ];
-    assert_eq!(holders.iter().map(shown).collect::<Vec<_>>(), rows);
+    assert_eq!(holders.iter().map(holder_numbers).collect::<Vec<_>>(), rows);
 
     write(&engine, |batch| {
         batch.compact(7, 13)?;
@@ -96,7 +96,7 @@ fn the_holders_of_the_oldest_file_are_named_with_what_they_have_there() {
     });
     let holders = engine.purge().unwrap().holders;
     assert_eq!(
-        holders.iter().map(shown).collect::<Vec<_>>(),
+        holders.iter().map(holder_numbers).collect::<Vec<_>>(),
         [(11, 1, None, 0)]
     );
     write(&engine, |batch| batch.delete(11, b"key"));
@@ -117,7 +117,11 @@ fn what_moved_is_held_by_nobody() {
     assert_eq!(purged.files, [append(1)]);
     // those that moved go with the compaction, too
     assert_eq!(
-        purged.holders.iter().map(shown).collect::<Vec<_>>(),
+        purged
+            .holders
+            .iter()
+            .map(holder_numbers)
+            .collect::<Vec<_>>(),
         [(7, 2, Some(6), 5)]
     );
     engine.rewrite(2).unwrap();
@@ -125,7 +129,7 @@ fn what_moved_is_held_by_nobody() {
 }
 
 /// Draws options with small files, some of which are deleted at once, and some only when their records have moved.
-fn drawn_options(draw: &mut Draw) -> Options {
+fn draw_options(draw: &mut Draw) -> Options {
     Options::new()
         .target_file_size(200 + draw.below(400) as u64)
         .purge_above(800 + draw.below(3000) as u64)
@@ -133,7 +137,11 @@ fn drawn_options(draw: &mut Draw) -> Options {
 }
 
 /// Makes a random change of a random region, in the engine and in the model.
-fn change(engine: &Engine<MemoryFiles>, model: &mut BTreeMap<u64, Region>, draw: &mut Draw) {
+fn make_random_change(
+    engine: &Engine<MemoryFiles>,
+    model: &mut BTreeMap<u64, Region>,
+    draw: &mut Draw,
+) {
     let id = draw.below(4) as u64;
     let region = model.entry(id).or_default();
     let change = Change::draw(draw, region);
@@ -146,11 +154,11 @@ fn a_purge_asks_something_of_the_files_where_one_is_needed_and_else_nothing() {
     let (mut needed, mut needless) = (0, 0);
     for seed in 0..30 {
         let mut draw = Draw::new(seed);
-        let options = drawn_options(&mut draw);
+        let options = draw_options(&mut draw);
         let engine = Engine::with_files(MemoryFiles::new(), options).unwrap();
         let mut model = BTreeMap::new();
         for step in 0..300 {
-            change(&engine, &mut model, &mut draw);
+            make_random_change(&engine, &mut model, &mut draw);
             if draw.once_in(6) {
                 let (is_needed, before) = (engine.needs_purge().unwrap(), engine.files().asked());
                 engine.purge().unwrap();
@@ -177,7 +185,7 @@ fn drawn_holders(seed: u64) -> (Engine<MemoryFiles>, Vec<Holder>) {
     let engine = Engine::with_files(MemoryFiles::new(), options).unwrap();
     let mut model = BTreeMap::new();
     for _ in 0..60 {
-        change(&engine, &mut model, &mut draw);
+        make_random_change(&engine, &mut model, &mut draw);
         if draw.once_in(20) {
             let first = engine.stats().append.first_file;
             engine.rewrite(first).unwrap();

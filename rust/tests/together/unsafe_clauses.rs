@@ -17,7 +17,7 @@ fn sources(folder: &Path, ending: &str) -> Vec<(String, String)> {
 }
 
 /// Returns for each exported function of the library the names of the clauses that bind its caller.
-fn asked() -> BTreeMap<String, Vec<String>> {
+fn required_clauses() -> BTreeMap<String, Vec<String>> {
     let mut asked = BTreeMap::new();
     for (_, text) in sources(&top().join("crates/raft_ffi/src"), ".rt") {
         for function in text.split("pub extern \"C\" fn ").skip(1) {
@@ -62,7 +62,7 @@ fn calls(text: &str) -> Vec<(String, String)> {
 
 #[test]
 fn each_call_names_the_clauses_that_it_keeps() {
-    let (asked, mut called) = (asked(), BTreeMap::new());
+    let (asked, mut called) = (required_clauses(), BTreeMap::new());
     assert!(asked.len() > 80, "{}", asked.len());
     let src = top().join("rust/src");
     let mut all = sources(&src.join("sys"), ".rs");

@@ -23,7 +23,7 @@ pub(in crate::engine) struct Group<'a> {
 
 impl<'a> Group<'a> {
     /// Makes the group that the thread with the ticket `leader` leads. It has no batches yet.
-    pub(super) fn of(commits: &'a Commits, leader: u64) -> Group<'a> {
+    pub(super) fn led_by(commits: &'a Commits, leader: u64) -> Group<'a> {
         Group {
             commits,
             leader,
@@ -72,7 +72,7 @@ impl<'a> Group<'a> {
     }
 
     /// Lets the threads of all batches go on that are left in the group. `result` is that of the batches which have none yet.
-    pub(in crate::engine) fn end_with(&mut self, result: &Result<()>) {
+    pub(in crate::engine) fn finish_with(&mut self, result: &Result<()>) {
         let mut all = mem::take(&mut self.taken);
         all.append(&mut self.unsynced);
         for commit in &mut all {

@@ -1,6 +1,6 @@
 //! Keeps bytes aside before they are cut off a log file.
 
-use super::names::name_of_cut;
+use super::names::cut_file_name;
 use crate::FileId;
 use std::fs::{self, File};
 use std::io::{self, Write};
@@ -13,8 +13,8 @@ use std::path::{Path, PathBuf};
 ///
 /// Those of the system, with the path of the new file, which isn't there then.
 pub(super) fn keep_aside(folder: &Path, id: FileId, offset: u64, bytes: &[u8]) -> io::Result<()> {
-    let path = path_for(folder, id, offset, bytes)?;
-    write_synced(&path, bytes).map_err(|e| {
+    let path = path_for_cut_bytes(folder, id, offset, bytes)?;
+    write_and_sync(&path, bytes).map_err(|e| {
         let _ = fs::remove_file(&path); // all of it still stands in the log file
         let text = format!("what is cut can't be kept in {}: {e}", path.display());
         io::Error::new(e.kind(), text)
@@ -28,10 +28,10 @@ pub(super) fn keep_aside(folder: &Path, id: FileId, offset: u64, bytes: &[u8]) -
 /// # Errors
 ///
 /// Those of the system, where a file that is there can't be read.
-fn path_for(folder: &Path, id: FileId, offset: u64, bytes: &[u8]) -> io::Result<PathBuf> {
+fn path_for_cut_bytes(folder: &Path, id: FileId, offset: u64, bytes: &[u8]) -> io::Result<PathBuf> {
     let mut nth = 1;
     loop {
-        let path = folder.join(name_of_cut(id, offset, nth));
+        let path = folder.join(cut_file_name(id, offset, nth));
         match fs::read(&path) {
             Ok(kept) if !bytes.starts_with(&kept) => nth += 1,
             Ok(_) => return Ok(path),
@@ -46,7 +46,7 @@ fn path_for(folder: &Path, id: FileId, offset: u64, bytes: &[u8]) -> io::Result<
 /// # Errors
 ///
 /// Those of the system. Part of the file may be there then.
-fn write_synced(path: &Path, bytes: &[u8]) -> io::Result<()> {
+fn write_and_sync(path: &Path, bytes: &[u8]) -> io::Result<()> {
     let mut file = File::create(path)?;
     file.write_all(bytes)?;
     file.sync_all()

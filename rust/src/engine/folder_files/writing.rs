@@ -7,12 +7,12 @@ use std::io::{self, Write};
 ///
 /// # Errors
 ///
-/// [`Unmade::AsBefore`] where there is no room, and the file has none of the bytes. [`Unmade::InPart`] for any other error of the
+/// [`ChangeError::AsBefore`] where there is no room, and the file has none of the bytes. [`ChangeError::InPart`] for any other error of the
 /// system, or where they couldn't be cut off again: some of the bytes may be in the file then.
 pub(super) fn write_all_or_nothing(
     mut file: &File,
     bytes: &[u8],
-) -> std::result::Result<(), Unmade> {
+) -> std::result::Result<(), ChangeError> {
     let mut rest = bytes;
     while !rest.is_empty() {
         match file.write(rest) {
@@ -21,8 +21,8 @@ pub(super) fn write_all_or_nothing(
             Err(e) if e.kind() == io::ErrorKind::Interrupted => {}
             Err(e) => {
                 let written = (bytes.len() - rest.len()) as u64;
-                if lacks_room(&e) && (written == 0 || cut_last_bytes(file, written).is_ok()) {
-                    return Err(Unmade::AsBefore(e));
+                if is_out_of_room(&e) && (written == 0 || cut_last_bytes(file, written).is_ok()) {
+                    return Err(ChangeError::AsBefore(e));
                 }
                 return Err(e.into()); // what is there is cut as a torn tail
             }
@@ -33,16 +33,16 @@ pub(super) fn write_all_or_nothing(
 
 /// Why a change of the files failed, and whether some of it may be made.
 #[derive(Debug)]
-pub(super) enum Unmade {
+pub(super) enum ChangeError {
     /// Nothing is changed.
     AsBefore(io::Error),
     /// Some of the change may be made.
     InPart(io::Error),
 }
 
-impl From<io::Error> for Unmade {
-    fn from(e: io::Error) -> Unmade {
-        Unmade::InPart(e)
+impl From<io::Error> for ChangeError {
+    fn from(e: io::Error) -> ChangeError {
+        ChangeError::InPart(e)
     }
 }
 
@@ -57,7 +57,7 @@ fn cut_last_bytes(file: &File, count: u64) -> io::Result<()> {
 
 /// Tests whether an error of the system says that there is no room: on the disk, within a quota, or within the greatest length of
 /// a file.
-pub(super) fn lacks_room(refused: &io::Error) -> bool {
+pub(super) fn is_out_of_room(refused: &io::Error) -> bool {
     matches!(
         refused.kind(),
         io::ErrorKind::StorageFull | io::ErrorKind::QuotaExceeded | io::ErrorKind::FileTooLarge

@@ -63,7 +63,7 @@ impl<'a, F: Files> FilePieces<'a, F> {
     }
 
     /// Returns how many pieces were read.
-    pub(super) fn count_lent(&self) -> usize {
+    pub(super) fn count_read(&self) -> usize {
         self.count
     }
 
@@ -83,14 +83,14 @@ impl<'a, F: Files> FilePieces<'a, F> {
             return Ok(None);
         }
         self.is_done = true;
-        let read = self.read_batch(room)?;
+        let read = self.read_first_batch(room)?;
         let read = &room[..read];
         if self.at == 0 && read.starts_with(FOREIGN_HEADER) {
             let text = "the file is one of raft-engine, which begins with a header";
-            return Err(Error::invalid_argument(text).at(self.file, 0));
+            return Err(Error::invalid_argument(text).with_place(self.file, 0));
         }
         let offset = self.at;
-        let whole = whole_batches(read);
+        let whole = whole_batches_len(read);
         let (bytes, begun) = read.split_at(if whole > 0 { whole } else { read.len() });
         self.keep_begun(begun)?;
         self.at += bytes.len() as u64;
@@ -109,7 +109,7 @@ impl<'a, F: Files> FilePieces<'a, F> {
     /// # Errors
     ///
     /// `Io` and `Memory`, with file and offset.
-    fn read_batch(&mut self, room: &mut Vec<u8>) -> Result<usize> {
+    fn read_first_batch(&mut self, room: &mut Vec<u8>) -> Result<usize> {
         let mut read = self.begun.len();
         self.make_room(room, read)?;
         room[..read].copy_from_slice(&self.begun);
@@ -121,7 +121,7 @@ impl<'a, F: Files> FilePieces<'a, F> {
             }
             self.make_room(room, read + wanted)?;
             let piece = &mut room[read..read + wanted];
-            read_into(self.files, self.file, offset, piece)?;
+            read_exact_at(self.files, self.file, offset, piece)?;
             read += wanted;
         }
     }
@@ -135,7 +135,7 @@ impl<'a, F: Files> FilePieces<'a, F> {
         self.begun.clear();
         self.begun
             .try_reserve_exact(begun.len())
-            .map_err(|_| Error::memory().at(self.file, self.at))?;
+            .map_err(|_| Error::memory().with_place(self.file, self.at))?;
         self.begun.extend_from_slice(begun);
         Ok(())
     }
@@ -148,7 +148,7 @@ impl<'a, F: Files> FilePieces<'a, F> {
     fn make_room(&self, room: &mut Vec<u8>, len: usize) -> Result<()> {
         if len > room.len() {
             room.try_reserve_exact(len - room.len())
-                .map_err(|_| Error::memory().at(self.file, self.at))?;
+                .map_err(|_| Error::memory().with_place(self.file, self.at))?;
             room.resize(len, 0);
         }
         Ok(())
@@ -160,7 +160,7 @@ impl<'a, F: Files> FilePieces<'a, F> {
 /// # Errors
 ///
 /// `Io` with file and offset.
-pub(super) fn read_into(
+pub(super) fn read_exact_at(
     files: &impl Files,
     file: FileId,
     offset: u64,
@@ -168,12 +168,12 @@ pub(super) fn read_into(
 ) -> Result<()> {
     files
         .read(file, offset, bytes)
-        .map_err(|e| Error::system("the file can't be read", e).at(file, offset))
+        .map_err(|e| Error::system("the file can't be read", e).with_place(file, offset))
 }
 
 /// Returns how many of the bytes, from the first one on, are whole batches by the lengths in their headers. Whether these batches
 /// can be read isn't tested.
-fn whole_batches(bytes: &[u8]) -> usize {
+fn whole_batches_len(bytes: &[u8]) -> usize {
     let mut at = 0;
     while let Some(len) = batch_len(&bytes[at..]) {
         if len > bytes.len() - at {

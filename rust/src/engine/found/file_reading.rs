@@ -1,6 +1,6 @@
 //! Reads a file by several threads, and replays its batches.
 
-use super::file_pieces::{FilePieces, PIECE, Piece, read_into};
+use super::file_pieces::{FilePieces, PIECE, Piece, read_exact_at};
 use crate::engine::locks;
 use crate::sys::ReaderHandle;
 use crate::{Error, ErrorKind, FilePart, Files, LogFile, Result, readable_front};
@@ -65,7 +65,7 @@ impl<'a, F: Files> FileReading<'a, F> {
         room: &'r mut Vec<u8>,
     ) -> (usize, Result<Option<Piece<'r>>>) {
         let mut pieces = locks::lock(&self.pieces);
-        let number = pieces.count_lent();
+        let number = pieces.count_read();
         let piece = pieces.read_next(room);
         self.left.store(pieces.bytes_left(), Relaxed);
         (number, piece)
@@ -99,7 +99,7 @@ impl<'a, F: Files> FileReading<'a, F> {
             return Ok((reader.replay(part)?, None));
         }
         let (reader, front) = match self.is_named {
-            true => replay_prefix(reader, part)?,
+            true => replay_readable_prefix(reader, part)?,
             false => reader.replay_last(part)?,
         };
         match piece.bytes.split_at(front) {
@@ -117,7 +117,7 @@ impl<'a, F: Files> FileReading<'a, F> {
     ///
     /// `Io` and `Memory`, with file and offset.
     fn read_rest(&self, offset: u64, read: &[u8]) -> Result<Vec<u8>> {
-        let memory = || Error::memory().at(self.file.into(), offset);
+        let memory = || Error::memory().with_place(self.file.into(), offset);
         let len = usize::try_from(self.len - offset).map_err(|_| memory())?;
         let mut rest = Vec::new();
         rest.try_reserve_exact(len).map_err(|_| memory())?;
@@ -126,7 +126,7 @@ impl<'a, F: Files> FileReading<'a, F> {
         let behind = &mut rest[read.len()..];
         if !behind.is_empty() {
             let at = offset + read.len() as u64;
-            read_into(self.files, self.file.into(), at, behind)?;
+            read_exact_at(self.files, self.file.into(), at, behind)?;
         }
         Ok(rest)
     }
@@ -139,7 +139,10 @@ impl<'a, F: Files> FileReading<'a, F> {
 /// # Errors
 ///
 /// That of the first batch that doesn't fit those before it; `Memory`. The reader is gone then.
-fn replay_prefix(reader: ReaderHandle, part: FilePart<'_>) -> Result<(ReaderHandle, usize)> {
+fn replay_readable_prefix(
+    reader: ReaderHandle,
+    part: FilePart<'_>,
+) -> Result<(ReaderHandle, usize)> {
     match readable_front(part)? {
         (_, Some(e)) if e.kind == ErrorKind::Memory => Err(e),
         (front, _) => {

@@ -100,11 +100,11 @@ impl<'a, F: Files> QueueReading<'a, F> {
         thread::scope(|scope| {
             let others: Vec<_> = (1..threads)
                 .map_while(|_| {
-                    let work = || Worker::new(&self).work();
+                    let work = || Worker::new(&self).run();
                     thread::Builder::new().spawn_scoped(scope, work).ok()
                 })
                 .collect();
-            Worker::new(&self).work();
+            Worker::new(&self).run();
             for other in others {
                 other.join().unwrap_or_else(|e| panic::resume_unwind(e));
             }
@@ -114,7 +114,7 @@ impl<'a, F: Files> QueueReading<'a, F> {
 
     /// Returns the position of the file in which a thread is to read next: one in which none has read yet, or the one of which
     /// most is left; `None` where too little is left of each.
-    pub(super) fn next_file(&self) -> Option<usize> {
+    pub(super) fn take_next_file(&self) -> Option<usize> {
         let next = self.next.fetch_add(1, Relaxed);
         if next < self.files.len() {
             return Some(next);

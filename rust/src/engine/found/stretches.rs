@@ -71,7 +71,7 @@ impl Stretches {
 
     /// Adds a stretch, and merges it with its neighbors. Where a merge is refused, the reading of the queue ends between the two.
     pub(super) fn add(&self, mut stretch: Stretch) {
-        while let Some((older, newer)) = self.pair_with_neighbor(stretch) {
+        while let Some((older, newer)) = self.take_neighbor_of(stretch) {
             let seam = newer.from;
             stretch = match older.merge(newer, self.queue) {
                 Ok(both) => both,
@@ -82,7 +82,7 @@ impl Stretches {
 
     /// Takes out a neighbor of a stretch, and returns both, the older one first. Where it has no neighbor the stretch is kept
     /// here, and `None` returned.
-    fn pair_with_neighbor(&self, stretch: Stretch) -> Option<(Stretch, Stretch)> {
+    fn take_neighbor_of(&self, stretch: Stretch) -> Option<(Stretch, Stretch)> {
         let mut read = locks::lock(&self.read);
         let older = read.range(..stretch.from).next_back();
         let older = older.filter(|(_, older)| older.to == Some(stretch.from));

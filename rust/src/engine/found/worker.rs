@@ -21,10 +21,10 @@ impl<'q, 'a, F: Files> Worker<'q, 'a, F> {
 
     /// Reads pieces of one file after another until nothing is left to read, and adds what it has read to the stretches of the
     /// queue.
-    pub(super) fn work(mut self) {
+    pub(super) fn run(mut self) {
         let mut room = Vec::new();
         let stretches = &self.queue.stretches;
-        while let Some(file) = self.queue.next_file()
+        while let Some(file) = self.queue.take_next_file()
             && !stretches.ends_before(file)
         {
             while self.read_piece(file, &mut room) && !stretches.ends_before(file) {}
@@ -70,7 +70,7 @@ impl<'q, 'a, F: Files> Worker<'q, 'a, F> {
         from: Position,
         piece: Piece<'_>,
     ) -> Result<Option<Vec<u8>>> {
-        let own = self.stretch_up_to(from)?;
+        let own = self.take_stretch_before(from)?;
         let (reader, rest) = reading.replay(own.reader, piece)?;
         let to = rest.is_none().then(|| from.next_position(piece.is_last));
         self.own = Some(Stretch {
@@ -87,7 +87,7 @@ impl<'q, 'a, F: Files> Worker<'q, 'a, F> {
     /// # Errors
     ///
     /// `Memory`.
-    fn stretch_up_to(&mut self, piece: Position) -> Result<Stretch> {
+    fn take_stretch_before(&mut self, piece: Position) -> Result<Stretch> {
         match self.own.take() {
             Some(own) if own.to == Some(piece) => return Ok(own),
             Some(own) => self.queue.stretches.add(own),

@@ -16,7 +16,7 @@ pub(super) struct Left<'a> {
 
 impl<'a> Left<'a> {
     /// Begins with the files of a queue as they were found, all of them synced.
-    pub(super) fn of(found: &[(u64, Vec<u8>)]) -> Left<'a> {
+    pub(super) fn from_found(found: &[(u64, Vec<u8>)]) -> Left<'a> {
         Left {
             certain: found.to_vec(),
             since: Vec::new(),
@@ -27,14 +27,14 @@ impl<'a> Left<'a> {
 
     /// Applies the next ask of the queue. A sync, and a new file, make all asks before them synced; a new file leaves deletions
     /// as they are.
-    pub(super) fn take_ask(&mut self, ask: &'a Ask) {
+    pub(super) fn apply_ask(&mut self, ask: &'a Ask) {
         match ask {
             Ask::Sync(_) => {
-                self.do_first(usize::MAX);
+                self.apply_steps(usize::MAX);
                 self.gone += std::mem::take(&mut self.going);
             }
             Ask::Begin(_) => {
-                self.do_first(usize::MAX);
+                self.apply_steps(usize::MAX);
                 self.since.push(ask);
             }
             Ask::Delete(_) => self.going += 1,
@@ -44,7 +44,7 @@ impl<'a> Left<'a> {
 
     /// Applies the first `steps` steps of the asks that aren't synced to the files, and drops the other asks. What a step is
     /// [`Unsynced::steps`] says.
-    fn do_first(&mut self, mut steps: usize) {
+    fn apply_steps(&mut self, mut steps: usize) {
         for ask in self.since.drain(..) {
             let last = self.certain.last_mut().map(|(_, bytes)| bytes);
             match (ask, last) {
@@ -71,7 +71,7 @@ impl<'a> Left<'a> {
 
     /// Returns the files that a crash leaves: all that is synced, and as much of the rest as `stays` says.
     pub(super) fn files_after_crash(mut self, stays: Unsynced) -> Vec<(u64, Vec<u8>)> {
-        self.do_first(stays.steps);
+        self.apply_steps(stays.steps);
         let gone = self.gone + self.going.min(stays.deletions);
         self.certain.split_off(gone.min(self.certain.len()))
     }

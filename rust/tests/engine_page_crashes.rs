@@ -152,7 +152,7 @@ impl History {
 }
 
 /// Returns the numbers of the batches in an append file, in order.
-fn numbers_in(seq: u64, bytes: &[u8], version: Version) -> Vec<u64> {
+fn batch_numbers(seq: u64, bytes: &[u8], version: Version) -> Vec<u64> {
     let file = LogFile::new(Queue::Append, seq, version);
     let batches = Batches::new(FilePart::new(file, bytes)).unwrap();
     let number = |content| match content {
@@ -166,13 +166,13 @@ fn numbers_in(seq: u64, bytes: &[u8], version: Version) -> Vec<u64> {
 }
 
 /// Returns for each batch the position of the ask that wrote it, the first batch first.
-fn written(asks: &[Ask], version: Version) -> Vec<usize> {
+fn asks_of_batches(asks: &[Ask], version: Version) -> Vec<usize> {
     let mut places = Vec::new();
     for (at, ask) in asks.iter().enumerate() {
         if let Ask::Write(file, bytes) = ask
             && file.queue == Queue::Append
         {
-            let numbers = numbers_in(file.seq, bytes, version);
+            let numbers = batch_numbers(file.seq, bytes, version);
             places.extend(numbers.iter().map(|_| at));
         }
     }
@@ -248,7 +248,7 @@ impl Left {
         }
         let numbers = files
             .iter()
-            .flat_map(|(seq, bytes)| numbers_in(*seq, bytes, version));
+            .flat_map(|(seq, bytes)| batch_numbers(*seq, bytes, version));
         numbers.last()
     }
 
@@ -260,7 +260,7 @@ impl Left {
             let damaged = damaged_blocks(&last.bytes, left).into_iter();
             damaged.map(|at| (last.id, at)).collect()
         });
-        assert_eq!(named(engine), expected);
+        assert_eq!(named_places(engine), expected);
     }
 
     /// Tests that the error of an opening names the first place of a last file that isn't as it was written.
@@ -297,14 +297,14 @@ fn lose_pages(bytes: &mut Vec<u8>, synced: usize, page: usize, draw: &mut Draw) 
 /// Returns where the first batch begins whose header or items aren't as they were written, or that isn't there as a whole; and
 /// where the first one begins whose entries aren't as they were written.
 fn broken_places(written: &[u8], left: &[u8]) -> [Option<usize>; 2] {
-    let (batch, blocks) = broken(written, left);
+    let (batch, blocks) = broken_batches(written, left);
     [batch, blocks.first().copied()]
 }
 
 /// Returns where the batches begin whose entries aren't as they were written, before the first batch of which more than its
 /// entries isn't.
 fn damaged_blocks(written: &[u8], left: &[u8]) -> Vec<usize> {
-    let (batch, mut blocks) = broken(written, left);
+    let (batch, mut blocks) = broken_batches(written, left);
     blocks.retain(|at| batch.is_none_or(|batch| *at < batch));
     blocks
 }
@@ -313,7 +313,7 @@ fn damaged_blocks(written: &[u8], left: &[u8]) -> Vec<usize> {
 /// where all batches begin whose entries aren't as they were written, up to the first batch that isn't there as a whole. The
 /// entries of a batch stand between the 16 bytes of its header and its items. The first seven bytes of the header are the length
 /// of the batch, the last eight the offset of its items.
-fn broken(written: &[u8], left: &[u8]) -> (Option<usize>, Vec<usize>) {
+fn broken_batches(written: &[u8], left: &[u8]) -> (Option<usize>, Vec<usize>) {
     let (mut batch, mut blocks, mut at) = (None, Vec::new(), 0);
     let is_same = |from: usize, to: usize| left.get(from..to) == Some(&written[from..to]);
     while at + 16 <= written.len() {
@@ -339,7 +339,7 @@ fn broken(written: &[u8], left: &[u8]) -> (Option<usize>, Vec<usize>) {
 
 /// Returns the batches that an opening has named: the file of each, and where it begins. Tests that the error of each has this
 /// place.
-fn named(engine: &Engine<MemoryFiles>) -> Vec<(FileId, usize)> {
+fn named_places(engine: &Engine<MemoryFiles>) -> Vec<(FileId, usize)> {
     let damaged = engine.recovered().damaged.iter();
     let places = damaged.map(|batch| {
         let e = &batch.reason;
@@ -351,8 +351,8 @@ fn named(engine: &Engine<MemoryFiles>) -> Vec<(FileId, usize)> {
 
 /// Tests that an engine has the records of a state. Entries that can't be read were in batches with numbers above `synced`, which
 /// the opening has named. Returns these entries, as region and index.
-fn check(engine: &Engine<MemoryFiles>, state: &State, synced: usize) -> Vec<(u64, u64)> {
-    let (mut unread, named) = (Vec::new(), named(engine));
+fn check_records(engine: &Engine<MemoryFiles>, state: &State, synced: usize) -> Vec<(u64, u64)> {
+    let (mut unread, named) = (Vec::new(), named_places(engine));
     for (i, region) in state.regions.iter().enumerate() {
         let id = 1 + i as u64;
         let ends = [region.entries.keys().next(), region.entries.keys().last()];
@@ -389,7 +389,7 @@ struct Counts {
 /// Crashes the machine four times behind each ask of a history, and opens and tests what is left.
 fn stop_everywhere(history: &History, counts: &Counts) {
     let asks = history.files.asks();
-    let places = written(&asks, options(history.seed).version);
+    let places = asks_of_batches(&asks, options(history.seed).version);
     assert_eq!(places.len() + 1, history.states.len());
     let mut draw = Draw::new(!history.seed);
     for asked in 0..=asks.len() {
@@ -421,7 +421,7 @@ fn stop_everywhere(history: &History, counts: &Counts) {
             }
             left.assert_damaged(&engine);
             let state = &history.states[count as usize];
-            let unread = check(&engine, state, synced);
+            let unread = check_records(&engine, state, synced);
             counts.opened.fetch_add(1, Relaxed);
             counts.unread.fetch_add(!unread.is_empty() as u64, Relaxed);
             if draw.once_in(4) {
@@ -456,7 +456,7 @@ fn go_on(
         0
     };
     let assert_readable = |engine: &Engine<MemoryFiles>| {
-        let found = check(engine, state, readable);
+        let found = check_records(engine, state, readable);
         assert!(found.iter().all(|entry| unread.contains(entry)));
     };
     assert_readable(&engine);

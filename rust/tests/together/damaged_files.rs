@@ -11,7 +11,10 @@ use raft_recover::{
 const FIRST: FileId = FileId::new(Queue::Append, 1);
 
 /// Returns the files of an engine as ones that are found, with one change.
-fn changed(files: &MemoryFiles, change: impl FnOnce(&mut [Vec<(u64, Vec<u8>)>; 2])) -> MemoryFiles {
+fn with_change(
+    files: &MemoryFiles,
+    change: impl FnOnce(&mut [Vec<(u64, Vec<u8>)>; 2]),
+) -> MemoryFiles {
     let mut held = [Queue::Append, Queue::Rewrite].map(|queue| files.files(queue));
     change(&mut held);
     let [append, rewrite] = held;
@@ -19,7 +22,7 @@ fn changed(files: &MemoryFiles, change: impl FnOnce(&mut [Vec<(u64, Vec<u8>)>; 2
 }
 
 /// Returns a single file with `count` batches of one entry each, all of them synced.
-fn entries(count: u64) -> MemoryFiles {
+fn file_of_entries(count: u64) -> MemoryFiles {
     let files = MemoryFiles::new();
     let engine = Engine::with_files(files.clone(), Options::new()).unwrap();
     for index in 1..=count {
@@ -45,8 +48,9 @@ fn assert_refused(found: MemoryFiles, file: FileId, offset: u64, reason: &str) {
 
 #[test]
 fn a_changed_bit_among_3_050_synced_entries_is_refused_by_its_place() {
-    let files = entries(3050);
-    let with_bit = |at: usize, bit: u8| changed(&files, |[append, _]| append[0].1[at] ^= 1 << bit);
+    let files = file_of_entries(3050);
+    let with_bit =
+        |at: usize, bit: u8| with_change(&files, |[append, _]| append[0].1[at] ^= 1 << bit);
     let reason =
         |at: u64| format!("no batch can be read there, but one stands behind it, at offset {at}");
     // of the first batch, which has 37 bytes, the length
@@ -57,7 +61,7 @@ fn a_changed_bit_among_3_050_synced_entries_is_refused_by_its_place() {
 
 #[test]
 fn a_file_of_3_050_synced_entries_that_gets_another_number_is_refused() {
-    let found = changed(&entries(3050), |[append, _]| append[0].0 = 2);
+    let found = with_change(&file_of_entries(3050), |[append, _]| append[0].0 = 2);
     let reason = "no batch can be read there, but at offset 0 one stands that is signed for file 1";
     assert_refused(found, FileId::new(Queue::Append, 2), 0, reason);
 }
@@ -79,7 +83,7 @@ fn seven_files() -> MemoryFiles {
 
 #[test]
 fn of_seven_files_two_that_are_gone_are_missed() {
-    let found = changed(&seven_files(), |[append, _]| {
+    let found = with_change(&seven_files(), |[append, _]| {
         append.retain(|(seq, _)| ![3, 6].contains(seq))
     });
     let third = FileId::new(Queue::Append, 3);
@@ -88,14 +92,14 @@ fn of_seven_files_two_that_are_gone_are_missed() {
 
 #[test]
 fn that_the_last_files_of_a_queue_are_gone_cant_be_seen() -> Result<()> {
-    let found = changed(&seven_files(), |[append, _]| append.truncate(5));
+    let found = with_change(&seven_files(), |[append, _]| append.truncate(5));
     let engine = Engine::with_files(found, Options::new())?;
     assert_eq!(engine.recovered().cuts().count(), 0);
     assert_eq!(engine.last_index(7)?, Some(5));
     assert_eq!(engine.get(7, b"vote")?.unwrap(), 5_u64.to_le_bytes());
     // and of the rewrite queue
-    let files = moved()?;
-    let found = changed(&files, |[_, rewrite]| rewrite.clear());
+    let files = moved_files()?;
+    let found = with_change(&files, |[_, rewrite]| rewrite.clear());
     let engine = Engine::with_files(found, Options::new())?;
     assert_eq!(engine.recovered().cuts().count(), 0);
     let left = records(&engine)?;
@@ -109,7 +113,7 @@ fn that_the_last_files_of_a_queue_are_gone_cant_be_seen() -> Result<()> {
 
 /// Returns the files of an engine whose regions 1 and 2 are in the rewrite queue alone, in a batch each, and region 3 in the
 /// append queue.
-fn moved() -> Result<MemoryFiles> {
+fn moved_files() -> Result<MemoryFiles> {
     let files = MemoryFiles::new();
     let engine = Engine::with_files(files.clone(), Options::new())?;
     for region in [1, 2] {
@@ -133,19 +137,19 @@ fn records(engine: &Engine<MemoryFiles>) -> Result<Vec<Region>> {
 
 #[test]
 fn each_bit_of_the_last_rewrite_file_is_refused_or_told() -> Result<()> {
-    let files = moved()?;
+    let files = moved_files()?;
     let held = files.files(Queue::Rewrite);
     let [(seq, bytes)] = &held[..] else {
         panic!("{} files", held.len());
     };
-    let (file, last) = (FileId::new(Queue::Rewrite, *seq), last_batch(bytes));
+    let (file, last) = (FileId::new(Queue::Rewrite, *seq), last_batch_start(bytes));
     assert!(0 < last);
-    let cut = changed(&files, |[_, rewrite]| rewrite[0].1.truncate(last));
+    let cut = with_change(&files, |[_, rewrite]| rewrite[0].1.truncate(last));
     let before_last = records(&Engine::with_files(cut, Options::new())?)?;
     let mut outcomes = [0; 2];
     for at in 0..bytes.len() {
         for bit in 0..8 {
-            let found = changed(&files, |[_, rewrite]| rewrite[0].1[at] ^= 1 << bit);
+            let found = with_change(&files, |[_, rewrite]| rewrite[0].1[at] ^= 1 << bit);
             match Engine::with_files(found, Options::new()) {
                 Ok(engine) => {
                     let cut = engine.recovered().rewrite.as_ref().unwrap();
@@ -167,7 +171,7 @@ fn each_bit_of_the_last_rewrite_file_is_refused_or_told() -> Result<()> {
 }
 
 /// Returns where the last of two batches begins: the first seven bytes are the length of the first one.
-fn last_batch(bytes: &[u8]) -> usize {
+fn last_batch_start(bytes: &[u8]) -> usize {
     (u64::from_be_bytes(bytes[..8].try_into().unwrap()) >> 8) as usize
 }
 
@@ -189,7 +193,7 @@ fn three_hundred_restarts_with_a_write_each_grow_by_these_writes() -> Result<()>
         let entries = region_of(&engine, 7)?.entries;
         assert!(entries.keys().copied().eq(1..=index));
         drop(engine);
-        found = changed(&found, |_| ());
+        found = with_change(&found, |_| ());
     }
     let held = [Queue::Append, Queue::Rewrite].map(|queue| found.files(queue));
     let bytes = held.map(|held| held.iter().map(|(_, bytes)| bytes.len()).sum::<usize>());

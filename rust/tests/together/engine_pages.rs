@@ -14,7 +14,7 @@ fn entry(region: u64, len: usize) -> Vec<u8> {
 
 /// Opens an engine whose regions, from 1 on, have so many entries, of so many bytes each, in the rewrite queue alone. All of it
 /// is synced, and the append files that had them are deleted.
-fn moved(regions: u64, entries: usize, len: usize) -> Engine<MemoryFiles> {
+fn moved_engine(regions: u64, entries: usize, len: usize) -> Engine<MemoryFiles> {
     let options = Options::new().purge_above(1).purge_garbage(0);
     let engine = Engine::with_files(MemoryFiles::new(), options).unwrap();
     for region in 1..=regions {
@@ -102,20 +102,20 @@ fn assert_kept(left: MemoryFiles, regions: u64, entries: u64, len: usize) {
 
 #[test]
 fn an_entry_stays_that_was_moving_again_when_the_machine_stopped() {
-    assert_kept(left_in_purge(&moved(1, 1, 100), true), 1, 1, 100);
+    assert_kept(left_in_purge(&moved_engine(1, 1, 100), true), 1, 1, 100);
 }
 
 #[test]
 fn so_it_does_where_another_region_moved_behind_it() {
-    assert_kept(left_in_purge(&moved(2, 1, 100), true), 2, 1, 100);
-    assert_kept(left_in_purge(&moved(2, 1, 100), false), 2, 1, 100);
+    assert_kept(left_in_purge(&moved_engine(2, 1, 100), true), 2, 1, 100);
+    assert_kept(left_in_purge(&moved_engine(2, 1, 100), false), 2, 1, 100);
 }
 
 #[test]
 fn so_it_does_where_a_region_moved_in_a_group() {
     const LEN: usize = 100 << 10;
-    assert_kept(left_in_purge(&moved(1, 3, LEN), true), 1, 3, LEN);
-    assert_kept(left_in_purge(&moved(1, 3, LEN), false), 1, 3, LEN);
+    assert_kept(left_in_purge(&moved_engine(1, 3, LEN), true), 1, 3, LEN);
+    assert_kept(left_in_purge(&moved_engine(1, 3, LEN), false), 1, 3, LEN);
 }
 
 #[test]

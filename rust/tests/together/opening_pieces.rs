@@ -75,7 +75,7 @@ fn add_batches(regions: &mut Regions, queue: Queue, first: u64, sizes: &[usize])
 }
 
 /// Returns files of both queues that are found.
-fn found(files: &[&File]) -> MemoryFiles {
+fn found_files(files: &[&File]) -> MemoryFiles {
     let [append, rewrite] = [Queue::Append, Queue::Rewrite].map(|queue| {
         let of_queue = files.iter().filter(|file| file.id.queue == queue);
         of_queue
@@ -127,7 +127,7 @@ fn files_of_several_pieces_are_read_in_pieces_and_no_byte_twice() {
             add_batches(&mut expected, queue, first, &sizes[..count]);
         }
     }
-    let held = found(&files.iter().collect::<Vec<_>>());
+    let held = found_files(&files.iter().collect::<Vec<_>>());
     for threads in THREADS {
         let reads = open(&held, threads, &expected);
         assert_eq!(reads.len(), files.len());
@@ -153,7 +153,7 @@ fn a_batch_that_is_longer_than_a_piece_is_read_whole() {
         let mut expected = Regions::new();
         add_batches(&mut expected, Queue::Append, 0, &sizes);
         let file = file_of(Queue::Append, 1, 0, &sizes);
-        let held = found(&[&file]);
+        let held = found_files(&[&file]);
         for threads in THREADS {
             let reads = &open(&held, threads, &expected)[&file.id];
             let all: usize = reads.iter().map(|(_, len)| *len).sum();
@@ -171,7 +171,7 @@ fn a_batch_that_is_longer_than_a_piece_is_read_whole() {
     let mut expected = Regions::new();
     add_batches(&mut expected, Queue::Append, 0, &[3 * PIECE, 10]);
     let [long, all] = [file.places[1], file.places[2]];
-    let reads = &open(&found(&[&file]), 4, &expected)[&file.id];
+    let reads = &open(&found_files(&[&file]), 4, &expected)[&file.id];
     assert_eq!(
         reads[..],
         [
@@ -198,7 +198,7 @@ fn a_torn_tail_is_cut_whatever_piece_it_stands_in() {
             .each_ref()
             .map(|file| (file.id, file.places[8] as u64, len as u64));
         for threads in THREADS {
-            let held = found(&torn.each_ref());
+            let held = found_files(&torn.each_ref());
             let options = Options::new().recovery_threads(threads);
             let read = Engine::with_files_read_only(held.clone(), options.clone()).unwrap();
             for engine in [read, Engine::with_files(held, options).unwrap()] {
@@ -213,7 +213,7 @@ fn a_torn_tail_is_cut_whatever_piece_it_stands_in() {
 
 /// Makes the first file of a queue, with as many batches as three pieces have. In the items of the batch at position `at` one bit
 /// is changed.
-fn damaged(queue: Queue, at: usize) -> File {
+fn damaged_file(queue: Queue, at: usize) -> File {
     let mut file = file_of(queue, 1, 0, &[ENTRY; 19]);
     let end = file.places[at + 1];
     file.bytes[end - 5] ^= 1; // in front of the checksum of the items
@@ -224,7 +224,7 @@ fn damaged(queue: Queue, at: usize) -> File {
 fn damage_with_sound_batches_behind_is_refused_by_every_number_of_threads() {
     for queue in [Queue::Append, Queue::Rewrite] {
         for at in [0, 5, 6, 12, 17] {
-            let file = damaged(queue, at);
+            let file = damaged_file(queue, at);
             let [place, next] = [file.places[at], file.places[at + 1]];
             let reason = format!("one stands behind it, at offset {next}");
             let id = file.id;
@@ -232,7 +232,7 @@ fn damage_with_sound_batches_behind_is_refused_by_every_number_of_threads() {
                 "Corruption: {id}, offset {place}: no batch can be read there, but {reason}"
             );
             for threads in THREADS {
-                let held = found(&[&file]);
+                let held = found_files(&[&file]);
                 let e = refusal(held.clone(), threads);
                 assert_eq!(
                     (e.kind, e.text.as_str()),
@@ -280,7 +280,7 @@ fn damaged_entries_of_the_last_append_file_are_named_whatever_piece_they_stand_i
 fn damage_is_cut_where_it_is_tolerated_and_nowhere_but_in_the_last_file() {
     let options = Options::new().recovery_mode(RecoveryMode::TolerateTailCorruption);
     for queue in [Queue::Append, Queue::Rewrite] {
-        let file = damaged(queue, 12);
+        let file = damaged_file(queue, 12);
         let mut expected = Regions::new();
         add_batches(&mut expected, queue, 0, &[ENTRY; 12]);
         let cut = (
@@ -290,12 +290,12 @@ fn damage_is_cut_where_it_is_tolerated_and_nowhere_but_in_the_last_file() {
         let behind = file_of(queue, 2, 19, &[10]);
         for threads in THREADS {
             let options = options.clone().recovery_threads(threads);
-            let engine = Engine::with_files(found(&[&file]), options.clone()).unwrap();
+            let engine = Engine::with_files(found_files(&[&file]), options.clone()).unwrap();
             let cuts = engine.recovered().cuts();
             let told: Vec<_> = cuts.map(|cut| (cut.offset, cut.len)).collect();
             assert_eq!(told, [cut]);
             assert!(regions_of(&engine) == expected);
-            let held = found(&[&file, &behind]);
+            let held = found_files(&[&file, &behind]);
             let e = Engine::with_files(held, options).map(drop).unwrap_err();
             let place = (Some(file.id), Some(file.places[12] as u64));
             assert_eq!((e.kind, (e.file, e.offset)), (ErrorKind::Corruption, place));
@@ -307,7 +307,7 @@ fn damage_is_cut_where_it_is_tolerated_and_nowhere_but_in_the_last_file() {
 fn a_read_that_fails_in_the_midst_is_refused_by_its_place() {
     let files = [Queue::Append, Queue::Rewrite]
         .map(|queue| [1, 2].map(|seq| file_of(queue, seq, 12 * (seq - 1), &[ENTRY; 12])));
-    let held = found(&files.iter().flatten().collect::<Vec<_>>());
+    let held = found_files(&files.iter().flatten().collect::<Vec<_>>());
     for failing in files.iter().flatten().map(|file| file.id) {
         for threads in THREADS {
             let hooked = Hooked::new(&held, |call: Call<'_>| match call {
@@ -329,7 +329,7 @@ fn a_file_that_gets_shorter_meanwhile_is_refused_by_the_place_of_the_read() {
     for queue in [Queue::Append, Queue::Rewrite] {
         let file = file_of(queue, 1, 0, &[ENTRY; 19]);
         for threads in THREADS {
-            let held = found(&[&file]);
+            let held = found_files(&[&file]);
             let hooked = Hooked::new(&held, |call: Call<'_>| match call {
                 Call::Read(file, 0, _) => held.truncate(file, PIECE as u64 + 1),
                 _ => Ok(()),
@@ -345,8 +345,8 @@ fn a_file_that_gets_shorter_meanwhile_is_refused_by_the_place_of_the_read() {
 #[test]
 fn of_two_refusals_the_first_one_in_order_is_told() {
     // the first file is damaged in its last piece, and the second one can't be read at all
-    let first = damaged(Queue::Append, 17);
-    let held = found(&[&first, &file_of(Queue::Append, 2, 19, &[10])]);
+    let first = damaged_file(Queue::Append, 17);
+    let held = found_files(&[&first, &file_of(Queue::Append, 2, 19, &[10])]);
     for threads in THREADS {
         let hooked = Hooked::new(&held, |call: Call<'_>| match call {
             Call::Read(file, ..) if file.seq == 2 => Err(io::ErrorKind::TimedOut.into()),

@@ -8,7 +8,7 @@ use std::process::Abort;
 /// The greatest index that an entry can have.
 const GREATEST: u64 = 18_446_744_073_709_551_614;
 
-/// Indexes, and whether a list of entries with them is consecutive.
+/// Lists of indexes, each with whether entries with these indexes are consecutive.
 static INDEXES: [(&[u64], bool); 11] = [
     (&[], true),
     (&[0], true),
@@ -27,7 +27,7 @@ fn index_rows() -> &'static [(&'static [u64], bool)] {
     &INDEXES
 }
 
-/// Tests whether a list of entries with these indexes is consecutive.
+/// Tests whether entries with these indexes are consecutive.
 fn are_consecutive(alloc: Global, indexes: &[u64]) -> Result<bool> {
     let mut entries = Vec::new(alloc);
     for index in indexes {
@@ -54,7 +54,8 @@ fn consecutive_lists(rt: HostRuntime) {
     assert!(rt; again!(lists_are_told_apart(&rt, rt.alloc())).is_ok());
 }
 
-/// Tests whether a byte is a compression type, which stands for that byte, or is refused by name.
+/// Tests whether a byte is read as it should be: 0 as the compression type that is written as 0, any other byte not at
+/// all, with an error that names the byte.
 fn is_compression_row(alloc: Global, byte: u8) -> Result<bool> {
     match CompressionType::from_u8(alloc, byte) {
         Ok(compression_type) => Ok(byte == 0 && compression_type.to_u8() == 0),

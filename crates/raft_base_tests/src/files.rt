@@ -5,7 +5,7 @@ use raft_files::{Asked, EngineFiles, MemoryFiles};
 use raft_trials::again;
 use std::alloc::Global;
 
-/// Files that can't be read, and whose calls succeed or fail as they are told.
+/// Files whose calls all succeed or all fail, as `fails` says, and that can't be read.
 #[derive(Drop)]
 struct Deaf {
     asked: Asked,
@@ -56,7 +56,7 @@ impl EngineFiles for Deaf {
     }
 }
 
-/// What files are asked for.
+/// A call of files that changes something.
 #[derive(Clone, Copy)]
 enum Ask {
     Rotate(FileSeq),
@@ -100,7 +100,7 @@ fn ask_all<F: EngineFiles>(files: &mut F) -> Result<()> {
     Ok(())
 }
 
-/// Tests whether these are the files, with their bytes as text.
+/// Tests whether files have these numbers and these bytes, given as text.
 fn are(files: &Vec<(FileSeq, Vec<u8>)>, expected: &[(FileSeq, &str)]) -> bool {
     files.len() == expected.len()
         && files.iter().zip(expected).all(|(file, other)| file.0 == other.0
@@ -111,7 +111,7 @@ fn read(files: &mut MemoryFiles, id: FileId, offset: u64, len: usize) -> Result<
     files.read(FileBlockHandle { id, offset, len })
 }
 
-/// Tests whether a place has the text, or no bytes where there is none.
+/// Tests whether a read of `len` bytes at a place returns a text, or, where none is given, is refused.
 fn has(files: &mut MemoryFiles, id: FileId, offset: u64, text: Option<&str>, len: usize) -> bool {
     match (read(files, id, offset, len), text) {
         (Ok(bytes), Some(text)) => bytes.as_slice() == text.as_bytes(),
@@ -134,7 +134,7 @@ fn memory_keeps_what_is_asked(rt: HostRuntime) -> Result<()> {
     Ok(())
 }
 
-/// Tests whether files that are found are those that were copied, and serve on.
+/// Tests whether files that are made of copies of others have their bytes, and take further calls.
 fn are_found(alloc: Global) -> Result<bool> {
     let left = made(alloc)?;
     let append = again!(left.copies(LogQueue::Append))?;
@@ -177,8 +177,8 @@ fn memory_is_read_by_place(rt: HostRuntime) -> Result<()> {
     Ok(())
 }
 
-/// Tests whether what no file can do is refused: bytes without a file, a number that isn't above the last one, the
-/// deletion of the last file.
+/// Tests whether calls that make no sense are refused: bytes without a file to put them into, a new file whose number
+/// isn't above the last one, the deletion of the last file.
 fn refuses(alloc: Global) -> Result<bool> {
     let mut files = MemoryFiles::new(alloc);
     let bytes = is_refused(&mut files, Ask::Append("a"));

@@ -50,7 +50,7 @@ fn small_file_at(num: u64, den: u64) -> FileSeq {
     SmallPipe.file_at(LogQueue::Append, num, den.max(1))
 }
 
-/// Returns how many bytes the pipe appends.
+/// Returns the length that a pipe gives for appended bytes; `None` where it refuses them.
 fn appended_len(mut bytes: &&str) -> Option<usize> {
     match SmallPipe.append(LogQueue::Rewrite, &mut bytes) {
         Ok(place) => Some(place.len),
@@ -89,7 +89,7 @@ fn files_and_queues_have_numbers(rt: HostRuntime) {
     assert!(rt; LogQueue::Rewrite as u8 == 1);
 }
 
-/// Tests whether a version is printed so.
+/// Tests whether a version prints as a text.
 fn is_printed(version: Version, text: &str) -> bool {
     let printed = InlineText::<32>::of(version);
     printed.as_str() == text

@@ -31,7 +31,7 @@ fn has_no_items(batch: &ReadBatch<'_>) -> bool {
     items.is_empty() && spans.is_empty()
 }
 
-/// Tests whether a batch has these many items, those of the batch that stands at `at`, or none at the end.
+/// Tests whether a batch has `count` items, those of the batch at byte `at` of a part, or none at the end of the part.
 fn has_items_at(
     alloc: Global,
     batch: &ReadBatch<'_>,
@@ -115,8 +115,8 @@ fn damaged_batches_hold_no_items(rt: &impl Abort, alloc: Global) -> Result<()> {
     Ok(())
 }
 
-/// Tests whether the second batch is refused with this byte's lowest bit flipped, and the first one read before and
-/// again.
+/// Flips the lowest bit of the byte at `at`, and tests whether the second batch is refused and leaves no items, and the
+/// first one is read before and again.
 fn is_flip_refused(alloc: Global, at: usize) -> Result<bool> {
     let mut bytes = *BATCHES;
     if let Some(byte) = bytes.get_mut(at) {

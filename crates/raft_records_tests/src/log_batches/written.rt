@@ -45,7 +45,8 @@ fn one_batch_signed_for_three_files(rt: HostRuntime) {
     assert!(rt; matches!(again!(is_read_where_signed(rt.alloc())), Ok(true)));
 }
 
-/// Tests whether the entries of an item have a place, or its key value has the file of that place.
+/// Tests whether an item has its place: each of its three entries, which are in the block at `handle`, or its key
+/// value, which is in the file of that block. A command has none.
 fn is_placed(item: &LogItem, handle: FileBlockHandle) -> bool {
     match &item.content {
         LogItemContent::EntryIndexes(entries) => {

@@ -1,4 +1,5 @@
-//! Calls of an accessor answer, count and leave what their rows say. A region has the slot that raft-engine gives it.
+//! Tests that calls of an accessor answer, count and leave what their rows say, and that a region has the slot that
+//! raft-engine gives it.
 
 use crate::calls::{Call, call_core, tables_of};
 use crate::items::{Item, NEW, answered};
@@ -17,7 +18,7 @@ fn outline(table: &MemTable) -> Outline {
     )
 }
 
-/// Tests whether a call returns and leaves what its row says.
+/// Makes the call of a row, and tests whether it returns and leaves what the row says.
 fn is_kept(alloc: Global, core: &mut MemTableAccessor, row: &Row) -> Result<bool> {
     let (call, expected, numbers, (region, table)) = *row;
     let answer = answered(call_core(alloc, core, call))?.map(|answer| answer.0);
@@ -42,11 +43,11 @@ fn each_call_changes_tables_and_is_counted(rt: HostRuntime) {
     assert!(rt; matches!(again!(are_kept(rt.alloc())), Ok(true)));
 }
 
-/// A call, a region, and the table that `get_or_insert` hands out for it then: its outline, and the value of `k` in it;
-/// and how many tables there are.
+/// A call, a region, and the table that `get_or_insert` returns for it then: its outline and its value of `k`; and how
+/// many tables there are.
 type Handed = (Call, u64, Outline, Option<&'static [u8]>, usize);
 
-/// Calls of an accessor without tables, one after the other. The regions 3 and 73 have one slot.
+/// Rows of calls on an accessor without tables, one after the other. The regions 3 and 73 belong to one slot.
 static HANDED: [Handed; 12] = [
     (Call::Nothing, 3, (0, 0, 0, 0), None, 1),
     (
@@ -96,13 +97,13 @@ fn handed_out() -> &'static [Handed] {
     &HANDED
 }
 
-/// Tests whether a table is the region's own, as in the row.
+/// Tests whether a table is that of the row's region, with the outline and the value that the row has.
 fn is_own(table: &MemTable, row: &Handed) -> bool {
     let (_, region, expected, value, _) = *row;
     table.region_id() == region && outline(table) == expected && table.get(b"k") == value
 }
 
-/// Tests whether the table of the row is handed out after the row's call, by a second call again, and by `get`.
+/// Makes the call of a row, and tests whether `get_or_insert` then returns the row's table, twice, and so does `get`.
 fn is_handed(alloc: Global, core: &mut MemTableAccessor, row: &Handed) -> Result<bool> {
     let (call, region, _, _, count) = *row;
     call_core(alloc, core, call)?;
@@ -127,13 +128,13 @@ fn a_region_is_handed_its_own_table(rt: HostRuntime) {
     assert!(rt; matches!(again!(are_handed(rt.alloc())), Ok(true)));
 }
 
-/// Cleans of three regions, one of them twice.
+/// Calls that clean the regions 3, 5 and 3 again.
 const CLEANED: &[Call] = &[Call::Replay(
     LogQueue::Append,
     &[Item::Clean(3), Item::Clean(5), Item::Clean(3)],
 )];
 
-/// Tests whether cleaned regions are handed out in order, a `Clean` for each, and once.
+/// Tests whether the cleaned regions are taken in order, with a `Clean` for each, and only once.
 fn are_handed_out(alloc: Global) -> Result<bool> {
     let mut core = tables_of(alloc, CLEANED)?;
     let listed = core.cleaned_regions() == [3, 5, 3].as_slice();
@@ -147,7 +148,7 @@ fn cleaned_regions_are_handed_out(rt: HostRuntime) {
     assert!(rt; matches!(again!(are_handed_out(rt.alloc())), Ok(true)));
 }
 
-/// Tests that the numbers are those that raft-engine gives.
+/// Tests that the numbers of slots are those that raft-engine gives.
 #[test]
 fn a_region_has_one_slot(rt: HostRuntime) {
     for &(region, slot) in &[

@@ -1,5 +1,6 @@
-//! Goes through the phases of an engine over files in memory, whose instructions `make bench-engine` counts: `phases [batches]`. It prints
-//! a line for each phase: its name, how many units it had, what a unit is, and how many nanoseconds each took.
+//! Goes through the phases of an engine over files in memory, whose instructions `make bench-engine` counts:
+//! `phases [batches]`. It prints a line for each phase: its name, how many units it had, what a unit is, and how many
+//! nanoseconds each took.
 
 use raft_recover::{Engine, LogBatch, MemoryFiles, Options, Result};
 use std::time::Instant;

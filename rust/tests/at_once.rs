@@ -1,5 +1,5 @@
-//! Recovery reads on all its threads at the same time: in a heap of this test's own each thread waits, at the library's first request
-//! for memory, until all of them have come to one.
+//! Recovery reads on all its threads at the same time: in a heap of this test's own each thread waits, at the library's
+//! first request for memory, until all of them have come to one.
 #![cfg(not(feature = "global-allocator"))]
 
 mod common;

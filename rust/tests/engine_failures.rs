@@ -150,7 +150,8 @@ fn assert_reads_go_on<F: Files>(engine: &Engine<F>, written: u64, failing: usize
     assert_eq!(engine.summary(7).unwrap().is_some(), found > 0);
 }
 
-/// Tests that files have a prefix of the batches that `make_all_changes` writes, of at least `certain` ones. `failing` says which call failed.
+/// Tests that files have a prefix of the batches that `make_all_changes` writes, of at least `certain` ones. `failing` says
+/// which call failed.
 fn assert_nothing_is_lost(files: MemoryFiles, certain: u64, failing: usize) {
     let opened = Engine::with_files(files, Options::new()).unwrap();
     let written = count_batches(&opened);

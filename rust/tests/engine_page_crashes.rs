@@ -3,8 +3,8 @@
 //! opened, and compared with maps, or refused with the place of the damage. Each entry can be read then, or its batch is named;
 //! and only batches that are damaged are named.
 //!
-//! `HISTORIES=10000 SEED=1 cargo test --release --test engine_page_crashes` runs more of them than by default, from a seed on. A seed
-//! gives the same history each time.
+//! `HISTORIES=10000 SEED=1 cargo test --release --test engine_page_crashes` runs more of them than by default, from a seed
+//! on. A seed gives the same history each time.
 
 mod common;
 

@@ -257,8 +257,8 @@ impl<F: Files> Engine<F> {
         result
     }
 
-    /// Reads the blocks that [`Engine::lend_blocks`] will lend for the same `gate` and `max_size`, while other threads may write. A
-    /// block that can't be read is left out.
+    /// Reads the blocks that [`Engine::lend_blocks`] will lend for the same `gate` and `max_size`, while other threads may
+    /// write. A block that can't be read is left out.
     ///
     /// # Errors
     ///

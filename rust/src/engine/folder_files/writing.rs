@@ -7,8 +7,8 @@ use std::io::{self, Write};
 ///
 /// # Errors
 ///
-/// [`ChangeError::AsBefore`] where there is no room, and the file has none of the bytes. [`ChangeError::InPart`] for any other error of the
-/// system, or where they couldn't be cut off again: some of the bytes may be in the file then.
+/// [`ChangeError::AsBefore`] where there is no room, and the file has none of the bytes. [`ChangeError::InPart`] for any
+/// other error of the system, or where they couldn't be cut off again: some of the bytes may be in the file then.
 pub(super) fn write_all_or_nothing(
     mut file: &File,
     bytes: &[u8],

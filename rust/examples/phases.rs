@@ -145,7 +145,7 @@ fn main() -> std::result::Result<(), Box<dyn std::error::Error>> {
     let engine = Engine::with_files(MemoryFiles::new(), Options::new())?;
     run_phase("make", "batch", || phase_make(batches))?;
     run_phase("make and write", "batch", || phase_write(&engine, batches))?;
-    run_phase("fill_batch again and write", "batch", || {
+    run_phase("fill again and write", "batch", || {
         phase_write_again(&engine, batches)
     })?;
     read_all(&engine, entries, "")?;

@@ -39,7 +39,7 @@ impl SmallDisk {
         if is_mounted.is_ok_and(|ended| ended.status.success()) {
             return Some(disk);
         }
-        println!("no file system can be mount: nothing was tested");
+        println!("no file system can be mounted: nothing was tested");
         None
     }
 

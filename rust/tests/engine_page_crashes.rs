@@ -34,6 +34,7 @@ struct State {
 }
 
 impl State {
+    /// Applies a change of the region at position `i`, made by the batch with the number `batch`.
     fn apply(&mut self, i: usize, change: &Change, batch: usize) {
         change.apply(&mut self.regions[i]);
         let (region, batches) = (&self.regions[i], &mut self.batches[i]);
@@ -53,6 +54,7 @@ struct Sizes {
 }
 
 impl Sizes {
+    /// Returns the sizes in the history of a seed.
     fn of(seed: u64) -> Sizes {
         match seed % 4 {
             0 => Sizes {
@@ -74,6 +76,7 @@ impl Sizes {
     }
 }
 
+/// Returns the options of the engine in the history of a seed.
 fn options(seed: u64) -> Options {
     let version = if seed.is_multiple_of(5) {
         Version::V1
@@ -114,6 +117,7 @@ impl History {
         history
     }
 
+    /// Takes a random step.
     fn step(&mut self, engine: &Engine<MemoryFiles>) -> Result<()> {
         match self.draw.below(20) {
             0 => engine.rotate(),
@@ -128,6 +132,7 @@ impl History {
         }
     }
 
+    /// Writes a batch of random changes, and notes what the engine has to have after it.
     fn write(&mut self, engine: &Engine<MemoryFiles>) -> Result<()> {
         let number = self.states.len();
         let mut state = self.states[number - 1].clone();
@@ -230,6 +235,7 @@ impl Left {
         left
     }
 
+    /// Opens an engine over what is left. Returns the files, and the result of the opening.
     fn open(&self, seed: u64) -> (MemoryFiles, Result<Engine<MemoryFiles>>) {
         let [append, rewrite] = self.files.clone();
         let files = MemoryFiles::found(append, rewrite);

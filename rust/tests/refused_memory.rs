@@ -17,23 +17,29 @@ use std::sync::atomic::{AtomicI64, AtomicU64, Ordering::SeqCst};
 
 /// How many requests are granted before one is refused; negative once one was.
 static GRANTED: AtomicI64 = AtomicI64::new(i64::MAX);
+/// How many blocks the library has.
 static LIVE: AtomicU64 = AtomicU64::new(0);
 
 /// The lock of the test that is counting blocks.
 static TURN: Mutex<()> = Mutex::new(());
 
+/// The answer to a request for memory, as the library reads it: whether it is granted, and the block.
 #[repr(C)]
 struct Tried {
     ok: bool,
     p: *mut u8,
 }
 
+/// How many bytes are allocated before each block; its size stands there.
 const HEAD: usize = 16;
 
+/// Returns the layout of a block of `n` bytes with the bytes before it.
 fn layout(n: usize) -> Layout {
     Layout::from_size_align(n + HEAD, HEAD).unwrap()
 }
 
+/// Returns the answer to a request for `n` bytes, which were allocated at `p`, with the bytes before the block. It is a
+/// refusal if `p` is null.
 fn answer_request(p: *mut u8, n: usize) -> Tried {
     if p.is_null() {
         return refusal();
@@ -51,6 +57,7 @@ fn answer_request(p: *mut u8, n: usize) -> Tried {
 /// What the pointer of a refused request points to. It has to point somewhere, and nobody reads or writes there.
 static NOTHING: AtomicU64 = AtomicU64::new(0);
 
+/// Returns the answer that refuses a request.
 fn refusal() -> Tried {
     Tried {
         ok: false,
@@ -58,10 +65,12 @@ fn refusal() -> Tried {
     }
 }
 
+/// Counts a request, and returns whether it is the one to refuse.
 fn is_refused() -> bool {
     GRANTED.fetch_sub(1, SeqCst) == 0
 }
 
+/// Allocates a block for the library, unless the request is to be refused.
 #[unsafe(no_mangle)]
 extern "C" fn rattle_alloc(n: usize, _a: usize) -> Tried {
     if is_refused() {
@@ -72,6 +81,7 @@ extern "C" fn rattle_alloc(n: usize, _a: usize) -> Tried {
     answer_request(unsafe { alloc(layout(n)) }, n)
 }
 
+/// Gives a block of the library another size, unless the request is to be refused.
 #[unsafe(no_mangle)]
 unsafe extern "C" fn rattle_realloc(p: *mut u8, _kept: usize, n: usize, _a: usize) -> Tried {
     if is_refused() {
@@ -85,6 +95,7 @@ unsafe extern "C" fn rattle_realloc(p: *mut u8, _kept: usize, n: usize, _a: usiz
     }
 }
 
+/// Frees a block of the library.
 #[unsafe(no_mangle)]
 unsafe extern "C" fn rattle_dealloc(p: *mut u8) {
     LIVE.fetch_sub(1, SeqCst);

@@ -16,6 +16,7 @@ const ENTRIES: u64 = 8;
 /// their number, so that each is read once.
 const STEP: u64 = 7_919;
 
+/// An engine over files in memory.
 type MemoryEngine = Engine<MemoryFiles>;
 
 /// Runs a phase, which returns how many units it had, and prints its line: the name, that number, the unit, and how many

@@ -18,7 +18,9 @@ pub struct RaftStorage<F: Files> {
     terms: Vec<u64>,
 }
 
+/// The key of the hard state.
 const HARD_STATE: &[u8] = b"hard state";
+/// The key of the snapshot.
 const SNAPSHOT: &[u8] = b"snapshot";
 
 impl<F: Files> RaftStorage<F> {

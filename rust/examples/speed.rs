@@ -11,6 +11,7 @@ use std::io::{self, Write};
 use std::time::{Duration, Instant};
 use std::{env, fs, path::Path, thread};
 
+/// For how long calls are repeated to measure their time.
 const HALF_A_SECOND: Duration = Duration::from_millis(500);
 
 /// How many threads write, and whether they sync each batch.

@@ -8,8 +8,10 @@ use std::io::Write;
 use std::sync::Mutex;
 use std::{env, error::Error, fs, thread};
 
+/// The file that is written.
 const FILE: LogFile = LogFile::new(Queue::Append, 1, Version::V2);
 
+/// The result of what the example does.
 type Outcome<T> = Result<T, Box<dyn Error + Send + Sync>>;
 
 /// A log file, and its length in bytes.

@@ -24,7 +24,9 @@ struct Meeting {
     is_missed: bool,
 }
 
+/// The meeting of the threads of the recovery that runs; `None` where there is none.
 static MEETING: Mutex<Option<Meeting>> = Mutex::new(None);
+/// Wakes the waiting threads when another one has come.
 static HAS_COME: Condvar = Condvar::new();
 
 /// Comes to the meeting, if there is one, and waits until all have come, for 20 seconds at most.
@@ -61,6 +63,7 @@ fn end_meeting() -> Option<usize> {
     (!meeting.is_missed).then_some(meeting.come.len())
 }
 
+/// The answer to a request for memory, as the library reads it: whether it is granted, and the block.
 #[repr(C)]
 struct Tried {
     ok: bool,
@@ -73,11 +76,13 @@ unsafe extern "C" {
     fn free(p: *mut c_void);
 }
 
+/// Returns the answer that grants a request, with its block.
 fn granted(p: *mut c_void) -> Tried {
     assert!(!p.is_null());
     Tried { ok: true, p }
 }
 
+/// Allocates a block for the library, after the calling thread has met the others.
 #[unsafe(no_mangle)]
 extern "C" fn rattle_alloc(n: usize, _a: usize) -> Tried {
     meet();
@@ -85,12 +90,14 @@ extern "C" fn rattle_alloc(n: usize, _a: usize) -> Tried {
     granted(unsafe { malloc(n.max(1)) })
 }
 
+/// Gives a block of the library another size.
 #[unsafe(no_mangle)]
 unsafe extern "C" fn rattle_realloc(p: *mut c_void, _kept: usize, n: usize, _a: usize) -> Tried {
     // SAFETY: the block came from `granted`.
     granted(unsafe { realloc(p, n.max(1)) })
 }
 
+/// Frees a block of the library.
 #[unsafe(no_mangle)]
 unsafe extern "C" fn rattle_dealloc(p: *mut c_void) {
     // SAFETY: the block came from `granted`.

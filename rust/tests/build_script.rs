@@ -15,6 +15,7 @@ struct Script {
 }
 
 impl Script {
+    /// Compiles the script in a new folder.
     fn new() -> Script {
         let room = TempFolder::new();
         let program = room.path().join("script");

@@ -38,6 +38,7 @@ struct Writer {
 }
 
 impl Writer {
+    /// Returns the thread with the number `id` in the history of a seed. It has written nothing yet.
     fn new(seed: u64, id: u64) -> Writer {
         Writer {
             id,
@@ -47,6 +48,7 @@ impl Writer {
         }
     }
 
+    /// Returns its region with the number `i`: 0 has the number of its last batch, 1 and 2 what it writes.
     fn region(&self, i: u64) -> u64 {
         10 * self.id + i
     }
@@ -56,6 +58,7 @@ impl Writer {
         self.states.len() as u64 - 1
     }
 
+    /// Takes all of its steps, and notes after which of them all that it has written is synced.
     fn run<F: Files>(&mut self, engine: &Engine<F>, files: &MemoryFiles) -> Result<()> {
         for _ in 0..STEPS {
             if self.step(engine)? {
@@ -86,6 +89,7 @@ impl Writer {
         }
     }
 
+    /// Writes a batch of random changes, and returns whether it is synced.
     fn write<F: Files>(&mut self, engine: &Engine<F>) -> Result<bool> {
         let mut state = self.states.last().unwrap().clone();
         let mut batch = LogBatch::new()?;
@@ -127,6 +131,8 @@ fn options(seed: u64) -> Options {
 }
 
 impl History {
+    /// Has the threads of a seed, one to three of them, write in an engine over `files`, and finds the order of their
+    /// batches.
     fn new<F: Files>(seed: u64, engine: &Engine<F>, files: &MemoryFiles) -> History {
         let mut writers: Vec<_> = (0..1 + seed % 3).map(|id| Writer::new(seed, id)).collect();
         thread::scope(|scope| {
@@ -161,7 +167,7 @@ impl History {
             let found = [1, 2].map(|i| region_of(engine, writer.region(i)).unwrap());
             assert_eq!(found, writer.states[*count as usize]);
         }
-        // the batches are a front of all that were written
+        // the batches are a prefix of all that were written
         let is_there = |(_, thread, number): &&(usize, usize, u64)| counts[*thread] >= *number;
         let front = self.order.iter().take_while(is_there).count();
         assert_eq!(front, self.order.iter().filter(is_there).count());

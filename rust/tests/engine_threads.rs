@@ -27,6 +27,7 @@ impl Drop for Closed<'_> {
 }
 
 impl Gate {
+    /// Closes the gate, until the returned value is dropped.
     fn close(&self) -> Closed<'_> {
         self.state.lock().unwrap().0 = true;
         Closed(self)

@@ -92,6 +92,7 @@ struct File {
     since: Vec<Change>,
 }
 
+/// A change of a file: bytes that were appended, or the length to which it was cut.
 #[derive(Clone)]
 enum Change {
     Bytes(Vec<u8>),
@@ -120,6 +121,7 @@ impl File {
         versions
     }
 
+    /// Puts all changes on the disk.
     fn sync(&mut self) {
         self.synced = self.versions().pop().unwrap();
         self.since.clear();

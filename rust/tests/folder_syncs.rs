@@ -21,11 +21,13 @@ thread_local! {
     static GOOD: Cell<usize> = const { Cell::new(usize::MAX) };
 }
 
+/// Notes the sync of a file, in place of the call of the system.
 #[unsafe(no_mangle)]
 extern "C" fn fsync(file: c_int) -> c_int {
     note_sync(file)
 }
 
+/// Notes the sync of a file, in place of the call of the system.
 #[unsafe(no_mangle)]
 extern "C" fn fdatasync(file: c_int) -> c_int {
     note_sync(file)

@@ -43,6 +43,7 @@ impl SmallDisk {
         None
     }
 
+    /// Returns the path of the folder on it that an engine is opened in.
     fn path(&self) -> PathBuf {
         self.0.path().join("logs")
     }

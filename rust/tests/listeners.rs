@@ -22,10 +22,12 @@ struct Noting {
 }
 
 impl Noting {
+    /// Notes a call.
     fn note(&self, text: String) {
         self.told.lock().unwrap().push(text);
     }
 
+    /// Returns the calls that were noted since the last call of this.
     fn take(&self) -> Vec<String> {
         std::mem::take(&mut self.told.lock().unwrap())
     }
@@ -171,6 +173,8 @@ struct Calling {
 }
 
 impl Calling {
+    /// Tests that no other call of the listener runs. Then writes, reads and purges in the engine, in this thread and in
+    /// another one.
     fn call(&self) {
         assert!(!self.is_within.swap(true, SeqCst), "two calls at once");
         let count = self.told.fetch_add(1, SeqCst) as u64;

@@ -42,11 +42,13 @@ enum Step {
 }
 
 impl Model {
+    /// Returns the index of the last entry; without entries that of the snapshot.
     fn last(&self) -> u64 {
         let last = self.entries.keys().next_back().copied();
         last.unwrap_or(self.snapshot.index)
     }
 
+    /// Returns the term of an entry; that of the snapshot where there is no such entry.
     fn term(&self, index: u64) -> u64 {
         let entry = self.entries.get(&index);
         entry.map_or(self.snapshot.term, |entry| entry.term)
@@ -94,6 +96,7 @@ impl Model {
         }
     }
 
+    /// Returns a snapshot up to an index, whose last entry has this term, and which has so many members.
     fn snapshot_at(&self, index: u64, term: u64, members: u64) -> SnapshotMetadata {
         let conf_state: ConfState = (0..members).collect();
         SnapshotMetadata {
@@ -103,6 +106,7 @@ impl Model {
         }
     }
 
+    /// Applies a step.
     fn apply(&mut self, step: &Step) {
         match step {
             Step::Append(entries) => {
@@ -123,6 +127,7 @@ impl Model {
     }
 }
 
+/// Takes a step by the calls of a log.
 fn take<F: Files>(log: &mut RaftStorage<F>, step: Step) -> Result<()> {
     match step {
         Step::Append(entries) => log.append(&entries),
@@ -289,11 +294,13 @@ struct History {
 }
 
 impl History {
+    /// Returns the history of a seed, of which no step is taken yet.
     fn new(seed: u64) -> History {
         let (draw, model) = (Draw::new(seed), Model::default());
         History { draw, model }
     }
 
+    /// Draws the next step, and applies it to the model.
     fn next(&mut self) -> Step {
         let step = self.model.draw(&mut self.draw);
         self.model.apply(&step);

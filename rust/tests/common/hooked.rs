@@ -32,6 +32,7 @@ pub struct Hooked<H> {
 }
 
 impl<H: Fn(Call<'_>) -> io::Result<()> + Send + Sync> Hooked<H> {
+    /// Returns a handle to the same files, whose calls `hook` is asked about.
     pub fn new(files: &MemoryFiles, hook: H) -> Hooked<H> {
         let files = files.clone();
         Hooked { files, hook }

@@ -108,6 +108,7 @@ pub fn with_group_marker(mut bytes: Vec<u8>) -> Vec<u8> {
 pub struct TempFolder(PathBuf);
 
 impl TempFolder {
+    /// Makes a folder of a name that no other has in this process.
     pub fn new() -> TempFolder {
         static COUNT: AtomicU64 = AtomicU64::new(0);
         let name = format!(
@@ -126,6 +127,7 @@ impl TempFolder {
         TempFolder(path)
     }
 
+    /// Returns the path of the folder.
     pub fn path(&self) -> &Path {
         &self.0
     }

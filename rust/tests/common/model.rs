@@ -15,10 +15,12 @@ pub const COUNT: &[u8] = b"count";
 pub struct Draw(u64);
 
 impl Draw {
+    /// Returns the source of a seed.
     pub fn new(seed: u64) -> Draw {
         Draw(seed)
     }
 
+    /// Draws any number of 64 bits.
     fn next(&mut self) -> u64 {
         self.0 = self.0.wrapping_add(0x9e37_79b9_7f4a_7c15);
         let mut z = self.0;

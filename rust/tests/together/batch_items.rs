@@ -195,6 +195,7 @@ fn draw_changes(draw: &mut Draw) -> Vec<(u64, Change)> {
     (0..count).map(|_| change(draw)).collect()
 }
 
+/// Returns a batch with changes of regions.
 fn batch_of(changes: &[(u64, Change)]) -> LogBatch {
     let mut batch = LogBatch::new().unwrap();
     for (region, change) in changes {

@@ -32,6 +32,7 @@ fn files_after_asks(asks: &[Ask]) -> MemoryFiles {
     files
 }
 
+/// Returns the ask to append bytes to a file.
 fn write(file: FileId, bytes: &str) -> Ask {
     Ask::Write(file, bytes.as_bytes().to_vec())
 }

@@ -96,6 +96,7 @@ struct History {
 }
 
 impl History {
+    /// Begins the history of a seed with an engine over new files.
     fn new(seed: u64) -> History {
         History {
             engine: Engine::with_files(Crowded::default(), options()).unwrap(),
@@ -155,6 +156,7 @@ impl History {
         self.assert_has(files.left(files.asked(), none, none));
     }
 
+    /// Tests that both an engine over files and the engine of the history have what the model has.
     fn assert_has(&self, files: MemoryFiles) {
         let engine = Engine::with_files(files, options()).unwrap();
         for (id, region) in &self.model {

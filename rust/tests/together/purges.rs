@@ -7,6 +7,7 @@ use raft_recover::{
 };
 use std::collections::BTreeMap;
 
+/// Returns append file `seq`.
 fn append(seq: u64) -> FileId {
     FileId::new(Queue::Append, seq)
 }

@@ -9,6 +9,8 @@ use raft_memtable::{LogQueue, MemTable, MemTableAccessor, Result, slot_of};
 use raft_trials::again;
 use std::alloc::Global;
 
+/// Returns the first index of a table, the one past its last index, and how many records it has in each queue; 0 for
+/// an index where it has no entries.
 fn outline(table: &MemTable) -> Outline {
     (
         table.first_index().unwrap_or(0),
@@ -26,6 +28,7 @@ fn is_kept(alloc: Global, core: &mut MemTableAccessor, row: &Row) -> Result<bool
     Ok(answer == expected && is_counted && core.get(region).map(outline) == table)
 }
 
+/// Tests the calls of each list of rows, one after another on a new accessor.
 fn are_kept(alloc: Global) -> Result<bool> {
     for rows in lists() {
         let mut core = MemTableAccessor::new(alloc)?;
@@ -93,6 +96,7 @@ static HANDED: [Handed; 12] = [
     (Call::Nothing, u64::MAX, (0, 0, 0, 0), None, 4),
 ];
 
+/// Returns the rows of tables that are handed out.
 fn handed_out() -> &'static [Handed] {
     &HANDED
 }
@@ -113,6 +117,7 @@ fn is_handed(alloc: Global, core: &mut MemTableAccessor, row: &Handed) -> Result
     Ok(is_first && is_second && is_found && core.tables()?.len() == count)
 }
 
+/// Tests each row, one after another on one accessor.
 fn are_handed(alloc: Global) -> Result<bool> {
     let mut core = MemTableAccessor::new(alloc)?;
     for row in handed_out() {

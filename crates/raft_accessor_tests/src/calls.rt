@@ -50,19 +50,23 @@ pub(crate) enum Call {
 /// The number that a call returns, and the table, if it returns one.
 pub(crate) type Answer = (u64, Option<Shape>);
 
+/// Returns the answer of a call that returns nothing.
 pub(crate) fn done(called: Result<()>) -> Result<Answer> {
     called?;
     Ok((0, None))
 }
 
+/// Returns the answer of a call that returns a number.
 pub(crate) fn numbered(called: Result<u64>) -> Result<Answer> {
     Ok((called?, None))
 }
 
+/// Returns the answer of a call that returns a table, or none.
 pub(crate) fn handed(called: Result<Option<MemTable>>) -> Result<Answer> {
     Ok((0, called?.as_ref().map(shape)))
 }
 
+/// Returns a change that puts a key with the value `v`.
 fn put(alloc: Global, key: &[u8]) -> Result<TableChange> {
     Ok(TableChange::Put {
         key: Vec::from_slice(alloc, key)?,
@@ -71,6 +75,7 @@ fn put(alloc: Global, key: &[u8]) -> Result<TableChange> {
     })
 }
 
+/// Returns a change of a table as the value that the calls take.
 pub(crate) fn table_change(alloc: Global, change: Change) -> Result<TableChange> {
     match change {
         Change::Append(start, end, file) => {
@@ -167,6 +172,7 @@ pub(crate) fn tables_of(alloc: Global, calls: &[Call]) -> Result<MemTableAccesso
     Ok(core)
 }
 
+/// Replays items of a queue in an accessor.
 fn replay(
     alloc: Global,
     core: &mut MemTableAccessor,

@@ -76,6 +76,7 @@ static ROWS: [(&[Item], &str); 12] = [
     ),
 ];
 
+/// Returns the rows of items, each with the text with which they are refused.
 fn rows() -> &'static [(&'static [Item], &'static str)] {
     &ROWS
 }
@@ -105,6 +106,7 @@ fn is_checked(
     )
 }
 
+/// Tests each row.
 fn are_checked(alloc: Global) -> Result<bool> {
     let mut slot = Slot::new(alloc, slot_of(1));
     slot.take_tables(&mut tables_of(alloc, FIRST)?);
@@ -144,6 +146,7 @@ fn are_many_told(alloc: Global, is_apart: bool, last: u64, text: &str) -> Result
     Ok(is_told(tested, text)? && is_told(slot.check_append_writes(&items), text)?)
 }
 
+/// Tests lists of many items, which are accepted up to an index and refused behind it.
 fn are_all_many_told(alloc: Global) -> Result<bool> {
     for &(is_apart, last, text) in &[
         (true, 11, ""),

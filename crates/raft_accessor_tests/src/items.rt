@@ -89,6 +89,7 @@ fn put(
     Ok(item)
 }
 
+/// Returns the log item that an item of a list describes.
 fn log_item(alloc: Global, item: Item) -> Result<LogItem> {
     Ok(match item {
         Item::Entries(region, start, end, file) => {

@@ -403,6 +403,7 @@ static LISTS: [&[Row]; 14] = [
     ],
 ];
 
+/// Returns the lists of rows, each of which begins with a new accessor.
 pub(crate) fn lists() -> &'static [&'static [Row]] {
     &LISTS
 }

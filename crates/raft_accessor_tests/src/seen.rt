@@ -24,6 +24,7 @@ pub(crate) type Shape = (
     (Option<Place>, u64),
 );
 
+/// Returns the place of a table's last entry; `None` where there is none.
 fn place(table: &MemTable) -> Option<Place> {
     let entry = table.get_entry(table.last_index()?)?;
     let handle = entry.entries?;
@@ -48,6 +49,7 @@ fn pairs(table: &MemTable) -> u64 {
     seen
 }
 
+/// Returns what the tests compare of a table.
 pub(crate) fn shape(table: &MemTable) -> Shape {
     (
         table.region_id(),
@@ -179,6 +181,7 @@ pub(crate) fn see_core(alloc: Global, core: &mut MemTableAccessor) -> Result<See
     })
 }
 
+/// Returns the shape of a shared table; `None` where the region has none.
 fn shape_in<R: Wait>(rt: &R, shared: &SharedAccessor, region: u64) -> Option<Shape> {
     shared.with_table(rt, region, shape)
 }

@@ -29,10 +29,12 @@ static CHECKSUMS: [(usize, u32); 23] = [
     (5000, 0xc1607408),
 ];
 
+/// Returns the rows of checksums.
 fn checksums() -> &'static [(usize, u32)] {
     &CHECKSUMS
 }
 
+/// Returns the checksum of bytes.
 fn checksum_of(bytes: &[u8]) -> u32 {
     crc32(bytes)
 }

@@ -23,6 +23,7 @@ static INDEXES: [(&[u64], bool); 11] = [
     (&[u64::MAX], false),
 ];
 
+/// Returns the rows of indexes.
 fn index_rows() -> &'static [(&'static [u64], bool)] {
     &INDEXES
 }
@@ -39,6 +40,7 @@ fn are_consecutive(alloc: Global, indexes: &[u64]) -> Result<bool> {
     Ok(is_consecutive(entries.as_slice()))
 }
 
+/// Tests for each row whether entries with its indexes are consecutive, as it says.
 fn lists_are_told_apart(rt: &impl Abort, alloc: Global) -> Result<()> {
     for &(indexes, consecutive) in index_rows() {
         assert!(rt;
@@ -67,6 +69,7 @@ fn is_compression_row(alloc: Global, byte: u8) -> Result<bool> {
     }
 }
 
+/// Tests each byte as a compression type.
 fn zero_alone_is_a_compression_type(rt: &impl Abort, alloc: Global) -> Result<()> {
     for byte in 0..=u8::MAX {
         assert!(rt; is_compression_row(alloc, byte)?, "{byte}");

@@ -13,6 +13,7 @@ struct Deaf {
 }
 
 impl Deaf {
+    /// Returns `Failed`, if the calls are to fail.
     fn answer(&self) -> Result<()> {
         if self.fails {
             Err(Error::Failed)
@@ -82,6 +83,7 @@ const ASKS: [(LogQueue, Ask); 12] = [
     (LogQueue::Rewrite, Ask::Append("xyz")),
 ];
 
+/// Makes a call of the files of a queue.
 fn ask_for<F: EngineFiles>(files: &mut F, queue: LogQueue, asked: Ask) -> Result<()> {
     match asked {
         Ask::Rotate(seq) => files.rotate(queue, seq),
@@ -107,6 +109,7 @@ fn are(files: &Vec<(FileSeq, Vec<u8>)>, expected: &[(FileSeq, &str)]) -> bool {
             && file.1.as_slice() == other.1.as_bytes())
 }
 
+/// Reads `len` bytes of a file from an offset on.
 fn read(files: &mut MemoryFiles, id: FileId, offset: u64, len: usize) -> Result<Vec<u8>> {
     files.read(FileBlockHandle { id, offset, len })
 }
@@ -120,6 +123,7 @@ fn has(files: &mut MemoryFiles, id: FileId, offset: u64, text: Option<&str>, len
     }
 }
 
+/// Returns files of which all calls were made, each once.
 fn made(alloc: Global) -> Result<MemoryFiles> {
     let mut files = MemoryFiles::new(alloc);
     ask_all(&mut files)?;
@@ -189,6 +193,7 @@ fn refuses(alloc: Global) -> Result<bool> {
     Ok(bytes && cut && number && last && are(files.files(LogQueue::Append), &[(3, "")]))
 }
 
+/// Tests whether a call of the append files is refused as `InvalidArgument`.
 fn is_refused(files: &mut MemoryFiles, asked: Ask) -> bool {
     matches!(
         ask_for(files, LogQueue::Append, asked),

@@ -49,6 +49,7 @@ const MULTIPLES: [(usize, usize, usize, usize); 6] = [
     (4096, 4096, 4096, 4096),
 ];
 
+/// Returns the rows of hashes.
 fn hashes() -> &'static [HashRow] {
     &HASHES
 }
@@ -62,6 +63,8 @@ fn multiples_round(offset: usize, alignment: usize) -> Option<(usize, usize)> {
     ))
 }
 
+/// Returns the multiple of an alignment at or above an offset; `None` for the alignment 0, or close to the highest
+/// number.
 fn multiple_above(offset: usize, alignment: usize) -> Option<usize> {
     if alignment == 0 || offset > usize::MAX - alignment {
         return None;
@@ -69,6 +72,7 @@ fn multiple_above(offset: usize, alignment: usize) -> Option<usize> {
     Some(round_up(offset, alignment))
 }
 
+/// Returns the multiple of an alignment at or below an offset; `None` for the alignment 0.
 fn multiple_below(offset: usize, alignment: usize) -> Option<usize> {
     if alignment == 0 {
         return None;

@@ -25,12 +25,14 @@ fn longs_of(bytes: &[u8; 24]) -> (u64, u64, u64) {
     )
 }
 
+/// Writes a number with its highest byte first, in descending order, and with its lowest byte first.
 fn write_u64(number: u64, mut out: &mut [u8]) -> codec::Result<()> {
     out.encode_u64(number)?;
     out.encode_u64_desc(number)?;
     out.encode_u64_le(number)
 }
 
+/// Reads the three numbers that `write_u64` writes.
 fn read_u64(mut buf: &[u8]) -> codec::Result<(u64, u64, u64)> {
     Ok((
         decode_u64(&mut buf)?,
@@ -50,12 +52,14 @@ fn is_u64_row(row: LongRow) -> codec::Result<bool> {
     )
 }
 
+/// Writes a signed number with its highest byte first, in descending order, and with its lowest byte first.
 fn write_i64(number: i64, mut out: &mut [u8]) -> codec::Result<()> {
     out.encode_i64(number)?;
     out.encode_i64_desc(number)?;
     out.encode_i64_le(number)
 }
 
+/// Reads the three numbers that `write_i64` writes.
 fn read_i64(mut buf: &[u8]) -> codec::Result<(i64, i64, i64)> {
     Ok((
         decode_i64(&mut buf)?,
@@ -99,6 +103,7 @@ fn is_short_row(row: ShortRow) -> codec::Result<bool> {
     )
 }
 
+/// Writes two numbers, each with its highest byte first, and with its lowest byte first.
 fn write_shorts(long: u32, short: u16, mut out: &mut [u8]) -> codec::Result<()> {
     out.encode_u32(long)?;
     out.encode_u32_le(long)?;
@@ -116,6 +121,7 @@ fn shorts_of(bytes: &[u8; 12]) -> (u32, u32, u16, u16) {
     )
 }
 
+/// Reads the four numbers that `write_shorts` writes.
 fn read_shorts(mut buf: &[u8]) -> codec::Result<(u32, u32, u16, u16)> {
     Ok((
         decode_u32(&mut buf)?,
@@ -163,6 +169,8 @@ fn are_u64_in_order(low: u64, high: u64) -> codec::Result<bool> {
     Ok(low < high && bytes[0..8] < bytes[8..16] && bytes[16..24] > bytes[24..32])
 }
 
+/// Tests for signed numbers whether the bytes of a lower one are less than those of a higher one, and greater where
+/// both are written in descending order.
 fn are_i64_in_order(low: i64, high: i64) -> codec::Result<bool> {
     let mut bytes = [0; 32];
     let mut out: &mut [u8] = &mut bytes;
@@ -173,6 +181,7 @@ fn are_i64_in_order(low: i64, high: i64) -> codec::Result<bool> {
     Ok(low < high && bytes[0..8] < bytes[8..16] && bytes[16..24] > bytes[24..32])
 }
 
+/// Tests whether the bytes of a lower number are less than those of a higher one.
 fn are_u32_in_order(low: u32, high: u32) -> codec::Result<bool> {
     let mut bytes = [0; 8];
     let mut out: &mut [u8] = &mut bytes;
@@ -181,6 +190,7 @@ fn are_u32_in_order(low: u32, high: u32) -> codec::Result<bool> {
     Ok(low < high && bytes[0..4] < bytes[4..8])
 }
 
+/// Tests whether the bytes of a lower number are less than those of a higher one.
 fn are_u16_in_order(low: u16, high: u16) -> codec::Result<bool> {
     let mut bytes = [0; 4];
     let mut out: &mut [u8] = &mut bytes;
@@ -305,6 +315,7 @@ fn encode_all<W: Write>(out: &mut W) -> codec::Result<()> {
     out.encode_var_u64(1)
 }
 
+/// Writes the number 1 by each encoder of a length that writes the highest byte first.
 fn encode_highest_first<W: Write>(out: &mut W) -> codec::Result<()> {
     out.encode_u64(1)?;
     out.encode_u32(1)?;
@@ -314,6 +325,7 @@ fn encode_highest_first<W: Write>(out: &mut W) -> codec::Result<()> {
     out.encode_i64_desc(1)
 }
 
+/// Writes a number by each encoder that writes the lowest byte first.
 fn encode_lowest_first<W: Write>(out: &mut W) -> codec::Result<()> {
     out.encode_u16_le(1)?;
     out.encode_u32_le(1)?;

@@ -46,6 +46,7 @@ impl PipeLog for SmallPipe {
     }
 }
 
+/// Returns the append file at the fraction `num` / `den` of a small pipe.
 fn small_file_at(num: u64, den: u64) -> FileSeq {
     SmallPipe.file_at(LogQueue::Append, num, den.max(1))
 }
@@ -70,10 +71,12 @@ fn pipes_are_asked_for_parts(rt: HostRuntime) {
     assert!(rt; appended_len(bytes) == Some(4));
 }
 
+/// Tests whether a file comes before another.
 fn is_before(old: FileId, new: FileId) -> bool {
     old < new
 }
 
+/// Returns the file that comes after the other.
 fn later(old: FileId, new: FileId) -> FileId {
     new.max(old)
 }
@@ -95,6 +98,7 @@ fn is_printed(version: Version, text: &str) -> bool {
     printed.as_str() == text
 }
 
+/// Returns the version with a number; `None` where there is none.
 fn version_of(number: u64) -> Option<Version> {
     Version::from_u64(number)
 }

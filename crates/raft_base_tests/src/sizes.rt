@@ -111,6 +111,7 @@ impl Factory<ReadableSize> for Sizes {
     }
 }
 
+/// Returns two values that a factory makes.
 fn two_of<T: Drop, F: Factory<T>>(alloc: Global, factory: &F) -> raft_base::Result<(T, T)> {
     Ok((factory.new_target(alloc)?, factory.new_target(alloc)?))
 }

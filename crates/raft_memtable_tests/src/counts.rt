@@ -88,6 +88,7 @@ static ROWS: [Row; 17] = [
     ),
 ];
 
+/// Returns the rows of contexts.
 fn rows() -> &'static [Row] {
     &ROWS
 }

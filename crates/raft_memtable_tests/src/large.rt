@@ -229,6 +229,7 @@ fn has_long_value(accessor: &MemTableAccessor, number: u64) -> bool {
 /// The first and the last index of region 1, and how many records are live in each queue.
 type Shape = (Option<u64>, Option<u64>, usize, usize);
 
+/// Returns the first and the last index of region 1, and how many records are live in each queue.
 fn shape(accessor: &MemTableAccessor) -> Shape {
     let table = accessor.get(1);
     let stats = accessor.stats();
@@ -263,6 +264,7 @@ static RUNS: [(LogQueue, LogQueue, Shape); 3] = [
     ),
 ];
 
+/// Returns the rows of two long runs.
 fn runs() -> &'static [(LogQueue, LogQueue, Shape)] {
     &RUNS
 }
@@ -310,6 +312,7 @@ fn many_batches_are_merged(alloc: Global) -> Result<bool> {
     Ok(counts(&context.finish()?) == (1, 0))
 }
 
+/// Tests all merges of large contexts.
 fn all_are_merged(alloc: Global) -> Result<bool> {
     Ok(
         groups_take_effect(alloc)?

@@ -35,6 +35,7 @@ static CUTTINGS: [Cutting; 15] = [
     (&[1, 1, 1, 1], &[2, 1, 0]),
 ];
 
+/// Returns the ways in which four batches are read and merged.
 fn cuttings() -> &'static [Cutting] {
     &CUTTINGS
 }

@@ -11,6 +11,7 @@ const REGIONS: usize = 300;
 /// A number below which more regions than that belong to slot 5.
 const LIMIT: u64 = 60_000;
 
+/// Returns regions that all belong to slot 5.
 fn regions_of_slot(alloc: Global) -> Result<Vec<u64>> {
     let mut regions = Vec::new(alloc);
     for region in 0..LIMIT {

@@ -347,6 +347,7 @@ fn shape_of(accessor: &MemTableAccessor) -> Shape {
     }
 }
 
+/// Returns the rows of overlays.
 fn rows() -> &'static [Row] {
     &ROWS
 }

@@ -53,6 +53,8 @@ fn batches(rt: HostRuntime) {
     assert!(rt; again!(batches_stand_one_behind_the_other(&rt, rt.alloc())).is_ok());
 }
 
+/// Tests that the batches of `BATCHES` are read one after another, and that a part knows its file and lends its
+/// entries.
 fn batches_stand_one_behind_the_other(rt: &impl Abort, alloc: Global) -> Result<()> {
     let part = part(alloc, BATCHES)?;
     for &(at, read) in &[(0, Some((1, FIRST))), (FIRST, Some((1, 58))), (58, None)] {
@@ -76,6 +78,7 @@ fn lends_entries(alloc: Global, part: &FilePart) -> Result<bool> {
     Ok(false)
 }
 
+/// Tests whether a part lends the block of two entries, and it the bytes of each.
 fn are_lent(alloc: Global, part: &FilePart, entries: &[EntryIndex]) -> Result<bool> {
     let [first, second] = entries else {
         return Ok(false);
@@ -265,6 +268,7 @@ static NO_BLOCKS: [PlaceRow; 6] = [
     (FileBlockHandle { len: 4, ..BLOCK }, "Content too short 4"),
 ];
 
+/// Returns the rows of places at which there is no entry block.
 fn no_blocks() -> &'static [PlaceRow] {
     &NO_BLOCKS
 }
@@ -290,6 +294,7 @@ fn entry_places(rt: HostRuntime) {
     assert!(rt; again!(places_are_refused(&rt, rt.alloc())).is_ok());
 }
 
+/// Tests that entry blocks and entries at wrong places are refused, each with its text.
 fn places_are_refused(rt: &impl Abort, alloc: Global) -> Result<()> {
     let part = part(alloc, BATCHES)?;
     for row in no_blocks() {
@@ -322,6 +327,7 @@ fn ends(rt: HostRuntime) {
     assert!(rt; again!(parts_end_at_the_last_offset(&rt, rt.alloc())).is_ok());
 }
 
+/// Tests that a part is refused if its end would be past the highest number.
 fn parts_end_at_the_last_offset(rt: &impl Abort, alloc: Global) -> Result<()> {
     let end = u64::MAX - 58;
     for &(offset, fits) in &[(end, true), (end + 1, false), (u64::MAX, false)] {

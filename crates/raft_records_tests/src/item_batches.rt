@@ -85,6 +85,7 @@ static ROWS: [Row; 7] = [
     ),
 ];
 
+/// Returns the rows of item batches.
 fn rows() -> &'static [Row] {
     &ROWS
 }
@@ -123,6 +124,7 @@ fn merged(alloc: Global) -> Result<LogItemBatch> {
     Ok(batch)
 }
 
+/// Returns the batch that a row names.
 fn batch_of(alloc: Global, made: Made) -> Result<LogItemBatch> {
     match made {
         Made::Empty => Ok(LogItemBatch::default(alloc)),
@@ -158,6 +160,7 @@ fn item_batches(rt: HostRuntime) {
     assert!(rt; again!(item_batches_are_as_in_the_rows(&rt, rt.alloc())).is_ok());
 }
 
+/// Tests each row.
 fn item_batches_are_as_in_the_rows(rt: &impl Abort, alloc: Global) -> Result<()> {
     for row in rows() {
         assert!(rt; is_row(alloc, row)?, "of {:?}", row.6);

@@ -134,6 +134,7 @@ fn is_cloned(item: &LogItem) -> Result<bool> {
     Ok(is_content_cloned && item.content.clone()? == item.content && item.clone()? == *item)
 }
 
+/// Tests whether an error is the one that a row expects.
 fn is_fault(read: Read, e: &Error) -> bool {
     match (read, e) {
         (Read::Unrecognized(text), Error::Corruption(found)) => found.as_str() == text,
@@ -192,6 +193,7 @@ fn items(rt: HostRuntime) {
     assert!(rt; again!(items_are_as_in_the_rows(&rt, rt.alloc())).is_ok());
 }
 
+/// Tests each row of contents, of bytes that are read, and of group markers.
 fn items_are_as_in_the_rows(rt: &impl Abort, alloc: Global) -> Result<()> {
     for (number, row) in rows::contents().iter().enumerate() {
         assert!(rt; is_content_row(alloc, row)?, "content {number}");
@@ -286,6 +288,7 @@ fn shorter_fronts(rt: HostRuntime) {
     assert!(rt; again!(fronts_are_refused(&rt, rt.alloc())).is_ok());
 }
 
+/// Tests that shorter prefixes of the bytes of all rows are refused.
 fn fronts_are_refused(rt: &impl Abort, alloc: Global) -> Result<()> {
     for (number, row) in rows::contents().iter().enumerate() {
         let item = item_of(alloc, row.0)?;
@@ -323,6 +326,7 @@ fn op_types(rt: HostRuntime) {
     assert!(rt; again!(one_and_two_are_op_types(&rt, rt.alloc())).is_ok());
 }
 
+/// Tests each byte as an op type.
 fn one_and_two_are_op_types(rt: &impl Abort, alloc: Global) -> Result<()> {
     for byte in 0..=u8::MAX {
         assert!(rt; is_op_type_row(alloc, byte)?, "{byte}");

@@ -211,6 +211,7 @@ fn is_readable_to(alloc: Global, missing: usize, end: usize, reason: &str) -> Re
     is_readable_front(&long_part(alloc, missing)?, end, reason)
 }
 
+/// Tests how far a part of three long batches is readable without its last bytes.
 fn long_parts_are_readable(rt: &impl Abort, alloc: Global) -> Result<()> {
     for &(missing, end, reason) in &[
         (0, 3 * BATCH, ""),

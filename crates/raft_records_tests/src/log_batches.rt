@@ -235,6 +235,7 @@ fn rows_of_batches(rt: HostRuntime) {
     assert!(rt; again!(batches_are_made_and_read_as_in_the_rows(&rt, rt.alloc())).is_ok());
 }
 
+/// Tests the batch of each row.
 fn batches_are_made_and_read_as_in_the_rows(rt: &impl Abort, alloc: Global) -> Result<()> {
     for (number, row) in rows::rows().iter().enumerate() {
         let mut batch = batch_of(alloc, number)?;
@@ -457,6 +458,7 @@ fn log_batches_are_equal(alloc: Global) -> Result<bool> {
     Ok(same && copy != batch)
 }
 
+/// Tests both kinds of batches.
 fn all_clones_are_equal(alloc: Global) -> Result<bool> {
     Ok(clones_are_equal(alloc)? && log_batches_are_equal(alloc)?)
 }

@@ -57,6 +57,7 @@ struct Halting {
 }
 
 impl Halting {
+    /// Returns a reader and writer of these bytes that fails after `fails_behind` calls.
     fn new(bytes: Vec<u8>, fails_behind: usize) -> Halting {
         Halting {
             bytes,

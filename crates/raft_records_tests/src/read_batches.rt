@@ -26,6 +26,7 @@ fn read_at<'a>(batch: &mut ReadBatch<'a>, part: &'a FilePart, at: usize) -> Resu
     batch.read_next(&context, part.offset(), part.bytes(), at)
 }
 
+/// Tests whether a batch has no items, and no spans of them.
 fn has_no_items(batch: &ReadBatch<'_>) -> bool {
     let (_, items, spans) = batch.parts();
     items.is_empty() && spans.is_empty()
@@ -85,6 +86,7 @@ fn read_batches(rt: HostRuntime) {
     assert!(rt; again!(batches_are_read_in_place_of_one_another(&rt, rt.alloc())).is_ok());
 }
 
+/// Tests that each batch is read into the memory of the one before it, in any order.
 fn batches_are_read_in_place_of_one_another(rt: &impl Abort, alloc: Global) -> Result<()> {
     let part = part(alloc, BATCHES)?;
     let mut batch = ReadBatch::new(alloc, FILE);

@@ -265,6 +265,7 @@ static ROWS: [Row; 50] = [
     ),
 ];
 
+/// Returns the rows of bytes.
 fn rows() -> &'static [Row] {
     &ROWS
 }
@@ -320,6 +321,7 @@ fn refusals(rt: HostRuntime) {
     assert!(rt; again!(bytes_are_read_or_refused_and_left(&rt, rt.alloc())).is_ok());
 }
 
+/// Tests each row.
 fn bytes_are_read_or_refused_and_left(rt: &impl Abort, alloc: Global) -> Result<()> {
     for row in rows() {
         assert!(rt; is_row(alloc, row)?, "at {:?}", row.1);

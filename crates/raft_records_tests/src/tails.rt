@@ -196,6 +196,7 @@ static ROWS: [Row; 20] = [
     },
 ];
 
+/// Returns the rows of tails.
 fn rows() -> &'static [Row] {
     &ROWS
 }
@@ -213,6 +214,8 @@ fn is_broken(part: &FilePart, at: usize) -> Result<bool> {
     is_broken_off(part, at)
 }
 
+/// Tests whether the next sound batch, the next one that is signed for another file, and whether the tail can be a
+/// part of one batch, are as in a row.
 fn is_row(alloc: Global, row: &Row) -> Result<bool> {
     let part = part(alloc, row.version, row.bytes)?;
     let found = (
@@ -227,6 +230,7 @@ fn stops(rt: HostRuntime) {
     assert!(rt; again!(stops_are_told_apart(&rt, rt.alloc())).is_ok());
 }
 
+/// Tests each row.
 fn stops_are_told_apart(rt: &impl Abort, alloc: Global) -> Result<()> {
     for row in rows() {
         let from = row.from;

@@ -22,6 +22,7 @@ static PARTS: [(usize, usize, usize, usize); 9] = [
     (4, 0, 0, 1),
 ];
 
+/// Returns the rows of workers and bytes.
 fn parts() -> &'static [(usize, usize, usize, usize)] {
     &PARTS
 }
@@ -39,6 +40,7 @@ fn the_longer_queue_has_more_workers(rt: HostRuntime) {
 /// How many files there are. Each has three bytes, with which no batch begins.
 const FILES: u64 = 5_000;
 
+/// Returns the files.
 fn files_of(alloc: Global) -> Result<Vec<(FileSeq, Vec<u8>)>> {
     let mut files = Vec::new(alloc);
     for seq in 0..FILES {

@@ -147,6 +147,8 @@ struct Answer {
 }
 
 impl Answer {
+    /// Tests whether a run has ended with this status, has printed `out`, and errors that begin with `err`, or none if
+    /// that is empty.
     fn is(&self, status: u8, out: &str, err: &str) -> bool {
         self.status == status
             && self.out.as_slice() == out.as_bytes()
@@ -172,6 +174,8 @@ fn words_of(alloc: Global, line: &str, others: &[&str]) -> Result<Vec<String>> {
     Ok(words)
 }
 
+/// Runs the program with the words of a line and others, over an input in base 16; `None` where there is no memory for
+/// these.
 fn run_on<S: SharedFiles + Files + AllocGlobal + Threads + Sync>(
     rt: &S,
     way: Way,
@@ -219,6 +223,7 @@ fn is_answered<S: SharedFiles + Files + AllocGlobal + Threads + Sync>(
     answer.is_some_and(|answer| answer.is(status, out, err))
 }
 
+/// Returns the rows of runs.
 fn rows() -> &'static [Row] {
     &ROWS
 }

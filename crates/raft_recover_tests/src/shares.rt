@@ -29,6 +29,7 @@ static ROWS: [Row; 9] = [
     (5, 256, 1 << 20, &[480]),
 ];
 
+/// Returns the rows of shares.
 fn rows() -> &'static [Row] {
     &ROWS
 }
@@ -42,6 +43,7 @@ fn file_bytes(alloc: Global) -> Result<Vec<u8>> {
     Ok(bytes)
 }
 
+/// Returns so many files, each of the same four batches.
 fn files_of(alloc: Global, count: u64) -> Result<Vec<(FileSeq, Vec<u8>)>> {
     let mut files = Vec::new(alloc);
     for seq in 0..count {
@@ -78,6 +80,7 @@ fn shares_are_of_one_length(rt: HostRuntime) -> Result<()> {
     again!(all_shares(&rt, rt.alloc()))
 }
 
+/// Tests each row in both versions.
 fn all_shares(rt: &impl Abort, alloc: Global) -> Result<()> {
     for &(files, count, least, bytes) in rows() {
         for &version in &[Version::V1, Version::V2] {

@@ -114,6 +114,7 @@ static TRIED: [TriedRow; 9] = [
     ),
 ];
 
+/// Returns the rows of runs that are tried.
 fn tried() -> &'static [TriedRow] {
     &TRIED
 }
@@ -276,6 +277,7 @@ static MERGES: [MergeRow; 19] = [
     ),
 ];
 
+/// Returns the rows of merges.
 fn merges() -> &'static [MergeRow] {
     &MERGES
 }
@@ -286,6 +288,7 @@ type Seen = (Option<u64>, Option<u64>, usize, Option<(FileSeq, FileSeq)>);
 /// What an empty table has.
 const EMPTY: Seen = (None, None, 0, None);
 
+/// Returns what a table has.
 fn seen(table: &MemTable) -> Seen {
     (
         table.first_index(),

@@ -54,6 +54,7 @@ static WALKS: [Walk; 10] = [
     (TWO, ONE, false, 1000, 0),
 ];
 
+/// Returns the rows of walks.
 fn walks() -> &'static [Walk] {
     &WALKS
 }
@@ -70,6 +71,7 @@ fn seen(table: &MemTable, start: Bound, end: Bound, reverse: bool, limit: u64) -
     Ok(seen)
 }
 
+/// Tests what a table returns for its keys.
 fn ask(rt: &impl Abort, alloc: Global) -> Result<()> {
     let store = store_of_keys(alloc)?;
     let table = &store.table;
@@ -129,6 +131,7 @@ fn counts(table: &MemTable) -> (usize, u128, Option<FileSeq>) {
     )
 }
 
+/// Rewrites a key into rewrite file 50, if it is in an append file up to 9.
 fn rewrite_key(alloc: Global, store: &mut LogStore, key: &[u8]) -> Result<()> {
     let key = Vec::from_slice(alloc, key)?;
     store.make(TableChange::RewriteKey {
@@ -139,12 +142,14 @@ fn rewrite_key(alloc: Global, store: &mut LogStore, key: &[u8]) -> Result<()> {
     Ok(())
 }
 
+/// Deletes a key.
 fn delete_key(alloc: Global, store: &mut LogStore, key: &[u8]) -> Result<()> {
     let key = Vec::from_slice(alloc, key)?;
     store.make(TableChange::Delete { key })?;
     Ok(())
 }
 
+/// Tests a merged table, and again after each of a rewriting and a deletion.
 fn join(rt: &impl Abort, alloc: Global) -> Result<()> {
     let mut store = joined(alloc)?;
     assert!(rt; has_values(&store, [Some(b"1"), Some(b"3"), Some(b"4")]));

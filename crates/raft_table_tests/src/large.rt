@@ -10,6 +10,7 @@ use std::alloc::Global;
 /// many entries are fetched.
 type Shape = (Option<u64>, Option<u64>, usize, usize, usize);
 
+/// Returns the indexes and the counts of a table, and how many entries it returns.
 fn shape(alloc: Global, table: &MemTable) -> Result<Shape> {
     let (first, last) = (table.first_index(), table.last_index());
     let mut fetched = Vec::new(alloc);
@@ -57,6 +58,7 @@ static MERGES: [MergeRow; 3] = [
     ),
 ];
 
+/// Returns the rows of merges.
 fn merges() -> &'static [MergeRow] {
     &MERGES
 }
@@ -82,6 +84,7 @@ fn is_deleted(alloc: Global) -> Result<bool> {
     Ok(has_value && store.table.get(b"").is_none() && store.table.key_count() == 0)
 }
 
+/// Tests each row, a rewriting and a long value.
 fn all_are_large(alloc: Global) -> Result<bool> {
     for row in merges() {
         if !is_merged(alloc, row)? {

@@ -25,6 +25,7 @@ static LISTS: [(&[ListedEntry], Answer); 6] = [
     (&[(1, Some(LogQueue::Rewrite))], InvalidArgument),
 ];
 
+/// Returns the rows of lists.
 fn list_rows() -> &'static [(&'static [ListedEntry], Answer)] {
     &LISTS
 }
@@ -54,6 +55,7 @@ fn append(alloc: Global, store: &mut LogStore, list: &[ListedEntry]) -> Result<(
     Ok((is_run, answer))
 }
 
+/// Tests whether the lists of the rows are appended to one table, or refused, one after another.
 fn make_lists(rt: &impl Abort, alloc: Global) -> Result<()> {
     let mut store = LogStore::new(alloc);
     for (list, want) in list_rows() {
@@ -87,6 +89,7 @@ static FETCHES: [Fetch; 11] = [
     (&[u32::MAX, u32::MAX], 10, 12, Some(1 << 32), Done, 1),
 ];
 
+/// Returns the rows of fetches.
 fn fetch_rows() -> &'static [Fetch] {
     &FETCHES
 }
@@ -154,6 +157,7 @@ fn fetches_end_at_limits(rt: HostRuntime) -> Result<()> {
     Ok(())
 }
 
+/// Tests whether a table says that it has at least `count` entries in append files up to `seq`.
 fn has_before(table: &MemTable, seq: FileSeq, count: usize) -> bool {
     let gate = FileId::new(LogQueue::Append, seq);
     count > 0 && table.has_at_least_some_entries_before(gate, count)

@@ -47,6 +47,7 @@ struct Bounds {
 }
 
 impl Bounds {
+    /// Tests whether an entry is within the bounds.
     fn hold(&self, entry: &EntryIndex) -> bool {
         self.floor <= entry.index && entry.index < self.cut
     }
@@ -138,6 +139,7 @@ struct List {
     entries: Vec<EntryIndex>,
 }
 
+/// Tests whether a run has an entry at an index.
 fn holds(run: Run, index: u64) -> bool {
     let (first, end, _) = run;
     first <= index && index < end
@@ -182,6 +184,7 @@ impl List {
         end_of(self.entries.iter().filter(|e| bounds.hold(e)).last())
     }
 
+    /// Returns the entry at an index; `None` where there is none.
     fn get(&self, index: u64) -> Option<EntryIndex> {
         for entry in &self.entries {
             if entry.index == index {

@@ -383,6 +383,7 @@ static ROWS: [&[Row]; 14] = [
     ROOM,
 ];
 
+/// Returns the lists of rows, each of which begins with an empty store.
 pub fn lists() -> &'static [&'static [Row]] {
     &ROWS
 }

@@ -31,6 +31,7 @@ fn count_table(rt: &impl Abort, table: &MemTable) -> Result<()> {
     Ok(())
 }
 
+/// Tests the counts of a table with appended entries and a rewritten key.
 fn count(rt: &impl Abort, alloc: Global) -> Result<()> {
     let calls = [Append((0, 10, 1)), Put(LogQueue::Rewrite, 5)];
     let store = LogStore::after(alloc, &calls)?;

@@ -93,6 +93,7 @@ pub fn entry_of(queue: LogQueue, run: Run, index: u64) -> EntryIndex {
 }
 
 impl LogStore {
+    /// Returns an empty store.
     pub fn new(alloc: Global) -> LogStore {
         LogStore {
             alloc,
@@ -110,6 +111,7 @@ impl LogStore {
         Ok(store)
     }
 
+    /// Returns a copy of a text.
     fn bytes(&self, text: &[u8]) -> Result<Vec<u8>> {
         Ok(Vec::from_slice(self.alloc, text)?)
     }
@@ -272,6 +274,7 @@ impl LogStore {
         Ok(())
     }
 
+    /// Returns the indexes of the store, and its counts and its least file in each queue; 0 where there is none.
     pub fn shape(&self) -> Shape {
         let last = self.table.last_index();
         let appended = self.stats.live_entries(LogQueue::Append) as u64;

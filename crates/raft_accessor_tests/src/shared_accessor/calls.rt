@@ -217,6 +217,7 @@ static CALLS: [Row; 36] = [
     (MADE, Call::TakeCleaned, None),
 ];
 
+/// Returns the rows of calls.
 fn calls() -> &'static [Row] {
     &CALLS
 }

@@ -135,6 +135,7 @@ static FILLED: [usize; 128] = [
     4, 7, 12, 2,
 ];
 
+/// Returns how many filled regions each slot has.
 fn filled() -> &'static [usize; 128] {
     &FILLED
 }

@@ -129,6 +129,7 @@ static REFUSED: [RefusedRow; 30] = [
     ("100000000000000000000", SizeError::Digits),
 ];
 
+/// Returns the rows of sizes that are printed, of texts that are read, and of texts that are refused.
 pub(super) fn rows() -> (
     &'static [PrintedRow],
     &'static [ReadRow],

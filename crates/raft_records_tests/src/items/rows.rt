@@ -92,6 +92,7 @@ const LONG_PUT: &[u8] = b"\x01\x01k\x82\x01\
     \xff\xff\xff\xff\xff\xff\xff\xff\xff\xff\xff\xff\xff\xff\xff\xff\xff\xff\xff\xff\xff\xff\xff\xff\xff\xff\
     \xff\xff\xff\xff\xff\xff\xff\xff\xff\xff\xff\xff\xff\xff\xff\xff\xff\xff\xff\xff\xff\xff\xff\xff\xff\xff";
 
+/// Returns the rows of contents.
 pub(super) fn contents() -> &'static [ContentRow] {
     &CONTENTS
 }
@@ -326,6 +327,7 @@ static READINGS: [ReadRow; 83] = [
     ),
 ];
 
+/// Returns the rows of bytes that are read or refused.
 pub(super) fn readings() -> &'static [ReadRow] {
     &READINGS
 }
@@ -363,6 +365,7 @@ static FRONTS: [FrontsRow; 14] = [
     (Form::Entries, b"\x03\xac\x02\x01\x02\x03", b"nnnnnn"),
 ];
 
+/// Returns the rows of bytes whose shorter prefixes are refused.
 pub(super) fn fronts() -> &'static [FrontsRow] {
     &FRONTS
 }
@@ -413,6 +416,7 @@ static MARKERS: [MarkerRow; 11] = [
     ),
 ];
 
+/// Returns the rows of group markers.
 pub(super) fn markers() -> &'static [MarkerRow] {
     &MARKERS
 }

@@ -17,6 +17,7 @@ pub(super) struct Row {
     pub(super) item_batch_size: usize,
 }
 
+/// Returns the rows of log batches.
 pub(super) fn rows() -> &'static [Row] {
     &ROWS
 }

@@ -21,6 +21,7 @@ static CUTS: [(usize, usize, usize, &[usize]); 9] = [
     (0, 96, 4, &[96]),
 ];
 
+/// Returns the rows of cuts.
 fn cuts() -> &'static [(usize, usize, usize, &'static [usize])] {
     &CUTS
 }

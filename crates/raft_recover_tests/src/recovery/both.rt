@@ -181,6 +181,7 @@ fn holds<R: Threads + Sync>(
     Ok(recovered_text(alloc, &tables)?.as_str() == row.lines)
 }
 
+/// Returns the rows of files of both queues.
 fn rows() -> &'static [Row] {
     &ROWS
 }

@@ -46,6 +46,7 @@ fn is_skipped(item: &LogItem) -> bool {
 }
 
 impl Written {
+    /// Returns a batch as it was written to a file, with its group marker.
     pub(crate) fn new(alloc: Global, batch: LogItemBatch, file: FileId) -> Result<Written> {
         let marker = marker_of(alloc, &batch, file.queue)?;
         Ok(Written {
@@ -55,6 +56,7 @@ impl Written {
         })
     }
 
+    /// Returns the group that the batch belongs to; `None` where it has no group marker.
     fn group(&self) -> Option<u64> {
         match self.marker {
             Some(marker) => Some(marker.group),
@@ -137,6 +139,7 @@ impl<'a> Reading<'a> {
         Ok(())
     }
 
+    /// Applies the items of a batch, but for group markers.
     fn take_items(&mut self, batch: &'a LogItemBatch) -> Result<()> {
         for item in batch.iter() {
             if !is_skipped(item) {
@@ -146,6 +149,7 @@ impl<'a> Reading<'a> {
         Ok(())
     }
 
+    /// Applies an item.
     fn take(&mut self, item: &'a LogItem) -> Result<()> {
         let region = item.raft_group_id;
         if !self.regions.contains(&region) {
@@ -169,16 +173,19 @@ impl<'a> Reading<'a> {
         }
     }
 
+    /// Removes the region's entries below an index.
     fn compact(&mut self, region: u64, index: u64) {
         self.entries
             .retain(|e| e.region != region || e.index >= index);
     }
 
+    /// Removes the region's entries from an index on.
     fn truncate(&mut self, region: u64, index: u64) {
         self.entries
             .retain(|e| e.region != region || e.index < index);
     }
 
+    /// Removes the region's entries and keys, and counts the cleaning.
     fn clean(&mut self, region: u64) {
         self.entries.retain(|e| e.region != region);
         self.keys.retain(|k| k.region != region);
@@ -215,6 +222,7 @@ impl<'a> Reading<'a> {
         Ok(())
     }
 
+    /// Puts a key, or removes it and notes that it is deleted.
     fn take_pair(&mut self, region: u64, kv: &'a KeyValue) -> Result<()> {
         let key = Key {
             region,

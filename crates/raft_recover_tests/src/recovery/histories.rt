@@ -105,6 +105,7 @@ pub(crate) const REWRITTEN: [Batch; 8] = [
     ),
 ];
 
+/// Returns the rows of histories.
 pub(crate) fn histories() -> &'static [Row] {
     &ROWS
 }

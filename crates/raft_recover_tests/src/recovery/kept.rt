@@ -128,6 +128,7 @@ static COUNTED: [Counted; 4] = [
     },
 ];
 
+/// Returns the rows of counted contexts.
 fn counted_rows() -> &'static [Counted] {
     &COUNTED
 }

@@ -57,6 +57,7 @@ impl History {
         Ok(history)
     }
 
+    /// Adds the batches of a file to the history.
     fn push_file(&mut self, part: &FilePart) -> Result<()> {
         let mut at = 0;
         for _ in 0..part.bytes().len() {
@@ -124,6 +125,7 @@ impl History {
         Ok(piece)
     }
 
+    /// Merges pieces one by one, from the first on; `None` where there is none.
     fn from_left(&self, pieces: Vec<Piece>) -> Result<Option<Piece>> {
         let mut whole: Option<Piece> = None;
         for piece in pieces {
@@ -135,6 +137,7 @@ impl History {
         Ok(whole)
     }
 
+    /// Merges pieces one by one, from the last on; `None` where there is none.
     fn from_right(&self, pieces: Vec<Piece>) -> Result<Option<Piece>> {
         let mut whole: Option<Piece> = None;
         for piece in pieces.into_iter().rev() {
@@ -225,10 +228,12 @@ impl History {
     }
 }
 
+/// Replays a copy of a batch.
 pub(crate) fn replay(context: &mut MemTableRecoverContext, written: &Written) -> Result<()> {
     context.replay(written.batch.clone()?, written.file)
 }
 
+/// Merges a context with its newer neighbor.
 pub(crate) fn merge(
     older: &mut MemTableRecoverContext,
     newer: MemTableRecoverContext,

@@ -40,6 +40,7 @@ static SCHEDULES: [(Draws, Order); 5] = [
     (IN_PAIRS, ByHalves),
 ];
 
+/// Returns the rows of schedules.
 fn schedules() -> &'static [(Draws, Order)] {
     &SCHEDULES
 }
@@ -53,6 +54,7 @@ fn plan_of(alloc: Global, pieces: usize, order: Order) -> Result<Plan> {
     }
 }
 
+/// Returns the plan that merges so many pieces one by one, from the first on.
 fn from_left(alloc: Global, pieces: usize) -> Result<Plan> {
     let mut plan = Plan::One;
     for _ in 1..pieces {

@@ -48,6 +48,7 @@ impl HeldFiles {
     }
 }
 
+/// Returns `len` bytes from an offset on; fewer where the bytes end before.
 fn part_of(bytes: &[u8], offset: u64, len: usize) -> &[u8] {
     let start = offset.min(bytes.len() as u64) as usize;
     let end = start.saturating_add(len).min(bytes.len());
@@ -71,6 +72,7 @@ const LINES: &str = "1 entries 20..45 keys 0 append 1 rewrite -\ncleaned -\nlive
 /// The place at which the last piece of the first file begins, behind two of 4 MiB, as errors name it.
 const LAST_PIECE: &str = "append file 1, offset 8388608: ";
 
+/// Returns files with the batches of `FILES`.
 fn made(alloc: Global) -> Result<HeldFiles> {
     let mut files = Vec::new(alloc);
     for &(seq, records) in &FILES {
@@ -90,6 +92,7 @@ fn tables_of<R: Threads + Sync>(
     recover_files(rt, alloc, files, sizes, LogQueue::Append, Version::V2, 3)
 }
 
+/// Tests whether tables are printed as the lines.
 fn have_lines(alloc: Global, tables: &MemTableAccessor) -> Result<bool> {
     Ok(recovered_text(alloc, tables)?.as_str() == LINES)
 }
@@ -154,6 +157,7 @@ fn words_for<S: Files + AllocGlobal>(rt: &S, files: &HeldFiles) -> Result<Vec<St
     Ok(words)
 }
 
+/// Removes the files from the disk.
 fn remove<S: Files + AllocGlobal>(rt: &S, files: &HeldFiles) -> Result<()> {
     for (seq, _) in &files.0 {
         fs::remove_file(rt, path_of(rt.alloc(), *seq)?.as_str())?;
@@ -197,6 +201,7 @@ fn reads_are_at_offsets<S: SharedFiles + Files + AllocGlobal>(rt: &S) -> Result<
     )
 }
 
+/// Tests all ways of reading the files.
 fn all_hold<S: SharedFiles + Files + AllocGlobal + Threads + Sync>(rt: &S) -> Result<bool> {
     let alloc = rt.alloc();
     let files = made(alloc)?;

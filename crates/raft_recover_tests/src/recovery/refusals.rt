@@ -47,6 +47,7 @@ static SPELLINGS: [(&str, &str); 3] = [
     ),
 ];
 
+/// Returns the rows of batches that are refused.
 fn spellings() -> &'static [(&'static str, &'static str)] {
     &SPELLINGS
 }
@@ -140,6 +141,7 @@ fn cut_short(alloc: Global, number: usize) -> Result<Vec<(FileSeq, &'static str)
     Ok(batches)
 }
 
+/// Returns the text for each appended batch that is cut short.
 fn cut_short_texts() -> &'static [&'static str] {
     &CUT_SHORT
 }
@@ -298,6 +300,7 @@ static MIXTURES: [(Queues, LogQueue, &str); 6] = [
     (APPEND_PARTS, LogQueue::Rewrite, OTHER_QUEUE),
 ];
 
+/// Returns the rows of segments with parts of several queues.
 fn mixtures() -> &'static [(Queues, LogQueue, &'static str)] {
     &MIXTURES
 }
@@ -311,6 +314,7 @@ fn empty_segments(alloc: Global, queues: &Queues) -> Result<Vec<Segment>> {
     Ok(segments)
 }
 
+/// Returns a segment of parts without bytes, one of each of these queues.
 fn empty_segment(alloc: Global, queues: &[LogQueue]) -> Result<Segment> {
     let mut segment = Vec::new(alloc);
     for &queue in queues {

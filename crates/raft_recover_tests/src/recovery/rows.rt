@@ -37,6 +37,7 @@ live 4 0
     ..APPEND
 };
 
+/// Returns the rows of batches.
 pub(crate) fn rows() -> &'static [Row] {
     &ROWS
 }

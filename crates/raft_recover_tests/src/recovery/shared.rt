@@ -64,10 +64,12 @@ static HISTORIES: [Row; 3] = [
     },
 ];
 
+/// Returns the rows of histories.
 fn history_rows() -> &'static [Row] {
     &HISTORIES
 }
 
+/// Returns what the tests compare of a table.
 fn shape(table: &MemTable) -> Shape {
     (
         table.region_id(),
@@ -80,6 +82,7 @@ fn shape(table: &MemTable) -> Shape {
     )
 }
 
+/// Returns the shape of a shared table; `None` where the region has none.
 fn shape_of<R: Wait>(rt: &R, shared: &SharedAccessor, region: u64) -> Option<Shape> {
     shared.with_table(rt, region, shape)
 }
@@ -96,6 +99,7 @@ fn shapes<R: Wait>(rt: &R, alloc: Global, shared: &SharedAccessor) -> Result<Vec
     Ok(shapes)
 }
 
+/// Takes the cleaned regions, as a batch.
 fn cleaned_logs<R: Wait>(rt: &R, alloc: Global, shared: &SharedAccessor) -> Result<LogBatch> {
     let mut logs = LogBatch::default(alloc);
     shared.take_cleaned_region_logs(rt, &mut logs)?;

@@ -8,6 +8,7 @@ use super::batches::{
 };
 use super::owed::{APPEND, REWRITE, Row};
 
+/// Returns the rows of truncations.
 pub(crate) fn truncations() -> &'static [Row] {
     &ROWS
 }

@@ -1,6 +1,6 @@
 //! The log of a Raft node, in a region of an engine that many nodes share: the six calls of raft-rs's `Storage`, and what a node
 //! writes, which no crash takes away once the call returned `Ok`. `raft_storage <folder>` appends an entry.
-//! An entry's term stands in front of its data. The hard state and what is known of the snapshot are key values. Terms are kept in
+//! An entry's term stands before its data. The hard state and what is known of the snapshot are key values. Terms are kept in
 //! memory, so `term` reads no block. The region is the log's alone.
 
 mod raft_rs;

@@ -198,7 +198,7 @@ impl Engine {
         Engine::with_files(FolderFiles::open(path)?, options)
     }
 
-    /// Opens the engine in a folder to be read alone: each change is refused ([`Engine::with_files_read_only`] says which).
+    /// Opens the engine in a folder for reading only: each change is refused ([`Engine::with_files_read_only`] says which).
     /// Nothing in the folder is made, changed or synced, so one without the right to write there is enough. Several may read a
     /// folder at a time, as long as no engine has it open that writes.
     ///
@@ -376,7 +376,7 @@ impl<F: Files> Engine<F> {
         &self.files
     }
 
-    /// Tests whether the engine was opened to be read alone, so that it refuses each change.
+    /// Tests whether the engine was opened for reading only, so that it refuses each change.
     ///
     /// ```
     /// # use raft_recover::{Engine, MemoryFiles, Options};
@@ -389,12 +389,12 @@ impl<F: Files> Engine<F> {
         self.is_read_only
     }
 
-    /// Checks that the engine isn't open to be read alone. `call` is the name of the call that would change something, for the
+    /// Checks that the engine isn't open for reading only. `call` is the name of the call that would change something, for the
     /// error.
     ///
     /// # Errors
     ///
-    /// `InvalidArgument`, with that name, where the engine is open to be read alone.
+    /// `InvalidArgument`, with that name, where the engine is open for reading only.
     fn check_writable(&self, call: &str) -> Result<()> {
         if self.is_read_only {
             let text = format!("{call}: the engine is open for reading alone");

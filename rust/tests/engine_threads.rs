@@ -173,7 +173,7 @@ fn count_syncs_of_four() -> u64 {
         drop(closed);
     });
     assert_eq!(engine.stats().batches, 4);
-    engine.stats().syncs - before - 1 // without that in front of the new file
+    engine.stats().syncs - before - 1 // without the one before the new file
 }
 
 #[test]

@@ -46,7 +46,7 @@ unsafe impl GlobalAlloc for Noting {
             LIVE.set(LIVE.get() + 1);
         }
         let (whole, front) = layout_with_note(layout);
-        // SAFETY: the block has room for two numbers in front of what is handed out.
+        // SAFETY: the block has room for two numbers before what is handed out.
         unsafe {
             let at = System.alloc(whole).add(front);
             at.cast::<[usize; 2]>()

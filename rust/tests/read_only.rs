@@ -1,4 +1,4 @@
-//! Tests engines that are opened to be read alone.
+//! Tests engines that are opened for reading only.
 
 mod common;
 

@@ -106,7 +106,7 @@ impl FolderFiles {
         })
     }
 
-    /// Opens a folder with all log files in it to be read alone. Every change is refused. Nothing is made or synced, so one
+    /// Opens a folder with all log files in it for reading only. Every change is refused. Nothing is made or synced, so one
     /// without the right to write there is enough. The folder, and the file `LOCK`, if it is there, get a shared lock: others may
     /// read at the same time, but no engine can change, move or delete what is read.
     ///

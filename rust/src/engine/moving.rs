@@ -42,7 +42,7 @@ impl<F: Files> Engine<F> {
     ///
     /// # Errors
     ///
-    /// `InvalidArgument` where the engine is open to be read alone; `Full` where the last file has the greatest number; `Memory`.
+    /// `InvalidArgument` where the engine is open for reading only; `Full` where the last file has the greatest number; `Memory`.
     /// Nothing has changed then. `Io`, `Failed`: the engine has failed, unless a folder has no room.
     pub fn rotate(&self) -> Result<()> {
         self.check_writable("rotate")?;
@@ -80,7 +80,7 @@ impl<F: Files> Engine<F> {
     ///
     /// # Errors
     ///
-    /// - `InvalidArgument` where the engine is open to be read alone, or a key is that of the group markers; `Full` where an
+    /// - `InvalidArgument` where the engine is open for reading only, or a key is that of the group markers; `Full` where an
     ///   entry has 2^31 bytes or more; `Corruption` where bytes were damaged since they were written; `Io` where they can't be
     ///   read; `Memory`. Some records may have moved then.
     /// - `Io` of a change of the files, and `Failed`: the engine has failed, unless a folder has no room.

@@ -139,7 +139,7 @@ impl<F: Files> Engine<F> {
             if is_rewritten {
                 bytes += u64::from(entry.len);
             }
-            is_rewritten // entries that moved stand in front of all others
+            is_rewritten // entries that moved stand before all others
         })?;
         let pairs = self.lock_tables_after_waiters().scan(region, b"", None)?;
         Ok(bytes + pairs.bytes.len() as u64)

@@ -26,7 +26,7 @@ impl<F: Files> Engine<F> {
     ///
     /// # Errors
     ///
-    /// - `InvalidArgument` where the batch is no longer open, or the engine is open to be read alone; `Corruption` where its
+    /// - `InvalidArgument` where the batch is no longer open, or the engine is open for reading only; `Corruption` where its
     ///   entries leave a hole behind those of their region, or begin below them; `Full` where it would have 2^56 bytes or more,
     ///   or its file more than 2^63; `Memory`. Nothing has changed then, neither the engine nor the batch. Only where memory ran
     ///   out half way the engine has failed: its next change returns `Failed`.
@@ -53,7 +53,7 @@ impl<F: Files> Engine<F> {
     ///
     /// # Errors
     ///
-    /// `InvalidArgument` where the engine is open to be read alone; `Memory`. Nothing has changed then, unless the next change
+    /// `InvalidArgument` where the engine is open for reading only; `Memory`. Nothing has changed then, unless the next change
     /// returns `Failed`: then memory ran out half way, and the engine has failed. `Io`, `Failed`: the engine has failed, unless
     /// the `Io` says that there is no room for what was written earlier.
     pub fn sync(&self) -> Result<()> {

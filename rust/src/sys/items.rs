@@ -78,7 +78,7 @@ unsafe impl Send for ItemsHandle {}
 
 impl ItemsHandle {
     /// Reads the batch that stands at byte `at` of a part, and returns its items, and where the
-    /// next batch begins; `None` at the end of the part. There must be `at` bytes.
+    /// next batch begins; `None` at the end of the part. Panics if `at` is past the end.
     ///
     /// # Errors
     ///

@@ -55,7 +55,7 @@ fn a_changed_bit_among_3_050_synced_entries_is_refused_by_its_place() {
         |at: u64| format!("no batch can be read there, but one stands behind it, at offset {at}");
     // of the first batch, which has 37 bytes, the length
     assert_refused(with_bit(0, 0), FIRST, 0, &reason(37));
-    // 9 batches of 37 bytes, 90 of 38 and 7 of 39 stand in front of it
+    // 9 batches of 37 bytes, 90 of 38 and 7 of 39 stand before it
     assert_refused(with_bit(4030, 0), FIRST, 4026, &reason(4065));
 }
 

@@ -36,7 +36,7 @@ fn open_and_measure(id: FileId, bytes: &[u8], options: &Options) -> Result<(u64,
     Ok((bytes.len() as u64 - cut, cut))
 }
 
-/// Tests that such files are refused at an offset, also where they are opened to be read alone, and that nothing is asked of
+/// Tests that such files are refused at an offset, also where they are opened for reading only, and that nothing is asked of
 /// them.
 fn assert_refused(id: FileId, bytes: &[u8], offset: usize, reason: &str) {
     let text =

@@ -112,7 +112,7 @@ fn a_slot_looks_at_no_item_of_another_one() {
     let refused = slot.apply_append(&written_items(bad(7))).unwrap_err();
     assert_eq!(refused.kind, ErrorKind::Corruption);
     let summary = slot.summary(7).unwrap();
-    assert_eq!((summary.entries, summary.keys), (4, 1)); // those in front of it were written
+    assert_eq!((summary.entries, summary.keys), (4, 1)); // those before it were written
 }
 
 #[test]

@@ -37,7 +37,7 @@ impl Unsynced {
                 steps: steps + 1,
                 deletions,
             },
-            // what stands in front of a new file was synced when it was begun
+            // what stands before a new file was synced when it was begun
             Ask::Begin(_) => Unsynced {
                 steps: 1,
                 deletions,

@@ -1,17 +1,23 @@
-//! The calls on an engine.
+//! Declarations of the calls on an engine.
 
 use super::{EntryNumbers, Handle, Maybe, Size, Status, SummaryNumbers};
 
+/// An order, as the library fills it in.
 #[repr(C)]
 #[derive(Clone, Copy, Default)]
 pub(super) struct OrderNumbers {
+    /// The number of the order, from 0 on.
     pub(super) at: u64,
+    /// The number of the file that is begun, or the length to which one is cut.
     pub(super) number: u64,
+    /// How many bytes the order writes.
     pub(super) len: usize,
+    /// What is to be done, from 0 on in the order of the variants of `Order`.
     pub(super) kind: u32,
     pub(super) is_rewrite: bool,
 }
 
+/// A `Block`, as the library fills it in.
 #[repr(C)]
 #[derive(Clone, Copy, Default)]
 pub(super) struct PlaceNumbers {
@@ -21,6 +27,7 @@ pub(super) struct PlaceNumbers {
     pub(super) is_rewrite: bool,
 }
 
+/// A tail that was cut off, as the library fills it in: `text_len` and `code` are those of the reason.
 #[repr(C)]
 #[derive(Clone, Copy, Default)]
 pub(super) struct TailNumbers {

@@ -1,4 +1,4 @@
-//! The calls on tables, and on those of a slot.
+//! Declarations of the calls on tables, and on those of a slot.
 
 use super::{EntryNumbers, Handle, Maybe, Status, SummaryNumbers};
 

@@ -68,13 +68,14 @@ struct Status {
 }
 
 unsafe extern "C" {
-    /// Returns how many bytes the log batch at the start of `bytes` has by its header, or 0 if no
-    /// header stands there. So files can be cut between batches. Whether the batch can be read
-    /// isn't tested.
+    /// Returns the length in bytes of the log batch whose header stands at the start of `bytes`, or
+    /// 0 if no header stands there. So files can be cut between batches. Whether the batch can be
+    /// read, or is all there, isn't tested.
     fn raft_ffi_batch_len(bytes: *const u8, bytes_len: usize) -> usize;
-    /// Sets `len` to how many of `bytes`, from the first one on, are readable batches, one behind
-    /// the other; `bytes` stand in `file` from `offset` on. The code says why the batch behind them
-    /// can't be read, with its text in `text`; it is 0 if they are all of `bytes`.
+    /// Sets `len` to how many of `bytes`, from the first one on, are readable batches, one after
+    /// another; `bytes` stand in `file` from `offset` on. The code is 0 if they are all of `bytes`.
+    /// Else it is that of the error for which the batch after them can't be read, with its text in
+    /// `text`.
     fn raft_ffi_readable_front(
         file: File,
         offset: u64,

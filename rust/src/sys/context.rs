@@ -23,8 +23,8 @@ unsafe extern "C" {
     fn raft_ffi_context_new(context: *mut Handle) -> u32;
     /// Replays `bytes`, batches that stand in `file` from `offset` on. The code is 0; that of the
     /// error if a batch can't be read or can't follow those before it; 12 (`Failed`), if the
-    /// context doesn't read on; or 11 (`Memory`). After an error the context is gone: it may have
-    /// taken in some of the batches.
+    /// context doesn't read on; or 11 (`Memory`). After an error `context` is empty: what it held
+    /// may have taken in some of the batches, and is dropped.
     fn raft_ffi_context_replay(
         context: *mut Handle,
         file: File,
@@ -34,9 +34,9 @@ unsafe extern "C" {
         text: *mut u8,
         text_len: usize,
     ) -> Status;
-    /// Takes in `newer`, the context of the batches that follow in the same queue, and which is
-    /// gone then. The code is 0, or that of the error: 12 (`Failed`), if one of both doesn't read
-    /// on. After an error the context is gone too.
+    /// Takes in `newer`, the context of the batches that follow in the same queue. `newer` is gone
+    /// then. The code is 0, or that of the error: 12 (`Failed`), if one of both doesn't read on.
+    /// After an error `context` is empty.
     fn raft_ffi_context_merge(
         context: *mut Handle,
         newer: Handle,
@@ -44,10 +44,10 @@ unsafe extern "C" {
         text: *mut u8,
         text_len: usize,
     ) -> Status;
-    /// Takes in `append`, the context of the append queue, which is gone then; `context` is that of
-    /// the rewrite queue. The code is 0, or that of the error: 12 (`Failed`), if one of both
+    /// Takes in `append`, the context of the append queue; `context` is that of the rewrite queue.
+    /// `append` is gone then. The code is 0, or that of the error: 12 (`Failed`), if one of both
     /// doesn't read on, or 11 (`Memory`), the only one if they are contexts of the two queues.
-    /// After an error the context is gone too.
+    /// After an error `context` is empty.
     fn raft_ffi_context_overlay(
         context: *mut Handle,
         append: Handle,
@@ -55,7 +55,7 @@ unsafe extern "C" {
         text_len: usize,
     ) -> Status;
     /// Sets `kept` to how much a context holds. The code is 0, or 12 (`Failed`) for a context that
-    /// failed. The context is unchanged.
+    /// failed: `kept` isn't set then. The context is unchanged.
     fn raft_ffi_context_kept(
         context: *mut Handle,
         kept: *mut KeptNumbers,

@@ -19,10 +19,11 @@ struct ItemHead {
 }
 
 unsafe extern "C" {
-    /// Reads the items of the log batch at `at` of `bytes` into `items`, which is empty before, and
-    /// sets `next` to where the next batch begins; `bytes` stand in `file` from `offset` on. If
-    /// `at` is the end of `bytes`, `items` stays empty and `next` isn't set. The code is 0, or that
-    /// of the error for a batch that can't be read, or 11 (`Memory`): `items` stays empty then.
+    /// Reads the items of the log batch at position `at` of `bytes` into `items`, which is empty
+    /// before, and sets `next` to the position where the next batch begins; `bytes` stand in `file`
+    /// from `offset` on. If `at` is the end of `bytes`, `items` stays empty and `next` isn't set.
+    /// The code is 0, or that of the error for a batch that can't be read, or 11 (`Memory`):
+    /// `items` stays empty then.
     fn raft_ffi_items_next(
         items: *mut Handle,
         file: File,
@@ -36,10 +37,12 @@ unsafe extern "C" {
     ) -> Status;
     /// Returns how many items there are.
     fn raft_ffi_items_len(items: *mut Handle) -> usize;
-    /// Returns whether there is an item `i`, from 0 on, and sets `head` to what it says.
+    /// Returns whether there is an item `i`, counted from 0. If there is one, `head` is set to what
+    /// it says.
     fn raft_ffi_items_head(items: *mut Handle, i: usize, head: *mut ItemHead) -> bool;
-    /// Returns whether item `i` is one of entries, lists as many of them in `entries` as there is
-    /// room for, and sets `count` to how many there are.
+    /// Returns whether there is an item `i`, counted from 0, and it is one of entries. If so, as
+    /// many of them as there is room for are listed in `entries`, and `count` is set to how many
+    /// there are, which may be more.
     fn raft_ffi_items_entries(
         items: *mut Handle,
         i: usize,
@@ -47,8 +50,9 @@ unsafe extern "C" {
         entries_len: usize,
         count: *mut usize,
     ) -> bool;
-    /// Returns whether item `i` changes a key, copies as many bytes of the key into `key` as there
-    /// is room for, and sets `len` to how many it has.
+    /// Returns whether there is an item `i`, counted from 0, and it changes a key. If so, as many
+    /// bytes of the key as there is room for are copied into `key`, and `len` is set to how many it
+    /// has, which may be more.
     fn raft_ffi_items_key(
         items: *mut Handle,
         i: usize,
@@ -56,8 +60,9 @@ unsafe extern "C" {
         key_len: usize,
         len: *mut usize,
     ) -> bool;
-    /// Returns whether item `i` puts a value, copies as many bytes of the value into `value` as
-    /// there is room for, and sets `len` to how many it has.
+    /// Returns whether there is an item `i`, counted from 0, and it puts a value. If so, as many
+    /// bytes of the value as there is room for are copied into `value`, and `len` is set to how
+    /// many it has, which may be more.
     fn raft_ffi_items_value(
         items: *mut Handle,
         i: usize,

@@ -14,12 +14,12 @@ unsafe extern "C" {
     /// Returns how far a batch has come: 0 while it is open, 1 once its bytes are made, 2 once they
     /// are signed.
     fn raft_ffi_batch_stage(batch: *mut Handle) -> u32;
-    /// Returns about how many bytes a batch has or will have.
+    /// Returns about how many bytes a batch has or will have: at least as many as it will, if all
+    /// region ids and indexes are below 2^56, unless it is too long to be encoded.
     fn raft_ffi_batch_size(batch: *mut Handle) -> usize;
     /// Adds entries of a region to an open batch. Their indexes rise by one from `first` on, all
     /// below 2^64. The bytes of the entries stand in `bytes`, one after another, and `lens` says
-    /// how many each has; what stands behind them isn't looked at. Without entries nothing is
-    /// added.
+    /// how many each has; what stands after them isn't looked at. Without entries nothing is added.
     ///
     /// The code is 0; 9 (`Full`), if the batch would have 2^31 entry bytes or more; or 11
     /// (`Memory`). The batch is unchanged after an error.

@@ -24,7 +24,8 @@ unsafe extern "C" {
     fn raft_ffi_reader_new(reader: *mut Handle) -> u32;
     /// Replays `bytes`, batches that stand in `file` from `offset` on. The code is 0, or that of
     /// the error if a batch can't be read or can't follow those before it, or 11 (`Memory`). After
-    /// an error the reader is gone: it may have taken in some of the batches.
+    /// an error `reader` is empty: what it held may have taken in some of the batches, and is
+    /// dropped.
     fn raft_ffi_reader_replay(
         reader: *mut Handle,
         file: File,
@@ -34,12 +35,12 @@ unsafe extern "C" {
         text: *mut u8,
         text_len: usize,
     ) -> Status;
-    /// Replays the batches at the start of `bytes`, which stand in the last file of a queue from
-    /// `offset` on, up to the first one that can't be read, and sets `len` to how many bytes they
-    /// have. The entries of each batch are checked: the reader notes which batches of an append
-    /// file have damaged ones; in a rewrite file the first such batch is an error.
+    /// Replays the batches at the start of `bytes`, up to the first one that can't be read, and
+    /// sets `len` to how many bytes they have. `bytes` stand in the last file of a queue from
+    /// `offset` on. The entries of each batch are checked: the reader notes which batches of an
+    /// append file have damaged ones; in a rewrite file the first such batch is an error.
     ///
-    /// The code is 0, or that of the error. After an error the reader is gone.
+    /// The code is 0, or that of the error. After an error `reader` is empty, and `len` isn't set.
     fn raft_ffi_reader_replay_last(
         reader: *mut Handle,
         file: File,
@@ -51,7 +52,7 @@ unsafe extern "C" {
         text_len: usize,
     ) -> Status;
     /// Takes in what `newer` has read, the batches that follow in the same queue. `newer` is gone
-    /// then. The code is 0, or that of the error. After an error the reader is gone too.
+    /// then. The code is 0, or that of the error. After an error `reader` is empty too.
     fn raft_ffi_reader_merge(
         reader: *mut Handle,
         newer: Handle,
@@ -60,11 +61,12 @@ unsafe extern "C" {
         text_len: usize,
     ) -> Status;
     /// Lists in `offsets` where in the last append file the batches with damaged entries begin that
-    /// a reader has found, in order, as many as there is room for, and returns how many there are.
+    /// a reader has found, in order, as many as there is room for. Returns how many there are,
+    /// which may be more.
     fn raft_ffi_reader_damaged(reader: *mut Handle, offsets: *mut u64, offsets_len: usize)
     -> usize;
-    /// Says why the entries of the batch that begins at `offset` of `file` are refused, if they are
-    /// damaged: the code of that error, with its text in `text`.
+    /// Returns the error with which damaged entries of the batch that begins at `offset` of `file`
+    /// are refused: its code, and its text in `text`. Whether they are damaged isn't tested.
     fn raft_ffi_damaged_entries(file: File, offset: u64, text: *mut u8, text_len: usize) -> Status;
     /// Frees the reader.
     fn raft_ffi_reader_drop(reader: Handle);

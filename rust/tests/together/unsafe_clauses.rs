@@ -48,8 +48,8 @@ fn calls(text: &str) -> Vec<(String, String)> {
             continue;
         }
         is_comment = false;
-        if line.contains("fn raft_ffi_") {
-            continue; // a declaration
+        if line.starts_with("///") || line.contains("fn raft_ffi_") {
+            continue; // a declaration, or what it says
         }
         for (at, _) in line.match_indices("raft_ffi_") {
             if let Some((name, _)) = line[at..].split_once('(') {
